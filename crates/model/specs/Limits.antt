@@ -1,0 +1,31 @@
+-- The limits of document 01, each once.
+use Prim.Native.Nat.{ℕ, _+_, _*_}
+
+-- Tasks in a table. The same number stands for no task.
+abbrev pub taskLimit : ℕ
+taskLimit = 16
+
+-- A period; an offset.
+abbrev pub slotLimit : ℕ
+slotLimit = 60000
+
+-- H, the least common multiple of the periods.
+abbrev pub roundLimit : ℕ
+roundLimit = 1000000000
+
+-- The bytes of a report buffer.
+abbrev pub reportBytes : ℕ
+reportBytes = 512
+
+-- The bytes of a record: its kind, and the body of that kind. The longest legal file: a budget, every task, the end.
+abbrev pub budgetBytes : ℕ
+budgetBytes = 1 + 8
+
+abbrev pub taskBytes : ℕ
+taskBytes = 1 + 16
+
+abbrev pub endBytes : ℕ
+endBytes = 1
+
+abbrev pub longestFile : ℕ
+longestFile = budgetBytes + taskLimit * taskBytes + endBytes

@@ -1,0 +1,76 @@
+-- The run: in each slot the released, unfinished job with the earliest deadline, ties by a fixed order of the tasks.
+use mathlib.Core.Path.{_≡_}
+use mathlib.Core.List.{List}
+use mathlib.Core.Bool.{Bool, cond, not, _&&_, _||_}
+use Prim.Native.Nat.{ℕ, zero, suc, _+_, _-_, _*_, _/_, _≤_}
+use lib.Dec.{leb, ltb, eqb}
+use lib.ListN.{getD, set, replicate}
+use Rattle.model.specs.declared.Task.{Task}
+use Rattle.model.specs.declared.Table.{Table}
+use Rattle.model.specs.Notation.{first, Least}
+use Rattle.model.specs.Limits.{taskLimit}
+use Rattle.model.specs.Tasks.{task, release, due, horizon}
+use Rattle.model.specs.Schedule.{Slot, none, job, Schedule, given}
+
+-- An order of the tasks: of two that tie, the one of lower rank goes first.
+abbrev pub Order : Type 0
+Order = ℕ → ℕ
+
+-- The base's order: the lower task number.
+abbrev pub tieOrder : Table → Order
+tieOrder t i = i
+
+-- Task i comes before task k: by the earlier deadline, and where these are equal by the order.
+abbrev pub precedes : (ℕ → ℕ) → Order → ℕ → ℕ → Bool
+precedes deadline rank i k = ltb (deadline i) (deadline k) || (eqb (deadline i) (deadline k) && ltb (rank i) (rank k))
+
+-- Of the open tasks below n the one that comes before the others, or `taskLimit` where none is open.
+unfoldable pub choose : (ℕ → Bool) → (ℕ → ℕ) → Order → ℕ → ℕ
+choose open? deadline rank zero = taskLimit
+choose open? deadline rank (suc n) =
+    let best = choose open? deadline rank n in
+    cond (open? n && (eqb best taskLimit || precedes deadline rank n best)) n best
+
+-- The job that a task is at, with s slots given to it: the first that has not had its C slots.
+abbrev pub current : Task → ℕ → ℕ
+current k s = s / k .cost
+
+-- Who owns slot u, with s the slots given to each task before. A task's jobs have growing deadlines, so of its released,
+-- unfinished jobs the one it is at has the earliest.
+unfoldable pub ownerOf : Table → Order → ℕ → List ℕ → ℕ
+ownerOf t rank u s =
+    choose
+    (λ i. leb (release (task t i) (current (task t i) (getD s i 0))) u)
+    (λ i. due (task t i) (current (task t i) (getD s i 0)))
+    rank
+    (t .count)
+
+-- The slots given to each task before slot u.
+unfoldable pub served : Table → Order → ℕ → List ℕ
+served t rank zero = replicate (t .count) 0
+served t rank (suc u) =
+    let s = served t rank u in
+    let k = ownerOf t rank u s in
+    set s k (getD s k 0 + 1)
+
+unfoldable pub owner : Table → Order → ℕ → ℕ
+owner t rank u = ownerOf t rank u (served t rank u)
+
+-- The run as a schedule.
+unfoldable pub run : Table → Order → Schedule
+run t rank u =
+    let k = owner t rank u in
+    cond (ltb k (t .count)) (job k (current (task t k) (getD (served t rank u) k 0))) none
+
+-- Job j of task i finishes at f: the end of the last of its C slots.
+unfoldable pub Finishes : Table → Order → ℕ → ℕ → ℕ → Type 0
+Finishes t rank i j = Least (λ u. task t i .cost ≤ given (run t rank) i j 0 u)
+
+-- The worst response of task i: some job of it has this response, and no job has a larger one, for ever.
+pub record Worst (t : Table) (rank : Order) (i w : ℕ) : Type 0 where
+  pub attained : (j : ℕ) × (f : ℕ) × Finishes t rank i j f × (f - release (task t i) j ≡ w)
+  pub bound : (j f : ℕ) → Finishes t rank i j f → f - release (task t i) j ≤ w
+
+-- The first empty slot of the run before the horizon, or the horizon.
+unfoldable pub firstEmpty : Table → Order → ℕ
+firstEmpty t rank = first (λ u. eqb (owner t rank u) taskLimit) 0 (horizon t)

@@ -1,0 +1,73 @@
+-- Tasks, their ranges, and well-formed tables.
+use mathlib.Core.List.{List}
+use mathlib.Core.Bool.{Bool, cond, not, _&&_}
+use Prim.Native.Nat.{ℕ, _+_, _*_, _/_, _%_}
+use lib.Dec.{leb, ltb, eqb}
+use lib.ListN.{getD}
+use Rattle.model.specs.declared.Task.{Task}
+use Rattle.model.specs.declared.Table.{Table}
+use Rattle.model.specs.declared.Refusal.{Refusal}
+use Rattle.model.specs.declared.Measure.{Measure}
+use Rattle.model.specs.declared.Judgement.{Judgement}
+use Rattle.model.specs.declared.Judgement.the-variants.{Refused, WellFormed}
+use Rattle.model.specs.Notation.{sum, product, largest, every, first}
+use Rattle.model.specs.Limits.{taskLimit, slotLimit, roundLimit}
+
+-- What stands past the end of a list of tasks.
+abbrev pub noTask : Task
+noTask = record { offset = 0; cost = 0; deadline = 0; period = 0 }
+
+-- Task i of a table.
+abbrev pub task : Table → ℕ → Task
+task t i = getD (t .tasks) i noTask
+
+-- The job j of a task is released here, and must be finished by there.
+abbrev pub release : Task → ℕ → ℕ
+release k j = k .offset + j * k .period
+
+abbrev pub due : Task → ℕ → ℕ
+due k j = release k j + k .deadline
+
+-- x lies from a to b, both included.
+abbrev pub within : ℕ → ℕ → ℕ → Bool
+within a b x = leb a x && leb x b
+
+-- The number of the first range that a task leaves, in the order T, D, C, O; 0 if it keeps them all.
+unfoldable pub taskFault : Task → ℕ
+taskFault k =
+    cond (not (within 1 slotLimit (k .period))) 3
+    (cond (not (within 1 (k .period) (k .deadline))) 4
+    (cond (not (within 1 (k .deadline) (k .cost))) 5
+    (cond (not (within 0 slotLimit (k .offset))) 6 0)))
+
+-- The first task of a table that leaves a range, or the count.
+unfoldable pub firstFaulty : Table → ℕ
+firstFaulty t = first (λ i. not (eqb (taskFault (task t i)) 0)) 0 (t .count)
+
+-- Every period of the table divides h, and h is not 0.
+abbrev pub commonMultiple : Table → ℕ → Bool
+commonMultiple t h = ltb 0 h && every (λ i. eqb (h % task t i .period) 0) (t .count)
+
+-- H: the least common multiple of all periods. The product of all periods is one, so it is looked for up to there.
+unfoldable pub round : Table → ℕ
+round t = first (commonMultiple t) 0 (product (t .count) (λ i. task t i .period))
+
+-- Load: C · (H / T), summed over the tasks. It is over H, and never reduced.
+unfoldable pub load : Table → ℕ
+load t = sum (t .count) (λ i. task t i .cost * (round t / task t i .period))
+
+-- The horizon: the largest offset and 2 H.
+unfoldable pub horizon : Table → ℕ
+horizon t = largest (t .count) (λ i. task t i .offset) + 2 * round t
+
+-- The refusal of any table, 1 to 7 in order; what it measures, if it is well-formed.
+abbrev pub refuse : ℕ → ℕ → Judgement
+refuse n p = Refused (record { number = n; place = p })
+
+unfoldable pub judged : Table → Judgement
+judged t =
+    cond (eqb (t .count) 0) (refuse 1 0)
+    (cond (ltb taskLimit (t .count)) (refuse 2 taskLimit)
+    (cond (ltb (firstFaulty t) (t .count)) (refuse (taskFault (task t (firstFaulty t))) (firstFaulty t))
+    (cond (ltb roundLimit (round t)) (refuse 7 0)
+    (WellFormed (record { round = round t; load = load t; horizon = horizon t })))))
