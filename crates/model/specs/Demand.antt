@@ -2,8 +2,7 @@
 use mathlib.Core.Bool.{Bool, _&&_}
 use Prim.Native.Nat.{ℕ, _-_, _*_}
 use lib.Dec.{leb, ltb}
-use Rattle.model.specs.declared.Task.{Task}
-use Rattle.model.specs.declared.Table.{Table}
+use Rattle.model.specs.Values.{Task, Table}
 use Rattle.model.specs.Notation.{sum, count, some}
 use Rattle.model.specs.Tasks.{task, release, due}
 

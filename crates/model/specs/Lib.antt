@@ -1,3 +1,5 @@
+-- What must be believed, in document 01's order.
+pub mod Values
 pub mod Notation
 pub mod Limits
 pub mod Tasks
@@ -5,6 +7,7 @@ pub mod Demand
 pub mod Schedule
 pub mod Run
 pub mod Verdict
--- TableFile
--- Dispatcher
--- Report
+pub mod TableFile
+pub mod Dispatcher
+pub mod Report
+pub mod Examples

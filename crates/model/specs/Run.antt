@@ -5,8 +5,7 @@ use mathlib.Core.Bool.{Bool, cond, not, _&&_, _||_}
 use Prim.Native.Nat.{ℕ, zero, suc, _+_, _-_, _*_, _/_, _≤_}
 use lib.Dec.{leb, ltb, eqb}
 use lib.ListN.{getD, set, replicate}
-use Rattle.model.specs.declared.Task.{Task}
-use Rattle.model.specs.declared.Table.{Table}
+use Rattle.model.specs.Values.{Task, Table}
 use Rattle.model.specs.Notation.{first, Least}
 use Rattle.model.specs.Limits.{taskLimit}
 use Rattle.model.specs.Tasks.{task, release, due, horizon}

@@ -2,7 +2,7 @@
 use mathlib.Core.Bool.{Bool, false, _&&_}
 use Prim.Native.Nat.{ℕ, _≤_, _<_}
 use lib.Dec.{leb, eqb}
-use Rattle.model.specs.declared.Table.{Table}
+use Rattle.model.specs.Values.{Table}
 use Rattle.model.specs.Notation.{count}
 use Rattle.model.specs.Tasks.{task, release, due}
 

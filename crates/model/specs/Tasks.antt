@@ -4,12 +4,7 @@ use mathlib.Core.Bool.{Bool, cond, not, _&&_}
 use Prim.Native.Nat.{ℕ, _+_, _*_, _/_, _%_}
 use lib.Dec.{leb, ltb, eqb}
 use lib.ListN.{getD}
-use Rattle.model.specs.declared.Task.{Task}
-use Rattle.model.specs.declared.Table.{Table}
-use Rattle.model.specs.declared.Refusal.{Refusal}
-use Rattle.model.specs.declared.Measure.{Measure}
-use Rattle.model.specs.declared.Judgement.{Judgement}
-use Rattle.model.specs.declared.Judgement.the-variants.{Refused, WellFormed}
+use Rattle.model.specs.Values.{Task, Table, Judgement}
 use Rattle.model.specs.Notation.{sum, product, largest, every, first}
 use Rattle.model.specs.Limits.{taskLimit, slotLimit, roundLimit}
 
@@ -62,7 +57,7 @@ horizon t = largest (t .count) (λ i. task t i .offset) + 2 * round t
 
 -- The refusal of any table, 1 to 7 in order; what it measures, if it is well-formed.
 abbrev pub refuse : ℕ → ℕ → Judgement
-refuse n p = Refused (record { number = n; place = p })
+refuse n p = Judgement.Refused (record { number = n; place = p })
 
 unfoldable pub judged : Table → Judgement
 judged t =
@@ -70,4 +65,4 @@ judged t =
     (cond (ltb taskLimit (t .count)) (refuse 2 taskLimit)
     (cond (ltb (firstFaulty t) (t .count)) (refuse (taskFault (task t (firstFaulty t))) (firstFaulty t))
     (cond (ltb roundLimit (round t)) (refuse 7 0)
-    (WellFormed (record { round = round t; load = load t; horizon = horizon t })))))
+    (Judgement.WellFormed (record { round = round t; load = load t; horizon = horizon t })))))

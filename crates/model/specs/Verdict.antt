@@ -1,21 +1,11 @@
 -- The verdict, and the one permitted answer to a table and a budget.
 use mathlib.Core.Path.{_≡_}
 use mathlib.Core.List.{List}
-use mathlib.Core.Bool.{Bool, cond}
+use mathlib.Core.Bool.{cond}
 use Prim.Native.Nat.{ℕ, _≤_, _<_}
-use lib.Dec.{ltb, eqb}
+use lib.Dec.{ltb}
 use lib.ListN.{getD, length, replicate}
-use Rattle.model.specs.declared.Table.{Table}
-use Rattle.model.specs.declared.Refusal.{Refusal}
-use Rattle.model.specs.declared.Measure.{Measure}
-use Rattle.model.specs.declared.Judgement as judgement
-use Rattle.model.specs.declared.Verdict.{Verdict}
-use Rattle.model.specs.declared.Verdict.the-variants.{Passes, Overload, Late, Undecided}
-use Rattle.model.specs.declared.Outcome.{Outcome}
-use Rattle.model.specs.declared.Outcome.the-variants.{Refused, Tested}
-use Rattle.model.specs.declared.Empty.{Empty}
-use Rattle.model.specs.declared.Empty.the-variants.{Slot, Nowhere}
-use Rattle.model.specs.declared.Answer.{Answer}
+use Rattle.model.specs.Values.{Table, Measure, Judgement, Verdict, Outcome, Empty, Answer}
 use Rattle.model.specs.Notation.{first, last}
 use Rattle.model.specs.Limits.{taskLimit}
 use Rattle.model.specs.Tasks.{round, load, horizon, judged}
@@ -33,46 +23,40 @@ lateStart t to = last (λ from. asksTooMuch t from to) to
 -- The verdict, in this order: overload; undecided below the needed slots; late; passes.
 unfoldable pub verdict : Table → ℕ → Verdict
 verdict t budget =
-    cond (ltb (round t) (load t)) Overload
-    (cond (ltb budget (needed t)) Undecided
-    (cond (lateAt t (needed t)) (Late (lateStart t (needed t)) (needed t) (demand t (lateStart t (needed t)) (needed t)))
-    Passes))
+    cond (ltb (round t) (load t)) Verdict.Overload
+    (cond (ltb budget (needed t)) Verdict.Undecided
+    (cond (lateAt t (needed t)) (Verdict.Late (lateStart t (needed t)) (needed t) (demand t (lateStart t (needed t)) (needed t)))
+    Verdict.Passes))
 
 -- Settled: 0 on overload, the budget where it does not reach, else the needed slots.
 unfoldable pub settledBy : Table → ℕ → ℕ
 settledBy t budget = cond (ltb (round t) (load t)) 0 (cond (ltb budget (needed t)) budget (needed t))
 
--- What a passed table is told besides: the worst response of each task, and the first empty slot or none.
-pub record Told (t : Table) (a : Answer) : Type 0 where
-  pub size : length (a .worst) ≡ taskLimit
-  pub worst : (i : ℕ) → i < t .count → Worst t (tieOrder t) i (getD (a .worst) i 0)
-  pub past : (i : ℕ) → t .count ≤ i → getD (a .worst) i 0 ≡ 0
-  pub empty : a .empty ≡ cond (ltb (firstEmpty t (tieOrder t)) (horizon t)) (Slot (firstEmpty t (tieOrder t))) Nowhere
+-- w holds the worst response of each task, and 0 past the last one.
+pub record Worsts (t : Table) (w : List ℕ) : Type 0 where
+  pub size : length w ≡ taskLimit
+  pub worst : (i : ℕ) → i < t .count → Worst t (tieOrder t) i (getD w i 0)
+  pub past : (i : ℕ) → t .count ≤ i → getD w i 0 ≡ 0
 
--- And any other.
-pub record Untold (a : Answer) : Type 0 where
-  pub worst : a .worst ≡ replicate taskLimit 0
-  pub empty : a .empty ≡ Nowhere
+-- The first empty slot of the run before the horizon, or none.
+abbrev pub emptyIn : Table → Empty
+emptyIn t = let u = firstEmpty t (tieOrder t) in cond (ltb u (horizon t)) (Empty.Slot u) Empty.Nowhere
 
-abbrev pub Besides : Table → Answer → Verdict → Type 0
-Besides t a Passes = Told t a
-Besides t a Overload = Untold a
-Besides t a (Late from to asked) = Untold a
-Besides t a Undecided = Untold a
+-- An answer that has no responses and no empty slot to tell.
+abbrev pub brief : Outcome → Measure → ℕ → Answer
+brief o m settled = record { outcome = o; measure = m; settled = settled; worst = replicate taskLimit 0; empty = Empty.Nowhere }
 
--- The permitted answer to a table that is refused, and to a well-formed one.
-pub record Refuses (r : Refusal) (a : Answer) : Type 0 where
-  pub outcome : a .outcome ≡ Refused r
-  pub measure : a .measure ≡ record { round = 0; load = 0; horizon = 0 }
-  pub settled : a .settled ≡ 0
-  pub besides : Untold a
+-- The permitted answer, by its verdict.
+abbrev pub Answers : Table → ℕ → Measure → Answer → Verdict → Type 0
+Answers t budget m a Verdict.Passes =
+    (w : List ℕ) × Worsts t w × (a ≡ record { outcome = Outcome.Tested Verdict.Passes; measure = m; settled = settledBy t budget; worst = w; empty = emptyIn t })
+Answers t budget m a Verdict.Overload = a ≡ brief (Outcome.Tested Verdict.Overload) m (settledBy t budget)
+Answers t budget m a (Verdict.Late from to asked) = a ≡ brief (Outcome.Tested (Verdict.Late from to asked)) m (settledBy t budget)
+Answers t budget m a Verdict.Undecided = a ≡ brief (Outcome.Tested Verdict.Undecided) m (settledBy t budget)
 
-pub record Answers (t : Table) (budget : ℕ) (m : Measure) (a : Answer) : Type 0 where
-  pub outcome : a .outcome ≡ Tested (verdict t budget)
-  pub measure : a .measure ≡ m
-  pub settled : a .settled ≡ settledBy t budget
-  pub besides : Besides t a (verdict t budget)
-
--- The one permitted answer to any table and budget.
+-- The one permitted answer to any table and budget, refusals included.
 unfoldable pub Permitted : Table → ℕ → Answer → Type 0
-Permitted t budget a = elim (judged t) [ judgement.the-variants.Refused r ↦ Refuses r a | judgement.the-variants.WellFormed m ↦ Answers t budget m a ]
+Permitted t budget a = elim (judged t) [
+  | Judgement.Refused r ↦ a ≡ brief (Outcome.Refused r) (record { round = 0; load = 0; horizon = 0 }) 0
+  | Judgement.WellFormed m ↦ Answers t budget m a (verdict t budget)
+]

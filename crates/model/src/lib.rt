@@ -69,15 +69,15 @@ pub enum Record {
     End,
 }
 
-// Whether a file is a table file.
-pub enum Reading {
+// Whether a file, or a table to be started, is taken.
+pub enum Admission {
     Refused(Refusal),
-    Read,
+    Admitted,
 }
 
 // What a table file holds. Of a refused file the budget is 0 and the table empty.
 pub struct Loaded {
-    pub reading: Reading,
+    pub admission: Admission,
     pub budget: u64,
     pub table: Table,
 }
@@ -92,7 +92,7 @@ pub struct Dispatcher {
 
 // A started dispatcher. Of a refused table the state is all 0.
 pub struct Started {
-    pub reading: Reading,
+    pub admission: Admission,
     pub state: Dispatcher,
 }
 

@@ -1,0 +1,107 @@
+-- The dispatcher: its state, when a state belongs to a table, the start, and the step in its four rules.
+use mathlib.Core.List.{List}
+use mathlib.Core.Bool.{Bool, cond, not, _&&_, _||_}
+use Prim.Native.Nat.{ℕ, _+_, _-_, max}
+use lib.Dec.{leb, ltb, eqb}
+use lib.ListN.{getD, set, replicate}
+use Rattle.model.specs.Values.{Table, Judgement, Admission, Dispatcher, Started, Turn, Given, Stepped}
+use Rattle.model.specs.Notation.{count, first, bits, fill}
+use Rattle.model.specs.Limits.{taskLimit}
+use Rattle.model.specs.Tasks.{task, judged}
+use Rattle.model.specs.Run.{tieOrder, choose}
+
+-- The wait of task i, and the slots its open job may still use. An open job has at least one.
+abbrev pub waitOf : Dispatcher → ℕ → ℕ
+waitOf d i = getD (d .wait) i 0
+
+abbrev pub leftOf : Dispatcher → ℕ → ℕ
+leftOf d i = getD (d .left) i 0
+
+abbrev pub isOpen : Dispatcher → ℕ → Bool
+isOpen d i = ltb 0 (leftOf d i)
+
+-- Task i of the state does not belong to the table.
+abbrev pub strange : Table → Dispatcher → ℕ → Bool
+strange t d i =
+    ltb (max (task t i .offset) (task t i .period)) (waitOf d i)
+    || ltb (task t i .cost) (leftOf d i)
+    || (isOpen d i && (ltb (waitOf d i) (task t i .period - task t i .deadline) || ltb (task t i .period - 1) (waitOf d i)))
+
+-- The first task that does not belong, or the count; and whether the last-run number is neither none nor a task.
+unfoldable pub firstStrange : Table → Dispatcher → ℕ
+firstStrange t d = first (strange t d) 0 (t .count)
+
+abbrev pub lastStrange : Table → Dispatcher → Bool
+lastStrange t d = not (eqb (d .last) taskLimit || ltb (d .last) (t .count))
+
+-- At the start the waits are the offsets, no job is open and no task ran last.
+unfoldable pub startOf : Table → Dispatcher
+startOf t =
+    record {
+      wait = fill (t .count) (λ i. task t i .offset) (replicate taskLimit 0);
+      left = replicate taskLimit 0;
+      last = taskLimit;
+    }
+
+abbrev pub startJudged : Table → Judgement → Started
+startJudged t (Judgement.Refused r) = record { admission = Admission.Refused r; state = record { wait = replicate taskLimit 0; left = replicate taskLimit 0; last = 0 } }
+startJudged t (Judgement.WellFormed m) = record { admission = Admission.Admitted; state = startOf t }
+
+unfoldable pub started : Table → Started
+started t = startJudged t (judged t)
+
+module _ (t : Table) (d : Dispatcher) (done : Bool) where
+  -- Rule 1: a done report closes the open job of the task that ran last.
+  abbrev pub leftDone : ℕ → ℕ
+  leftDone i = cond (done && eqb (d .last) i) 0 (leftOf d i)
+
+  -- Rule 2: an open job at its deadline is closed as late. A job released r slots ago waits T - r, so there it waits T - D.
+  abbrev pub isLate : ℕ → Bool
+  isLate i = ltb i (t .count) && (ltb 0 (leftDone i) && eqb (waitOf d i) (task t i .period - task t i .deadline))
+
+  abbrev pub leftLate : ℕ → ℕ
+  leftLate i = cond (isLate i) 0 (leftDone i)
+
+  -- Rule 3: a task whose wait is 0 has a job released, with C slots, and its wait becomes T.
+  abbrev pub waitReleased : ℕ → ℕ
+  waitReleased i = cond (eqb (waitOf d i) 0) (task t i .period) (waitOf d i)
+
+  abbrev pub leftReleased : ℕ → ℕ
+  leftReleased i = cond (eqb (waitOf d i) 0) (task t i .cost) (leftLate i)
+
+  -- Rule 4: the open job with the earliest deadline gets the slot: the one with the fewest slots to its deadline.
+  unfoldable pub ownerNow : ℕ
+  ownerNow = choose (λ i. ltb 0 (leftReleased i)) (λ i. waitReleased i - (task t i .period - task t i .deadline)) (tieOrder t) (t .count)
+
+  -- It has one slot fewer left, and every wait goes down by one. Entries past the last task stay as they came.
+  unfoldable pub after : Dispatcher
+  after =
+      record {
+        wait = fill (t .count) (λ i. waitReleased i - 1) (d .wait);
+        left = fill (t .count) (λ i. leftReleased i - cond (eqb ownerNow i) 1 0) (d .left);
+        last = ownerNow;
+      }
+
+  -- The answer: the owner, which tasks were closed late, how many, and the lowest-numbered of them.
+  unfoldable pub turn : Turn
+  turn =
+      record {
+        owner = ownerNow;
+        late = bits isLate taskLimit;
+        closed = count isLate taskLimit;
+        lowest = first isLate 0 taskLimit;
+      }
+
+-- A step on any table and any state: refused by the table's number, then by 8, or taken.
+abbrev pub refuse : ℕ → ℕ → Dispatcher → Stepped
+refuse n p d = record { given = Given.Refused (record { number = n; place = p }); state = d }
+
+abbrev pub stepJudged : Table → Dispatcher → Bool → Judgement → Stepped
+stepJudged t d done (Judgement.Refused r) = refuse (r .number) (r .place) d
+stepJudged t d done (Judgement.WellFormed m) =
+    cond (ltb (firstStrange t d) (t .count)) (refuse 8 (firstStrange t d) d)
+    (cond (lastStrange t d) (refuse 8 taskLimit d)
+    (record { given = Given.Slot (turn t d done); state = after t d done }))
+
+unfoldable pub stepped : Table → Dispatcher → Bool → Stepped
+stepped t d done = stepJudged t d done (judged t)

@@ -1,0 +1,234 @@
+-- Document 01's tables and worked numbers, by computing. Each row of "Slips that look right" has one that would catch it.
+use mathlib.Core.Path.{_≡_, refl}
+use mathlib.Core.List.{List, [], _∷_, _++_, map}
+use mathlib.Core.Bool.{Bool, true, false}
+use Prim.Native.Nat.{ℕ, zero, suc, _-_, _/_, _%_}
+use lib.ListN.{replicate}
+use Rattle.model.specs.Values.{Task, Table, Judgement, Verdict, Outcome, Empty, Admission, Dispatcher, Given}
+use Rattle.model.specs.Notation.{sum, product, largest, count, first, last, bits, fill, text, digits, decimal}
+use Rattle.model.specs.Limits.{taskLimit, longestFile}
+use Rattle.model.specs.Tasks.{noTask, taskFault, firstFaulty, round, load, horizon, refuse, judged}
+use Rattle.model.specs.Demand.{jobsIn, demand, asksTooMuch, lateAt}
+use Rattle.model.specs.Schedule.{given}
+use Rattle.model.specs.Run.{tieOrder, choose, ownerOf, served, owner, run, firstEmpty}
+use Rattle.model.specs.Verdict.{needed, lateStart, verdict, settledBy, emptyIn, brief}
+use Rattle.model.specs.TableFile.{recordAt, tableOf, readFrom, formOf, loadedFrom}
+use Rattle.model.specs.Dispatcher.{firstStrange, startOf, started, ownerNow, after, turn, stepped}
+use Rattle.model.specs.Report.{worstLines, reportOf, refusalLine}
+
+-- A task as document 01 writes it, and its tables.
+abbrev pub of : ℕ → ℕ → ℕ → ℕ → Task
+of o c d t = record { offset = o; cost = c; deadline = d; period = t }
+
+abbrev pub table-a : Table
+table-a = tableOf (of 0 1 1 1 ∷ [])
+
+abbrev pub table-b : Table
+table-b = tableOf (of 8 5 7 15 ∷ of 0 2 2 5 ∷ [])
+
+abbrev pub table-c : Table
+table-c = tableOf (of 8 6 7 15 ∷ of 0 2 2 5 ∷ [])
+
+abbrev pub table-d : Table
+table-d = tableOf (of 0 5 7 15 ∷ of 0 2 2 5 ∷ [])
+
+abbrev pub table-e : Table
+table-e = tableOf (of 1 1 1 2 ∷ of 0 1 1 2 ∷ [])
+
+abbrev pub table-f : Table
+table-f = tableOf (of 0 1 1 2 ∷ of 0 1 1 2 ∷ [])
+
+abbrev pub table-g : Table
+table-g = tableOf (of 0 2 4 4 ∷ of 0 2 4 4 ∷ [])
+
+abbrev pub table-h : Table
+table-h = tableOf (of 4 1 1 2 ∷ of 0 2 3 4 ∷ [])
+
+abbrev pub table-i : Table
+table-i = tableOf (of 0 3 5 5 ∷ of 2 3 5 5 ∷ [])
+
+abbrev pub table-j : Table
+table-j = tableOf (of 4 1 1 2 ∷ [])
+
+-- ---- tables
+
+-- The numbers 1 to 7 with their places: no task, seventeen tasks, then T, D, C and O of task 1, each alone and before a later fault; H.
+faulty : Task → Judgement
+faulty k = judged (tableOf (of 0 1 1 1 ∷ k ∷ []))
+
+refusals :
+    (judged (tableOf []) ≡ refuse 1 0)
+    × (judged (record { count = 17; tasks = replicate taskLimit (of 0 1 1 1) }) ≡ refuse 2 16)
+    × (map faulty (of 0 0 0 0 ∷ of 0 1 1 60001 ∷ of 0 1 0 5 ∷ of 60001 1 6 5 ∷ of 0 0 1 5 ∷ of 60001 5 4 5 ∷ of 60001 1 1 5 ∷ []) ≡ refuse 3 1 ∷ refuse 3 1 ∷ refuse 4 1 ∷ refuse 4 1 ∷ refuse 5 1 ∷ refuse 5 1 ∷ refuse 6 1 ∷ [])
+unfolding faulty judged firstFaulty taskFault first
+refusals = (refl, refl, refl)
+
+-- The ends of the ranges are inside them.
+inside-ranges : map taskFault (of 0 1 1 1 ∷ of 60000 60000 60000 60000 ∷ []) ≡ 0 ∷ 0 ∷ []
+unfolding taskFault
+inside-ranges = refl
+
+measures :
+    (judged table-b ≡ Judgement.WellFormed (record { round = 15; load = 11; horizon = 38 }))
+    × (judged table-i ≡ Judgement.WellFormed (record { round = 5; load = 6; horizon = 12 }))
+    × (round (tableOf (of 0 1 1 4 ∷ of 0 1 1 6 ∷ of 0 1 1 10 ∷ [])) ≡ 60)
+unfolding judged firstFaulty taskFault first round product load horizon largest sum count
+measures = (refl, refl, refl)
+
+-- ---- the test
+
+abbrev pub tables : List Table
+tables = table-a ∷ table-b ∷ table-c ∷ table-d ∷ table-e ∷ table-f ∷ table-g ∷ table-h ∷ table-i ∷ table-j ∷ []
+
+-- Offsets count: b passes and d is late. One H from 0 is not enough: h is late at 7, and its H is 4.
+verdicts :
+    map (λ t. verdict t 1000) tables
+    ≡ Verdict.Passes ∷ Verdict.Passes ∷ Verdict.Late 8 15 8 ∷ Verdict.Late 0 7 9 ∷ Verdict.Passes ∷ Verdict.Late 0 1 2 ∷ Verdict.Passes ∷ Verdict.Late 4 7 4 ∷ Verdict.Overload ∷ Verdict.Passes ∷ []
+unfolding verdict needed lateStart lateAt first last round product load horizon largest sum count demand jobsIn
+verdicts = refl
+
+settled : map (λ t. settledBy t 1000) tables ≡ 2 ∷ 38 ∷ 15 ∷ 7 ∷ 5 ∷ 1 ∷ 8 ∷ 7 ∷ 0 ∷ 8 ∷ []
+unfolding settledBy needed lateAt first round product load horizon largest sum count demand jobsIn
+settled = refl
+
+-- A budget equal to the needed count suffices, and one slot less does not; overload needs none.
+budgets :
+    map (verdict table-b) (37 ∷ 38 ∷ []) ++ map (verdict table-c) (14 ∷ 15 ∷ []) ++ (verdict table-i 0 ∷ [])
+    ≡ Verdict.Undecided ∷ Verdict.Passes ∷ Verdict.Undecided ∷ Verdict.Late 8 15 8 ∷ Verdict.Overload ∷ []
+unfolding verdict needed lateStart lateAt first last round product load horizon largest sum count demand jobsIn
+budgets = refl
+
+-- The closed formula of the source documents would name 0 to 3 on h: it invents a job of task 0 before its first release at 4.
+no-job-before-the-first : (jobsIn (of 4 1 1 2) 0 3 ≡ 0) × (asksTooMuch table-h 0 3 ≡ false)
+unfolding demand jobsIn sum count
+no-job-before-the-first = (refl, refl)
+
+-- A quotient rounded toward zero counts one job at 3 here; there is none by 3, and one by 5.
+rounding : (jobsIn (of 4 1 1 4) 0 3 ≡ 0) × (jobsIn (of 4 1 1 4) 0 5 ≡ 1)
+unfolding jobsIn count
+rounding = (refl, refl)
+
+-- Table i keeps every deadline within its horizon of 12.
+overload-is-not-late : needed table-i ≡ 12
+unfolding needed lateAt first round product load horizon largest sum count demand jobsIn
+overload-is-not-late = refl
+
+-- ---- the run
+
+-- Some owners of b: task 0 has the slots 8, 9, 12, 13 and 14, so its job finishes at 15, 7 after its release.
+owners : map (owner table-b (tieOrder table-b)) (0 ∷ 1 ∷ 2 ∷ 8 ∷ 9 ∷ 10 ∷ 11 ∷ 12 ∷ 13 ∷ 14 ∷ 15 ∷ []) ≡ 1 ∷ 1 ∷ 16 ∷ 0 ∷ 0 ∷ 1 ∷ 1 ∷ 0 ∷ 0 ∷ 0 ∷ 1 ∷ []
+unfolding owner ownerOf served choose
+owners = refl
+
+job-given : given (run table-b (tieOrder table-b)) 0 0 8 15 ≡ 5
+unfolding given run owner ownerOf served choose count
+job-given = refl
+
+-- Ties go to the lower number, or to whichever task the order puts first.
+ties : (map (owner table-g (tieOrder table-g)) (0 ∷ 1 ∷ 2 ∷ 3 ∷ []) ≡ 0 ∷ 0 ∷ 1 ∷ 1 ∷ []) × (map (owner table-g (λ k. 1 - k)) (0 ∷ 1 ∷ 2 ∷ 3 ∷ []) ≡ 1 ∷ 1 ∷ 0 ∷ 0 ∷ [])
+unfolding owner ownerOf served choose
+ties = (refl, refl)
+
+empties : map emptyIn (table-a ∷ table-b ∷ table-e ∷ table-g ∷ table-j ∷ []) ≡ Empty.Nowhere ∷ Empty.Slot 2 ∷ Empty.Nowhere ∷ Empty.Nowhere ∷ Empty.Slot 0 ∷ []
+unfolding firstEmpty owner ownerOf served choose first round product horizon largest count
+empties = refl
+
+-- ---- table files
+
+abbrev word : ℕ → List ℕ
+word n = n % 256 ∷ n / 256 % 256 ∷ n / 65536 % 256 ∷ n / 16777216 ∷ []
+
+abbrev budgetOf : ℕ → List ℕ
+budgetOf n = 1 ∷ word n ++ word 0
+
+abbrev rowOf : Task → List ℕ
+rowOf k = 2 ∷ word (k .offset) ++ word (k .cost) ++ word (k .deadline) ++ word (k .period)
+
+abbrev file-b : List ℕ
+file-b = budgetOf 1000 ++ rowOf (of 8 5 7 15) ++ rowOf (of 0 2 2 5) ++ (3 ∷ [])
+
+seventeen : ℕ → List ℕ
+seventeen zero = []
+seventeen (suc n) = rowOf (of 0 1 1 1) ++ seventeen n
+
+files : (loadedFrom file-b ≡ record { admission = Admission.Admitted; budget = 1000; table = table-b }) × (longestFile ≡ 282)
+unfolding loadedFrom formOf readFrom recordAt judged firstFaulty taskFault first round product load horizon largest sum count
+files = (refl, refl)
+
+abbrev refusalOf : List ℕ → Admission
+refusalOf s = loadedFrom s .admission
+
+abbrev at : ℕ → ℕ → Admission
+at n p = Admission.Refused (record { number = n; place = p })
+
+-- The first fault wins; at a record: kind known, kind allowed here, body whole. The table is judged after the form.
+file-refusals :
+    map refusalOf (
+    []
+    ∷ (9 ∷ []) ∷ (2 ∷ []) ∷ (3 ∷ []) ∷ (1 ∷ 0 ∷ [])
+    ∷ budgetOf 0 ∷ (budgetOf 0 ++ (0 ∷ [])) ∷ (budgetOf 0 ++ (1 ∷ [])) ∷ (budgetOf 0 ++ (2 ∷ 0 ∷ []))
+    ∷ (budgetOf 0 ++ (3 ∷ 9 ∷ [])) ∷ (budgetOf 0 ++ rowOf (of 0 0 0 0) ++ (3 ∷ 3 ∷ [])) ∷ (budgetOf 0 ++ rowOf (of 0 0 0 0) ++ (3 ∷ []))
+    ∷ (budgetOf 0 ++ (3 ∷ [])) ∷ (budgetOf 0 ++ seventeen 16 ++ (2 ∷ [])) ∷ (budgetOf 0 ++ seventeen 16) ∷ []
+    )
+    ≡ at 22 0
+    ∷ at 21 0 ∷ at 22 0 ∷ at 22 0 ∷ at 20 0
+    ∷ at 26 9 ∷ at 21 9 ∷ at 23 9 ∷ at 20 9
+    ∷ at 24 10 ∷ at 24 27 ∷ at 3 0
+    ∷ at 1 0 ∷ at 25 281 ∷ at 26 281 ∷ []
+unfolding loadedFrom formOf readFrom recordAt judged firstFaulty taskFault first seventeen
+file-refusals = refl
+
+-- ---- the dispatcher
+
+-- The owners of some steps from a start, with these done reports; and where they end.
+steps : Table → Dispatcher → List Bool → List ℕ
+steps t d [] = []
+steps t d (done ∷ more) = turn t d done .owner ∷ steps t (after t d done) more
+
+-- g with task 0 done after one slot; f, whose task 1 is closed late in the second step.
+dispatched :
+    (steps table-g (startOf table-g) (false ∷ true ∷ false ∷ false ∷ false ∷ []) ≡ 0 ∷ 1 ∷ 1 ∷ 16 ∷ 0 ∷ [])
+    × (steps table-f (startOf table-f) (false ∷ false ∷ []) ≡ 0 ∷ 16 ∷ [])
+    × (turn table-f (after table-f (startOf table-f) false) false ≡ record { owner = 16; late = 2; closed = 1; lowest = 1 })
+unfolding steps startOf after turn ownerNow choose fill bits sum count first
+dispatched = (refl, refl, refl)
+
+-- Refusal 8 and its places, on a task with O 0, C 2, D 3, T 4 and one with O 9: a wait above O and T; too many slots left;
+-- an open job that waits less than T - D, or more than T - 1; a last-run number that is no task.
+abbrev two : Table
+two = tableOf (of 0 2 3 4 ∷ of 9 1 4 4 ∷ [])
+
+state : ℕ → ℕ → ℕ → ℕ → ℕ → Given
+state w0 w1 l0 l1 last = stepped two (record { wait = w0 ∷ w1 ∷ replicate 14 7; left = l0 ∷ l1 ∷ replicate 14 7; last = last }) false .given
+
+strangers :
+    state 5 0 0 0 16 ∷ state 0 10 0 0 16 ∷ state 2 0 3 0 16 ∷ state 0 0 1 0 16 ∷ state 4 0 1 0 16 ∷ state 0 4 0 1 16 ∷ state 0 0 0 0 2 ∷ state 0 0 0 0 17 ∷ []
+    ≡ map (λ p. Given.Refused (record { number = 8; place = p })) (0 ∷ 1 ∷ 0 ∷ 0 ∷ 0 ∷ 1 ∷ 16 ∷ 16 ∷ [])
+unfolding state stepped firstStrange judged firstFaulty taskFault first round product load horizon largest sum count
+strangers = refl
+
+-- At its deadline, with wait T - D, a job is no stranger: it is closed late, or by a done report before that. Entries past the table stay.
+at-deadline :
+    (stepped two (record { wait = 1 ∷ 9 ∷ replicate 14 7; left = 1 ∷ 0 ∷ replicate 14 7; last = 0 }) false
+    ≡ record { given = Given.Slot (record { owner = 16; late = 1; closed = 1; lowest = 0 }); state = record { wait = 0 ∷ 8 ∷ replicate 14 7; left = 0 ∷ 0 ∷ replicate 14 7; last = 16 } })
+    × (turn two (record { wait = 1 ∷ 9 ∷ replicate 14 7; left = 1 ∷ 0 ∷ replicate 14 7; last = 0 }) true .closed ≡ 0)
+unfolding stepped turn after ownerNow choose fill bits firstStrange judged firstFaulty taskFault first round product load horizon largest sum count
+at-deadline = (refl, refl)
+
+-- ---- the report
+
+report-b :
+    reportOf 2 (record { outcome = Outcome.Tested Verdict.Passes; measure = record { round = 15; load = 11; horizon = 38 }; settled = 38; worst = 7 ∷ 2 ∷ replicate 14 0; empty = Empty.Slot 2 }) Verdict.Passes
+    ≡ text "tasks 2\nload 11/15\nhorizon 38\nverdict passes\nsettled 38\nworst 0 7\nworst 1 2\nempty 2\n"
+unfolding reportOf worstLines text decimal digits
+report-b = refl
+
+report-c :
+    reportOf 2 (brief (Outcome.Tested (Verdict.Late 8 15 8)) (record { round = 15; load = 12; horizon = 38 }) 15) (Verdict.Late 8 15 8)
+    ≡ text "tasks 2\nload 12/15\nhorizon 38\nverdict late\nsettled 15\ninterval 8 15 demand 8\n"
+unfolding reportOf text decimal digits
+report-c = refl
+
+refusal-line : refusalLine (record { number = 21; place = 9 }) ≡ text "refused 21 at 9\n"
+unfolding text decimal digits
+refusal-line = refl

@@ -1,0 +1,84 @@
+-- The table file: for any list of bytes the refusal, or the budget and the tasks.
+use mathlib.Core.List.{List, [], _∷_, _++_}
+use mathlib.Core.Bool.{cond}
+use Prim.Native.Nat.{ℕ, zero, suc, _+_, _-_, _*_}
+use lib.Dec.{ltb, leb, eqb}
+use lib.ListN.{getD, length, replicate}
+use Rattle.model.specs.Values.{Task, Table, Judgement, Record, Admission, Loaded}
+use Rattle.model.specs.Limits.{taskLimit, budgetBytes, taskBytes, endBytes}
+use Rattle.model.specs.Tasks.{noTask, judged}
+
+-- Four bytes, and eight, from a place on: numbers, the lowest byte first.
+abbrev pub four : List ℕ → ℕ → ℕ
+four s at = getD s at 0 + 256 * getD s (at + 1) 0 + 65536 * getD s (at + 2) 0 + 16777216 * getD s (at + 3) 0
+
+abbrev pub eight : List ℕ → ℕ → ℕ
+eight s at = four s at + 4294967296 * four s (at + 4)
+
+-- A task's body: O, C, D, T.
+abbrev pub taskIn : List ℕ → ℕ → Task
+taskIn s at = record { offset = four s at; cost = four s (at + 4); deadline = four s (at + 8); period = four s (at + 12) }
+
+-- What stands at a place: nothing more, a kind that is unknown, or a record, whose body may be cut short.
+pub data Found : Type 0 where
+  nothing : Found
+  unknown : Found
+  found : Record → Found
+
+unfoldable pub recordAt : List ℕ → ℕ → Found
+recordAt s at =
+    cond (leb (length s) at) nothing
+    (cond (eqb (getD s at 0) 1) (found (Record.Budget (eight s (at + 1))))
+    (cond (eqb (getD s at 0) 2) (found (Record.OneTask (taskIn s (at + 1))))
+    (cond (eqb (getD s at 0) 3) (found Record.End) unknown)))
+
+-- A table of these tasks.
+abbrev pub tableOf : List Task → Table
+tableOf ks = record { count = length ks; tasks = ks ++ replicate (taskLimit - length ks) noTask }
+
+abbrev pub refuse : ℕ → ℕ → Loaded
+refuse n p = record { admission = Admission.Refused (record { number = n; place = p }); budget = 0; table = tableOf [] }
+
+abbrev pub admit : ℕ → List Task → Loaded
+admit b ks = record { admission = Admission.Admitted; budget = b; table = tableOf ks }
+
+-- The record at this place is whole, or else refused by 20.
+abbrev pub whole : List ℕ → ℕ → ℕ → Loaded → Loaded
+whole s at bytes go = cond (ltb (length s) (at + bytes)) (refuse 20 at) go
+
+-- The record at a place after the budget b and the tasks ks; `next` says what a task leads to. Whatever follows the end is 24.
+abbrev pub readRecord : List ℕ → ℕ → List Task → ℕ → (Task → Loaded) → Found → Loaded
+readRecord s b ks at next nothing = refuse 26 (length s)
+readRecord s b ks at next unknown = refuse 21 at
+readRecord s b ks at next (found (Record.Budget x)) = refuse 23 at
+readRecord s b ks at next (found (Record.OneTask k)) = next k
+readRecord s b ks at next (found Record.End) = cond (ltb (at + endBytes) (length s)) (refuse 24 (at + endBytes)) (admit b ks)
+
+-- The records after the budget, with room for this many more tasks.
+unfoldable pub readFrom : List ℕ → ℕ → List Task → ℕ → ℕ → Loaded
+readFrom s b ks zero at = readRecord s b ks at (λ k. refuse 25 at) (recordAt s at)
+readFrom s b ks (suc room) at = readRecord s b ks at (λ k. whole s at taskBytes (readFrom s b (ks ++ (k ∷ [])) room (at + taskBytes))) (recordAt s at)
+
+-- The first record: a budget, or else refused by 22.
+abbrev pub readFirst : List ℕ → Found → Loaded
+readFirst s nothing = refuse 22 0
+readFirst s unknown = refuse 21 0
+readFirst s (found (Record.Budget b)) = whole s 0 budgetBytes (readFrom s b [] taskLimit budgetBytes)
+readFirst s (found (Record.OneTask k)) = refuse 22 0
+readFirst s (found Record.End) = refuse 22 0
+
+-- The form of a file: the budget first, once; then the tasks; then the end, and nothing after it.
+unfoldable pub formOf : List ℕ → Loaded
+formOf s = readFirst s (recordAt s 0)
+
+-- The table of a file is judged only after the file's form is good.
+abbrev pub judgedTable : Loaded → Judgement → Loaded
+judgedTable l (Judgement.Refused r) = refuse (r .number) (r .place)
+judgedTable l (Judgement.WellFormed m) = l
+
+abbrev pub judgedForm : Loaded → Admission → Loaded
+judgedForm l (Admission.Refused r) = l
+judgedForm l Admission.Admitted = judgedTable l (judged (l .table))
+
+unfoldable pub loadedFrom : List ℕ → Loaded
+loadedFrom s = judgedForm (formOf s) (formOf s .admission)
