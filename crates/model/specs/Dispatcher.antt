@@ -1,9 +1,8 @@
 -- The dispatcher: its state, when a state belongs to a table, the start, and the step in its four rules.
-use mathlib.Core.List.{List}
 use mathlib.Core.Bool.{Bool, cond, not, _&&_, _||_}
-use Prim.Native.Nat.{ℕ, _+_, _-_, max}
-use lib.Dec.{leb, ltb, eqb}
-use lib.ListN.{getD, set, replicate}
+use Prim.Native.Nat.{ℕ, _-_, max}
+use lib.Dec.{ltb, eqb}
+use lib.ListN.{getD, replicate}
 use Rattle.model.specs.Values.{Table, Judgement, Admission, Dispatcher, Started, Turn, Given, Stepped}
 use Rattle.model.specs.Notation.{count, first, bits, fill}
 use Rattle.model.specs.Limits.{taskLimit}

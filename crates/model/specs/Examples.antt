@@ -7,13 +7,13 @@ use lib.ListN.{replicate}
 use Rattle.model.specs.Values.{Task, Table, Judgement, Verdict, Outcome, Empty, Admission, Dispatcher, Given}
 use Rattle.model.specs.Notation.{sum, product, largest, count, first, last, bits, fill, text, digits, decimal}
 use Rattle.model.specs.Limits.{taskLimit, longestFile}
-use Rattle.model.specs.Tasks.{noTask, taskFault, firstFaulty, round, load, horizon, refuse, judged}
+use Rattle.model.specs.Tasks.{taskFault, firstFaulty, round, load, horizon, refuse, judged}
 use Rattle.model.specs.Demand.{jobsIn, demand, asksTooMuch, lateAt}
 use Rattle.model.specs.Schedule.{given}
 use Rattle.model.specs.Run.{tieOrder, choose, ownerOf, served, owner, run, firstEmpty}
 use Rattle.model.specs.Verdict.{needed, lateStart, verdict, settledBy, emptyIn, brief}
 use Rattle.model.specs.TableFile.{recordAt, tableOf, readFrom, formOf, loadedFrom}
-use Rattle.model.specs.Dispatcher.{firstStrange, startOf, started, ownerNow, after, turn, stepped}
+use Rattle.model.specs.Dispatcher.{firstStrange, startOf, ownerNow, after, turn, stepped}
 use Rattle.model.specs.Report.{worstLines, reportOf, refusalLine}
 
 -- A task as document 01 writes it, and its tables.

@@ -1,15 +1,15 @@
 -- The run: in each slot the released, unfinished job with the earliest deadline, ties by a fixed order of the tasks.
 use mathlib.Core.Path.{_≡_}
 use mathlib.Core.List.{List}
-use mathlib.Core.Bool.{Bool, cond, not, _&&_, _||_}
-use Prim.Native.Nat.{ℕ, zero, suc, _+_, _-_, _*_, _/_, _≤_}
+use mathlib.Core.Bool.{Bool, cond, _&&_, _||_}
+use Prim.Native.Nat.{ℕ, zero, suc, _+_, _-_, _/_, _≤_}
 use lib.Dec.{leb, ltb, eqb}
 use lib.ListN.{getD, set, replicate}
 use Rattle.model.specs.Values.{Task, Table}
 use Rattle.model.specs.Notation.{first, Least}
 use Rattle.model.specs.Limits.{taskLimit}
 use Rattle.model.specs.Tasks.{task, release, due, horizon}
-use Rattle.model.specs.Schedule.{Slot, none, job, Schedule, given}
+use Rattle.model.specs.Schedule.{none, job, Schedule, given}
 
 -- An order of the tasks: of two that tie, the one of lower rank goes first.
 abbrev pub Order : Type 0
