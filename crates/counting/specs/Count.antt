@@ -1,0 +1,113 @@
+-- Laws of tests and of counts.
+use mathlib.Core.Path.{_≡_, refl}
+use mathlib.Core.Logic.{_↔_}
+use mathlib.Core.Bool.{Bool, true, false, _&&_}
+use Prim.Native.Nat.{ℕ, zero, suc, _+_, _-_, min, _≤_, _<_, zero-le}
+use native.Mathlib.Decide.{ℕ-discrete, decLe, decLt, le-ind}
+use native.Mathlib.Omega.{arith}
+use lib.Dec.{T, leb→le, le→leb, ltb→lt, lt→ltb, eqb→eq, eqb, eqb-refl}
+use Rattle.model.specs.Notation.{bit, count, some, every}
+
+-- How `omega` reads a test among the facts, and proves one.
+pub ruleset tests = (arith, leb→le, ltb→lt, eqb→eq, le→leb, lt→ltb)
+
+-- Two tests both hold.
+pub and-iff : (a b : Bool) → T (a && b) ↔ (T a × T b)
+and-iff true b = (λ t. (tt, t), λ h. h .1)
+and-iff false b = (λ t. absurd t, λ h. h .0)
+
+-- Equal numbers pass the test for it.
+pub eq→eqb : (m n : ℕ) → m ≡ n → T (eqb m n)
+eq→eqb m n e = rw e (eqb-refl n)
+
+-- What a test counts: 1 where it holds, and else 0.
+pub bit-yes : (p : Bool) → T p → bit p ≡ 1
+bit-yes true t = refl
+bit-yes false t = absurd t
+
+pub bit-no : (p : Bool) → (T p → ⊥) → bit p ≡ 0
+bit-no true h = absurd (h tt)
+bit-no false h = refl
+
+-- A test that gives another counts no more.
+pub bit-le : (p q : Bool) → (T p → T q) → bit p ≤ bit q
+bit-le true true h = omega arith
+bit-le true false h = absurd (h tt)
+bit-le false q h = zero-le
+
+-- Two tests that exclude one another, each of which gives a third.
+pub bit-add : (p q r : Bool) → (T p → T q → ⊥) → (T p → T r) → (T q → T r) → bit p + bit q ≤ bit r
+bit-add true true r x f g = absurd (x tt tt)
+bit-add true false true x f g = omega arith
+bit-add true false false x f g = absurd (f tt)
+bit-add false true true x f g = omega arith
+bit-add false true false x f g = absurd (g tt)
+bit-add false false r x f g = zero-le
+
+-- A test that gives another is passed no more often.
+pub count-le : (p q : ℕ → Bool) (n : ℕ) → ((j : ℕ) → j < n → T (p j) → T (q j)) → count p n ≤ count q n
+unfolding count
+count-le p q zero h = zero-le
+count-le p q (suc n) h = omega (arith, bit-le (p n) (q n) (h n (omega arith)), count-le p q n (λ j l. h j (omega arith)))
+
+-- Two tests that together count no more than a third.
+pub count-add : (p q r : ℕ → Bool) (n : ℕ) → ((j : ℕ) → j < n → bit (p j) + bit (q j) ≤ bit (r j)) → count p n + count q n ≤ count r n
+unfolding count
+count-add p q r zero h = omega arith
+count-add p q r (suc n) h = omega (arith, h n (omega arith), count-add p q r n (λ j l. h j (omega arith)))
+
+-- A test that the numbers from a up to b pass, and no others: below n it is passed min b n - a times.
+pub count-from : (p : ℕ → Bool) (a b n : ℕ) → ((j : ℕ) → j < n → T (p j) ↔ ((a ≤ j) × (j < b))) → count p n ≡ min b n - a
+unfolding count
+count-from p a b zero h = omega arith
+count-from p a b (suc n) h =
+    let ih = count-from p a b n (λ j l. h j (omega arith)) in
+    let e = h n (omega arith) in
+    elim (decLe a n) [
+      | yes x ↦ elim (decLt n b) [ yes y ↦ omega (arith, bit-yes (p n) (e .1 (x, y))) | no y ↦ omega (arith, bit-no (p n) (λ t. y (e .0 t .1))) ]
+      | no x ↦ omega (arith, bit-no (p n) (λ t. x (e .0 t .0)))
+    ]
+
+-- More numbers to look at, and so no fewer that pass.
+pub count-more : (p : ℕ → Bool) (a b : ℕ) → a ≤ b → count p a ≤ count p b
+unfolding count
+count-more p a b h = le-ind (λ (m : ℕ). count p a ≤ count p m) (omega arith) (λ m l ih. omega arith) b h
+
+-- No more numbers pass than are looked at, and if all pass just as many.
+pub count-bound : (p : ℕ → Bool) (n : ℕ) → count p n ≤ n
+unfolding count
+count-bound p zero = zero-le
+count-bound p (suc n) = omega (arith, count-bound p n, bit-le (p n) true (λ t. tt))
+
+pub count-all : (p : ℕ → Bool) (n : ℕ) → ((j : ℕ) → j < n → T (p j)) → count p n ≡ n
+unfolding count
+count-all p zero h = refl
+count-all p (suc n) h = omega (arith, bit-yes (p n) (h n (omega arith)), count-all p n (λ j l. h j (omega arith)))
+
+-- Some number below n passes; every one does.
+pub some-iff : (p : ℕ → Bool) (n : ℕ) → T (some p n) ↔ ((k : ℕ) × (k < n) × T (p k))
+unfolding count
+some-iff p n = (λ h. find n (omega tests), λ h. back n (h .0) (h .1) (h .2))
+  where
+    find : (m : ℕ) → 0 < count p m → (k : ℕ) × (k < m) × T (p k)
+    find zero h = absurd (omega arith)
+    find (suc m) h = at (p m) refl (find m)
+      where
+        at : (b : Bool) → p m ≡ b → (0 < count p m → (k : ℕ) × (k < m) × T (p k)) → (k : ℕ) × (k < suc m) × T (p k)
+        at true e ih = (m, omega arith, rw e tt)
+        at false e ih = let (k, l, t) = ih (omega (arith, bit-no (p m) (rw e (λ x. x)))) in (k, omega arith, t)
+
+    back : (m k : ℕ) → k < m → T (p k) → T (some p m)
+    back m k l t = omega (tests, count-more p (suc k) m l, bit-yes (p k) t)
+
+pub every-iff : (p : ℕ → Bool) (n : ℕ) → T (every p n) ↔ ((k : ℕ) → k < n → T (p k))
+unfolding count
+every-iff p n = (λ h. all n (omega tests), λ h. eq→eqb _ _ (count-all p n h))
+  where
+    all : (m : ℕ) → count p m ≡ m → (k : ℕ) → k < m → T (p k)
+    all zero e k l = absurd (omega arith)
+    all (suc m) e k l = at (p m) refl (all m)
+      where
+        at : (b : Bool) → p m ≡ b → (count p m ≡ m → (k : ℕ) → k < m → T (p k)) → T (p k)
+        at true q ih = elim (ℕ-discrete k m) [ yes x ↦ rw (x, q) tt | no x ↦ ih (omega (arith, bit-yes (p m) (rw q tt))) k (omega arith) ]
+        at false q ih = absurd (omega (arith, bit-no (p m) (rw q (λ x. x)), count-bound p m))
