@@ -1,0 +1,4 @@
+pub mod Search
+pub mod Fill
+pub mod Bits
+pub mod Divisors

@@ -1,0 +1,1 @@
+// Laws alone: they stand in specs/.
