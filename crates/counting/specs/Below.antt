@@ -1,13 +1,13 @@
 -- How many j have f j < x, for an f that grows; closed forms; one round later.
 use mathlib.Core.Path.{_≡_, refl}
 use mathlib.Core.Logic.{_↔_}
-use mathlib.Core.Bool.{Bool, _&&_}
+use mathlib.Core.Bool.{_&&_}
 use Prim.Native.Nat.{ℕ, zero, suc, _+_, _-_, _*_, _/_, _≤_, _<_, min, zero-le}
 use native.Mathlib.Nat.{le-refl, le-div-iff-mul-le}
 use native.Mathlib.Decide.{decLt, decLe, le-ind}
 use native.Mathlib.Omega.{arith}
-use lib.Dec.{T, leb, ltb}
-use Rattle.model.specs.Notation.{count, bit}
+use lib.Dec.{leb, ltb}
+use Rattle.model.specs.Notation.{count}
 use Rattle.counting.specs.Count.{tests, and-iff, bit-yes, bit-no, count-all, count-from}
 
 -- f grows by at least one at each step.

@@ -1,3 +1,8 @@
+-- Laws of numbers, lists and searches: no word of scheduling.
 pub mod Sum
 pub mod Count
 pub mod Below
+pub mod Search
+pub mod Fill
+pub mod Bits
+pub mod Divisors
