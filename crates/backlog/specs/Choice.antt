@@ -1,0 +1,68 @@
+-- What the model's choice finds: the open task that comes before the others, or that none is open.
+use mathlib.Core.Path.{_≡_, refl, sym, subst}
+use mathlib.Core.Logic.{_⊎_, inl, inr, _≢_}
+use mathlib.Core.Bool.{Bool, true, false, cond, _&&_, _||_}
+use Prim.Native.Nat.{ℕ, zero, suc, _≤_, _<_}
+use native.Mathlib.Nat.{le-refl}
+use native.Mathlib.Decide.{ℕ-discrete}
+use native.Mathlib.Omega.{arith}
+use borrow.Author.Tests.{ltb-true, ltb-false, eqb-true, eqb-false}
+use lib.Dec.{T, ltb, eqb}
+use Rattle.model.specs.Limits.{taskLimit}
+use Rattle.model.specs.Run.{Order, precedes, choose}
+
+-- Task k comes no later than task i: an earlier deadline, or the same and no higher rank.
+abbrev pub NoLater : (ℕ → ℕ) → Order → ℕ → ℕ → Type 0
+NoLater deadline rank k i = (deadline k < deadline i) ⊎ ((deadline k ≡ deadline i) × (rank k ≤ rank i))
+
+-- The choice c among the tasks below n.
+pub record Nobody (open? : ℕ → Bool) (n c : ℕ) : Type 0 where
+  pub none : c ≡ taskLimit
+  pub shut : (i : ℕ) → i < n → T (open? i) → ⊥
+
+pub record Somebody (open? : ℕ → Bool) (deadline : ℕ → ℕ) (rank : Order) (n c : ℕ) : Type 0 where
+  pub bound : c < n
+  pub opened : T (open? c)
+  pub ahead : (i : ℕ) → i < n → T (open? i) → NoLater deadline rank c i
+
+abbrev pub Chosen : (ℕ → Bool) → (ℕ → ℕ) → Order → ℕ → ℕ → Type 0
+Chosen open? deadline rank n c = Nobody open? n c ⊎ Somebody open? deadline rank n c
+
+-- A fact of all below n, and of n, is a fact of all up to n.
+below-suc : (P : ℕ → Type 0) (n : ℕ) → ((i : ℕ) → i < n → P i) → P n → (i : ℕ) → i < suc n → P i
+below-suc P n f x i l = elim (ℕ-discrete i n) [ yes e ↦ subst P (sym e) x | no e ↦ f i (omega arith) ]
+
+module _ (open? : ℕ → Bool) (deadline : ℕ → ℕ) (rank : Order) where
+  -- One task comes before another, or no earlier.
+  no-later : (i k : ℕ) → NoLater deadline rank i k → (m : ℕ) → NoLater deadline rank k m → NoLater deadline rank i m
+  no-later i k (inl a) m (inl b) = inl (omega arith)
+  no-later i k (inl a) m (inr b) = inl (omega (arith, b .0))
+  no-later i k (inr a) m (inl b) = inl (omega (arith, a .0))
+  no-later i k (inr a) m (inr b) = inr (omega (arith, a .0, b .0), omega (arith, a .1, b .1))
+
+  before : (i k : ℕ) (p q r : Bool) → ltb (deadline i) (deadline k) ≡ p → eqb (deadline i) (deadline k) ≡ q → ltb (rank i) (rank k) ≡ r
+      → (T (p || (q && r)) → NoLater deadline rank i k) × ((T (p || (q && r)) → ⊥) → NoLater deadline rank k i)
+  before i k true q r a b c = (λ t. inl (ltb-true _ _ a), λ h. absurd (h tt))
+  before i k false true true a b c = (λ t. let e : rank i < rank k = ltb-true _ _ c in inr (eqb-true _ _ b, omega arith), λ h. absurd (h tt))
+  before i k false true false a b c = (λ t. absurd t, λ h. inr (sym (eqb-true _ _ b), ltb-false _ _ c))
+  before i k false false r a b c = (λ t. absurd t, λ h. let e : deadline k ≤ deadline i = ltb-false _ _ a in let f : deadline i ≢ deadline k = eqb-false _ _ b in inl (omega arith))
+
+  -- One more task to choose from.
+  more : (n best : ℕ) → n < taskLimit → (o e p : Bool) → open? n ≡ o → eqb best taskLimit ≡ e → precedes deadline rank n best ≡ p
+      → Chosen open? deadline rank n best → Chosen open? deadline rank (suc n) (cond (o && (e || p)) n best)
+  more n best l false e p x y z (inl c) = inl (record { none = c .none; shut = below-suc (λ i. T (open? i) → ⊥) n (c .shut) (λ t. rw x at t) })
+  more n best l false e p x y z (inr c) = inr (record { bound = omega (arith, c .bound); opened = c .opened; ahead = below-suc (λ i. T (open? i) → NoLater deadline rank best i) n (c .ahead) (λ t. absurd (rw x at t)) })
+  more n best l true true p x y z (inl c) = inr (record { bound = le-refl (suc n); opened = rw x tt; ahead = below-suc (λ i. T (open? i) → NoLater deadline rank n i) n (λ i m t. absurd (c .shut i m t)) (λ t. inr (refl, le-refl _)) })
+  more n best l true true p x y z (inr c) = let q : best ≡ taskLimit = eqb-true _ _ y in absurd (omega (arith, c .bound))
+  more n best l true false p x y z (inl c) = absurd (eqb-false _ _ y (c .none))
+  more n best l true false true x y z (inr c) =
+      let first : NoLater deadline rank n best = before n best _ _ _ refl refl refl .0 (subst T (sym z) tt) in
+      inr (record { bound = le-refl (suc n); opened = rw x tt; ahead = below-suc (λ i. T (open? i) → NoLater deadline rank n i) n (λ i m t. no-later n best first i (c .ahead i m t)) (λ t. inr (refl, le-refl _)) })
+  more n best l true false false x y z (inr c) =
+      let first : NoLater deadline rank best n = before n best _ _ _ refl refl refl .1 (λ t. subst T z t) in
+      inr (record { bound = omega (arith, c .bound); opened = c .opened; ahead = below-suc (λ i. T (open? i) → NoLater deadline rank best i) n (c .ahead) (λ t. first) })
+
+  pub choose-is : (n : ℕ) → n ≤ taskLimit → Chosen open? deadline rank n (choose open? deadline rank n)
+  unfolding choose
+  choose-is zero l = inl (record { none = refl; shut = λ i m. absurd (omega arith) })
+  choose-is (suc n) l = more n (choose open? deadline rank n) l _ _ _ refl refl refl (choose-is n (omega arith))

@@ -1,0 +1,174 @@
+-- The work that is left of the jobs up to a key is one queue, and tells when each job is done.
+use mathlib.Core.Path.{_≡_, sym, ap, subst, _∙_}
+use mathlib.Core.Logic.{inl, inr, _↔_}
+use Prim.Native.Nat.{ℕ, zero, suc, _+_, _-_, _*_, _/_, _≤_, _<_, min}
+use native.Mathlib.Nat.{le-refl, mul-le-mul-left, mul-pos, zero-lt-suc, lt-of-mul-lt-mul-left, div-eq-of-lt-le}
+use native.Mathlib.Decide.{ℕ-discrete, decLt, decLe, le-ind}
+use native.Mathlib.Omega.{arith}
+use Rattle.model.specs.Notation.{sum, Least}
+use Rattle.counting.specs.Search.{least}
+use Rattle.counting.specs.Sum.{sum-eq, sum-add, sum-zero, sum-by, sum-member}
+use Rattle.counting.specs.Below.{below, lt-below, below-bound, below-after}
+use Rattle.backlog.specs.Queue.{backlog}
+use Rattle.backlog.specs.Streams.{Jobs, released, work, keyAt, SlotOf, Run, Serves, leftOf, left, arriveOf, arrive, released-mono, in-class}
+
+-- Of w class work with s served: what is left once r' is released is what was left at r, and what came between.
+merge : (w r r' s : ℕ) → s ≤ r → r ≤ r' → min w r' - min s w ≡ (min w r - min s w) + (min w r' - min w r)
+merge w r r' s h k = omega arith
+
+not-lt : {a b : ℕ} → ¬ (a < b) → b ≤ a
+not-lt h = omega arith
+
+module _ (J : Jobs) (s : ℕ → ℕ → ℕ) (R : Run J s) where
+  -- No more is served than is released.
+  pub served-le : (t i : ℕ) → i < J .n → s t i ≤ released J t i
+  served-le zero i l = omega (arith, R .start i l)
+  served-le (suc t) i l = go (R .slot t) (served-le t i l) (released-mono J i l t (suc t) (omega arith))
+    where
+      go : SlotOf J t (s t) (s (suc t)) → s t i ≤ released J t i → released J t i ≤ released J (suc t) i → s (suc t) i ≤ released J (suc t) i
+      go (inl d) ih m = omega (arith, d .rest i l)
+      go (inr (k, d)) ih m = at (ℕ-discrete i k)
+        where
+          at : Dec (i ≡ k) → s (suc t) i ≤ released J (suc t) i
+          at (yes e) = rw e (omega (arith, d .one, d .ready))
+          at (no e) = omega (arith, d .rest i l e)
+
+  -- The class work that is left once the arrivals of slot t are in.
+  abbrev due : ℕ → ℕ → ℕ → ℕ
+  due κ t i = leftOf J κ (suc t) (s t) i
+
+  due-sum : (κ t : ℕ) → left J s κ t + arrive J κ t ≡ sum (J .n) (due κ t)
+  unfolding left arrive
+  due-sum κ t =
+      sym (sum-add (J .n) (leftOf J κ t (s t)) (arriveOf J κ t))
+      ∙ sum-eq (J .n) _ _ (λ i l. sym (merge (work J κ i) (released J t i) (released J (suc t) i) (s t i) (served-le t i l) (released-mono J i l t (suc t) (omega arith))))
+
+  pub left-step : (κ t : ℕ) → left J s κ (suc t) ≡ (left J s κ t + arrive J κ t) - 1
+  unfolding left
+  left-step κ t = go (R .slot t)
+    where
+      none-due : ((i : ℕ) → i < J .n → due κ t i ≡ 0) → ((i : ℕ) → i < J .n → leftOf J κ (suc t) (s (suc t)) i ≡ due κ t i) → left J s κ (suc t) ≡ (left J s κ t + arrive J κ t) - 1
+      none-due z q = omega (arith, due-sum κ t, sum-zero (J .n) (due κ t) z, sum-eq (J .n) (leftOf J κ (suc t) (s (suc t))) (due κ t) q)
+
+      go : SlotOf J t (s t) (s (suc t)) → left J s κ (suc t) ≡ (left J s κ t + arrive J κ t) - 1
+      go (inl d) = none-due (λ i l. omega (arith, d .none i l)) (λ i l. rw (d .rest i l))
+      go (inr (k, d)) = at (decLe (keyAt J k (s t k)) κ)
+        where
+          same : work J κ k ≤ s t k → (i : ℕ) → i < J .n → Dec (i ≡ k) → leftOf J κ (suc t) (s (suc t)) i ≡ due κ t i
+          same w i l (yes e) = rw e (omega (arith, d .one))
+          same w i l (no e) = rw (d .rest i l e)
+
+          over : ¬ (keyAt J k (s t k) ≤ κ) → (i : ℕ) → i < J .n → Dec (s t i < released J (suc t) i) → Dec (s t i < work J κ i) → due κ t i ≡ 0
+          over p i l (yes a) (yes b) = absurd (omega (arith, d .least i l a, in-class J κ i l (s t i) .0 b))
+          over p i l (yes a) (no b) = omega arith
+          over p i l (no a) b = omega arith
+
+          at : Dec (keyAt J k (s t k) ≤ κ) → left J s κ (suc t) ≡ (left J s κ t + arrive J κ t) - 1
+          at (yes p) =
+              let w : s t k < work J κ k = in-class J κ k (d .bound) (s t k) .1 p in
+              let q : due κ t k ≡ leftOf J κ (suc t) (s (suc t)) k + 1 = omega (arith, d .one, d .ready) in
+              omega (arith, due-sum κ t, sum-by (J .n) (due κ t) (leftOf J κ (suc t) (s (suc t))) k 1 (d .bound) q (λ i l e. rw (d .rest i l e)))
+          at (no p) =
+              let w : work J κ k ≤ s t k = not-lt (λ h. p (in-class J κ k (d .bound) (s t k) .0 h)) in
+              none-due (λ i l. over p i l (decLt _ _) (decLt _ _)) (λ i l. same w i l (ℕ-discrete i k))
+
+  none-before : (i : ℕ) → i < J .n → below (J .rel i) 0 ≡ 0
+  none-before i l = omega (arith, below-bound (J .rel i) (J .rel-grows i l) 0)
+
+  left-start : (κ : ℕ) → left J s κ 0 ≡ 0
+  unfolding left
+  left-start κ = sum-zero (J .n) _ (λ i l. rw (none-before i l) (omega arith))
+
+  -- THE KEY LEMMA: the class work that is left is the backlog of the class arrivals. It depends on the releases alone.
+  pub left-is : (κ t : ℕ) → left J s κ t ≡ backlog (arrive J κ) t
+  unfolding backlog
+  left-is κ zero = left-start κ
+  left-is κ (suc t) = rw (← left-is κ t) (left-step κ t)
+
+  -- All class work that is released before t.
+  pub arrived : (κ t : ℕ) → sum t (arrive J κ) ≡ sum (J .n) (λ i. min (work J κ i) (released J t i))
+  unfolding sum arrive
+  arrived κ zero = sym (sum-zero (J .n) _ (λ i l. rw (none-before i l) (omega arith)))
+  arrived κ (suc t) =
+      ap (λ (x : ℕ). x + arrive J κ t) (arrived κ t)
+      ∙ sym (sum-add (J .n) (λ i. min (work J κ i) (released J t i)) (arriveOf J κ t))
+      ∙ sum-eq (J .n) _ _ (λ i l. omega (arith, released-mono J i l t (suc t) (omega arith)))
+
+  -- With no work left up to a key, every released job up to that key is done.
+  pub done-of-none-left : (κ t i j : ℕ) → i < J .n → J .key i j ≤ κ → J .rel i j < t → left J s κ t ≡ 0 → J .cost i * suc j ≤ s t i
+  unfolding left
+  done-of-none-left κ t i j l k r e =
+      omega (
+        arith,
+        sum-member (J .n) (leftOf J κ t (s t)) i l,
+        mul-le-mul-left (J .cost i) (lt-below (J .key i) (J .key-grows i l) (suc κ) j .1 (omega arith)),
+        mul-le-mul-left (J .cost i) (lt-below (J .rel i) (J .rel-grows i l) t j .1 r),
+      )
+
+  -- And in the slot that finishes a job, no work is left up to its key.
+  pub none-left-of-done : (t i j : ℕ) → i < J .n → s t i < J .cost i * suc j → J .cost i * suc j ≤ s (suc t) i → left J s (J .key i j) (suc t) ≡ 0
+  unfolding left
+  none-left-of-done t i j l a b = go (R .slot t)
+    where
+      go : SlotOf J t (s t) (s (suc t)) → left J s (J .key i j) (suc t) ≡ 0
+      go (inl d) = absurd (omega (arith, d .rest i l))
+      go (inr (k, d)) = at (ℕ-discrete i k)
+        where
+          at : Dec (i ≡ k) → left J s (J .key i j) (suc t) ≡ 0
+          at (no e) = absurd (omega (arith, d .rest i l e))
+          at (yes e) = sum-zero (J .n) _ (λ m q. each m q (ℕ-discrete m i) (decLt _ _) (decLt _ _))
+            where
+              c : Serves J t (s t) (s (suc t)) i
+              c = subst (λ (x : ℕ). Serves J t (s t) (s (suc t)) x) (sym e) d
+
+              now : s t i / J .cost i ≡ j
+              now = div-eq-of-lt-le (J .cost i) (omega (arith, c .one, J .cost-pos i l)) (omega arith)
+
+              full : work J (J .key i j) i ≡ J .cost i * suc j
+              full = rw (below-after (J .key i) (J .key-grows i l) j)
+
+              each : (m : ℕ) → m < J .n → Dec (m ≡ i) → Dec (s t m < released J (suc t) m) → Dec (s t m < work J (J .key i j) m) → leftOf J (J .key i j) (suc t) (s (suc t)) m ≡ 0
+              each m q (yes f) x y = rw f (omega (arith, full))
+              each m q (no f) (yes x) (yes y) =
+                  let v : J .key i j ≡ keyAt J m (s t m) = omega (arith, ap (J .key i) now, c .least m q x, in-class J (J .key i j) m q (s t m) .0 y) in
+                  absurd (f (sym (J .key-apart i j m (s t m / J .cost m) l q v)))
+              each m q (no f) (yes x) (no y) = omega (arith, c .rest m q f)
+              each m q (no f) (no x) y = omega (arith, c .rest m q f)
+
+  served-up : (i : ℕ) → i < J .n → (t : ℕ) → s t i ≤ s (suc t) i
+  served-up i l t = go (R .slot t)
+    where
+      go : SlotOf J t (s t) (s (suc t)) → s t i ≤ s (suc t) i
+      go (inl d) = omega (arith, d .rest i l)
+      go (inr (k, d)) = elim (ℕ-discrete i k) [ yes e ↦ rw e (omega (arith, d .one)) | no e ↦ omega (arith, d .rest i l e) ]
+
+  pub served-mono : (i : ℕ) → i < J .n → (t u : ℕ) → t ≤ u → s t i ≤ s u i
+  served-mono i l t u h = le-ind (λ (x : ℕ). s t i ≤ s x i) (le-refl (s t i)) (λ m k ih. omega (arith, served-up i l m)) u h
+
+module _ (J : Jobs) (s : ℕ → ℕ → ℕ) (R : Run J s) (i j : ℕ) (l : i < J .n) where
+  -- Job j of stream i is done; no work up to its key is left after its release.
+  abbrev Done : ℕ → Type 0
+  Done t = J .cost i * suc j ≤ s t i
+
+  abbrev Clear : ℕ → Type 0
+  Clear t = (J .rel i j < t) × (left J s (J .key i j) t ≡ 0)
+
+  done-of-clear : (t : ℕ) → Clear t → Done t
+  done-of-clear t (r, e) = done-of-none-left J s R (J .key i j) t i j l (le-refl _) r e
+
+  undone : {t : ℕ} → (Done t → ⊥) → s t i < J .cost i * suc j
+  undone h = omega arith
+
+  clear-of-first : (t : ℕ) → Least Done t → Clear t
+  clear-of-first zero (d, f) = absurd (omega (arith, R .start i l, mul-pos (J .cost-pos i l) (zero-lt-suc j)))
+  clear-of-first (suc t) (d, f) = (lt-below (J .rel i) (J .rel-grows i l) (suc t) j .0 (lt-of-mul-lt-mul-left (J .cost i) (omega (arith, served-le J s R (suc t) i l, J .cost-pos i l))), none-left-of-done J s R t i j l (undone (f t (le-refl _))) d)
+
+  -- FINISH: a job is done first when, first after its release, no work up to its key is left.
+  pub finish : (t : ℕ) → Least Done t ↔ Least Clear t
+  finish t = (fwd, bwd)
+    where
+      fwd : Least Done t → Least Clear t
+      fwd (d, f) = (clear-of-first t (d, f), λ u a c. f u a (done-of-clear u c))
+
+      bwd : Least Clear t → Least Done t
+      bwd (c, f) = (done-of-clear t c, λ u a d. let (v, b, e) = least Done (λ t. decLe _ _) u d in f v (omega arith) (clear-of-first v e))

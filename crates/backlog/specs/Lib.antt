@@ -1,0 +1,9 @@
+pub mod Queue
+pub mod Streams
+pub mod Left
+pub mod Criterion
+pub mod Choice
+pub mod System
+pub mod ModelRun
+pub mod RunSchedule
+pub mod Necessary

@@ -1,0 +1,79 @@
+-- The model's run is a run of its streams, and there is one run only.
+use mathlib.Core.Path.{_≡_, refl, ap}
+use mathlib.Core.Logic.{inl, inr, _≢_, _↔_}
+use Prim.Native.Nat.{ℕ, zero, suc, _+_, _*_, _/_, _≤_, _<_}
+use native.Mathlib.Nat.{div-lt-iff-lt-mul, mul-le-mul-right}
+use native.Mathlib.Decide.{decLt}
+use native.Mathlib.Omega.{arith}
+use lib.Dec.{T, leb}
+use lib.ListN.{getD, length, set, length-set, length-replicate, getD-replicate}
+use lib.Seq.{getD-set-same, getD-set-other}
+use Rattle.model.specs.Run.{ownerOf, served, owner}
+use Rattle.counting.specs.Count.{tests}
+use Rattle.counting.specs.Below.{below, lt-below}
+use Rattle.backlog.specs.Streams.{Run, SlotOf, released, keyAt}
+use Rattle.backlog.specs.Choice.{NoLater, Chosen, choose-is}
+use Rattle.backlog.specs.System.{System, size, costOf, releaseOf, dueOf, jobs}
+
+-- The slots given to task i before slot t.
+abbrev pub servedOf : System → ℕ → ℕ → ℕ
+servedOf S t i = getD (served (S .table) (S .rank) t) i 0
+
+module _ (S : System) where
+  served-length : (t : ℕ) → length (served (S .table) (S .rank) t) ≡ size S
+  unfolding served
+  served-length zero = length-replicate (size S) 0
+  served-length (suc t) = simp length-set (served-length t)
+
+  -- A task is ready exactly if some of its released work is not served.
+  ready-iff : (i t s : ℕ) → i < size S → T (leb (releaseOf S i (s / costOf S i)) t) ↔ (s < released (jobs S) (suc t) i)
+  ready-iff i t s l = (
+    λ h. omega (arith, div-lt-iff-lt-mul (S .cost-pos i l) .0 (law .1 (omega tests))),
+    λ h. omega (tests, law .0 (div-lt-iff-lt-mul (S .cost-pos i l) .1 (omega arith))),
+  )
+    where
+      law : (s / costOf S i < below (releaseOf S i) (suc t)) ↔ (releaseOf S i (s / costOf S i) < suc t)
+      law = lt-below (releaseOf S i) ((jobs S) .rel-grows i l) (suc t) (s / costOf S i)
+
+  abbrev deadlineAt : ℕ → ℕ → ℕ
+  deadlineAt t i = dueOf S i (servedOf S t i / costOf S i)
+
+  -- What comes no later has no larger key.
+  key-le : (t k i : ℕ) → k < size S → NoLater (deadlineAt t) (S .rank) k i → keyAt (jobs S) k (servedOf S t k) ≤ keyAt (jobs S) i (servedOf S t i)
+  key-le t k i l (inl a) = omega (arith, S .rank-lt k l, mul-le-mul-right (size S) a)
+  key-le t k i l (inr (e, r)) = omega (arith, ap (λ (x : ℕ). x * size S) e)
+
+  pub chosen : (t : ℕ) → Chosen (λ i. leb (releaseOf S i (servedOf S t i / costOf S i)) t) (deadlineAt t) (S .rank) (size S) (owner (S .table) (S .rank) t)
+  unfolding owner ownerOf
+  chosen t = choose-is _ _ _ (size S) (S .size-le)
+
+  after-slot : (t : ℕ) → served (S .table) (S .rank) (suc t) ≡ set (served (S .table) (S .rank) t) (owner (S .table) (S .rank) t) (servedOf S t (owner (S .table) (S .rank) t) + 1)
+  unfolding served owner
+  after-slot t = refl
+
+  -- The owner has one slot more, and no other task has.
+  pub owner-served : (t : ℕ) → owner (S .table) (S .rank) t < size S → servedOf S (suc t) (owner (S .table) (S .rank) t) ≡ servedOf S t (owner (S .table) (S .rank) t) + 1
+  owner-served t l = rw (after-slot t) (getD-set-same (served (S .table) (S .rank) t) (owner (S .table) (S .rank) t) _ 0 (omega (arith, served-length t)))
+
+  pub others-served : (t i : ℕ) → i ≢ owner (S .table) (S .rank) t → servedOf S (suc t) i ≡ servedOf S t i
+  others-served t i e = rw (after-slot t) (getD-set-other (served (S .table) (S .rank) t) (owner (S .table) (S .rank) t) i _ 0 e)
+
+  pub model-run : Run (jobs S) (servedOf S)
+  unfolding served
+  model-run = record { start = λ i l. getD-replicate (size S) i 0 0 l; slot = λ t. slot t (chosen t) }
+    where
+      slot : (t : ℕ) → Chosen (λ i. leb (releaseOf S i (servedOf S t i / costOf S i)) t) (deadlineAt t) (S .rank) (size S) (owner (S .table) (S .rank) t) → SlotOf (jobs S) t (servedOf S t) (servedOf S (suc t))
+      slot t (inl c) = inl (record {
+        none = λ i l. elim (decLt (servedOf S t i) (released (jobs S) (suc t) i)) [ yes p ↦ absurd (c .shut i l (ready-iff i t (servedOf S t i) l .1 p)) | no p ↦ omega arith ];
+        rest = λ i l. others-served t i (λ e. absurd (omega (arith, c .none, S .size-le)));
+      })
+      slot t (inr c) = inr (
+        owner (S .table) (S .rank) t,
+        record {
+          bound = c .bound;
+          ready = ready-iff _ t _ (c .bound) .0 (c .opened);
+          least = λ i l p. key-le t _ i (c .bound) (c .ahead i l (ready-iff i t (servedOf S t i) l .1 p));
+          one = owner-served t (c .bound);
+          rest = λ i l e. others-served t i e;
+        },
+      )

@@ -1,0 +1,55 @@
+-- One queue: work arrives in each slot, and each slot takes one unit away.
+use mathlib.Core.Path.{_≡_}
+use mathlib.Core.Logic.{_⊎_, inl, inr}
+use Prim.Native.Nat.{ℕ, zero, suc, _+_, _-_, _≤_, _<_}
+use native.Mathlib.Nat.{eq-zero-or-pos, le-suc-iff}
+use native.Mathlib.Omega.{arith}
+use Rattle.model.specs.Notation.{sum}
+
+-- What waits before slot t, where a t arrives in slot t and one unit goes in each slot.
+unfoldable pub backlog : (ℕ → ℕ) → ℕ → ℕ
+backlog a zero = 0
+backlog a (suc t) = (backlog a t + a t) - 1
+
+-- From s to t no more arrives than is left at t and the slots between can take.
+pub sum-backlog : (a : ℕ → ℕ) (s t : ℕ) → s ≤ t → sum t a ≤ sum s a + backlog a t + (t - s)
+unfolding sum backlog
+sum-backlog a s zero h = let e : s ≡ 0 = omega arith in rw e (omega arith)
+sum-backlog a s (suc t) h = go (le-suc-iff .0 h) (sum-backlog a s t)
+  where
+    go : (s ≤ t) ⊎ (s ≡ suc t) → (s ≤ t → sum t a ≤ sum s a + backlog a t + (t - s)) → sum (suc t) a ≤ sum s a + backlog a (suc t) + (suc t - s)
+    go (inl l) ih = omega (arith, ih l)
+    go (inr e) ih = rw e (omega arith)
+
+-- A backlog at t began at some s with none, and in every slot from there to t there was one: from s to t exactly that much arrived.
+pub record Busy (a : ℕ → ℕ) (t s : ℕ) : Type 0 where
+  pub early : s < t
+  pub empty : backlog a s ≡ 0
+  pub exact : sum t a ≡ sum s a + backlog a t + (t - s)
+  pub busy : (u : ℕ) → s < u → u ≤ t → 0 < backlog a u
+
+pub busy-from : (a : ℕ → ℕ) (t : ℕ) → 0 < backlog a t → (s : ℕ) × Busy a t s
+unfolding sum backlog
+busy-from a zero h = absurd (omega arith)
+busy-from a (suc t) h = go (eq-zero-or-pos (backlog a t)) (busy-from a t)
+  where
+    last : (u : ℕ) → (u ≤ t → 0 < backlog a u) → u ≤ suc t → 0 < backlog a u
+    last u f m = elim (le-suc-iff .0 m) [ inl l ↦ f l | inr e ↦ rw e h ]
+
+    go : (backlog a t ≡ 0) ⊎ (0 < backlog a t) → (0 < backlog a t → (s : ℕ) × Busy a t s) → (s : ℕ) × Busy a (suc t) s
+    go (inl e) ih = (t, record { early = omega arith; empty = e; exact = omega arith; busy = λ u l m. last u (λ k. absurd (omega arith)) m })
+    go (inr p) ih =
+        let (s, b) = ih p in
+        (s, record { early = omega arith; empty = b .empty; exact = omega arith; busy = λ u l m. last u (b .busy u l) m })
+
+-- Whatever starts no higher and grows no faster stays no higher.
+pub backlog-bounds : (a r : ℕ → ℕ) → r 0 ≤ backlog a 0 → ((t : ℕ) → r (suc t) ≤ (r t + a t) - 1) → (t : ℕ) → r t ≤ backlog a t
+unfolding backlog
+backlog-bounds a r z s zero = z
+backlog-bounds a r z s (suc t) = omega (arith, s t, backlog-bounds a r z s t)
+
+-- Less arrives, and less waits.
+pub backlog-mono : (a b : ℕ → ℕ) → ((t : ℕ) → a t ≤ b t) → (t : ℕ) → backlog a t ≤ backlog b t
+unfolding backlog
+backlog-mono a b h zero = omega arith
+backlog-mono a b h (suc t) = omega (arith, h t, backlog-mono a b h t)

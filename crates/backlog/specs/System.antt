@@ -1,0 +1,104 @@
+-- A table within its ranges, with an order of its tasks, as streams of jobs.
+use mathlib.Core.Path.{_≡_, refl, sym, ap, _∙_}
+use mathlib.Core.Logic.{_↔_}
+use Prim.Native.Nat.{ℕ, suc, _+_, _-_, _*_, _%_, _≤_, _<_}
+use native.Mathlib.Nat.{mul-pos, mul-le-mul-right}
+use native.Mathlib.Decide.{decLe}
+use native.Mathlib.Omega.{arith}
+use lib.Arith.{digits-mod}
+use Rattle.model.specs.declared.Table.{Table}
+use Rattle.model.specs.Limits.{taskLimit}
+use Rattle.model.specs.Tasks.{task, release, due}
+use Rattle.model.specs.Demand.{jobsIn, demand}
+use Rattle.model.specs.Run.{Order}
+use Rattle.counting.specs.Below.{Grows}
+use Rattle.backlog.specs.Streams.{Jobs}
+use Rattle.backlog.specs.Criterion as streams
+use Rattle.backlog.specs.Criterion.{Dues}
+
+-- What the theory asks of a table and an order: ranges, and ranks below the count that tell the tasks apart.
+pub record System : Type 0 where
+  pub table : Table
+  pub rank : Order
+  pub size-le : table .count ≤ taskLimit
+  pub cost-pos : (i : ℕ) → i < table .count → 0 < task table i .cost
+  pub deadline-pos : (i : ℕ) → i < table .count → 0 < task table i .deadline
+  pub deadline-le : (i : ℕ) → i < table .count → task table i .deadline ≤ task table i .period
+  pub rank-lt : (i : ℕ) → i < table .count → rank i < table .count
+  pub rank-apart : (i k : ℕ) → i < table .count → k < table .count → rank i ≡ rank k → i ≡ k
+
+-- Its parts, by task number.
+abbrev pub size : System → ℕ
+size S = S .table .count
+
+abbrev pub offsetOf : System → ℕ → ℕ
+offsetOf S i = task (S .table) i .offset
+
+abbrev pub costOf : System → ℕ → ℕ
+costOf S i = task (S .table) i .cost
+
+abbrev pub deadlineOf : System → ℕ → ℕ
+deadlineOf S i = task (S .table) i .deadline
+
+abbrev pub periodOf : System → ℕ → ℕ
+periodOf S i = task (S .table) i .period
+
+abbrev pub releaseOf : System → ℕ → ℕ → ℕ
+releaseOf S i j = release (task (S .table) i) j
+
+abbrev pub dueOf : System → ℕ → ℕ → ℕ
+dueOf S i j = due (task (S .table) i) j
+
+-- One number for deadline and rank: an earlier deadline goes first, and ties by rank. No two jobs share it.
+abbrev pub keyOf : System → ℕ → ℕ → ℕ
+keyOf S i j = dueOf S i j * size S + S .rank i
+
+module _ (S : System) where
+  pub period-pos : (i : ℕ) → i < size S → 0 < periodOf S i
+  period-pos i l = omega (arith, S .deadline-pos i l, S .deadline-le i l)
+
+  some-task : {i : ℕ} → i < size S → 0 < size S
+  some-task l = omega arith
+
+  pub keys-grow : (i : ℕ) → i < size S → Grows (keyOf S i)
+  keys-grow i l j = omega (arith, mul-pos (period-pos i l) (some-task l))
+
+  pub keys-apart : (i j k l : ℕ) → i < size S → k < size S → keyOf S i j ≡ keyOf S k l → i ≡ k
+  keys-apart i j k l a b e =
+      S .rank-apart i k a b (sym (digits-mod (dueOf S i j) (S .rank-lt i a)) ∙ ap (λ (x : ℕ). x % size S) e ∙ digits-mod (dueOf S k l) (S .rank-lt k b))
+
+  pub keys-cut : (i j t : ℕ) → i < size S → (keyOf S i j ≤ t * size S + (size S - 1)) ↔ (dueOf S i j ≤ t)
+  keys-cut i j t l = (λ h. under (dueOf S i j) h (decLe (dueOf S i j) t), λ h. over (dueOf S i j) h)
+    where
+      under : (d : ℕ) → d * size S + S .rank i ≤ t * size S + (size S - 1) → Dec (d ≤ t) → d ≤ t
+      under d h (yes p) = p
+      under d h (no p) = let q : suc t ≤ d = omega arith in absurd (omega (arith, S .rank-lt i l, mul-le-mul-right (size S) q))
+
+      over : (d : ℕ) → d ≤ t → d * size S + S .rank i ≤ t * size S + (size S - 1)
+      over d h = omega (arith, S .rank-lt i l, mul-le-mul-right (size S) h)
+
+abbrev pub jobs : System → Jobs
+jobs S = record {
+  n = size S;
+  cost = costOf S;
+  rel = releaseOf S;
+  key = keyOf S;
+  cost-pos = S .cost-pos;
+  rel-grows = λ i l j. omega (arith, period-pos S i l);
+  key-grows = keys-grow S;
+  key-apart = keys-apart S;
+}
+
+abbrev pub dues : (S : System) → Dues (jobs S)
+dues S = record {
+  due = dueOf S;
+  cut = λ t. t * size S + (size S - 1);
+  cut-law = keys-cut S;
+  rel-due = λ i j l. omega (arith, S .deadline-pos i l);
+  due-grows = λ i l j. omega (arith, period-pos S i l);
+}
+
+-- The model's demand is that of the streams.
+pub demand-streams : (S : System) (t1 t2 : ℕ) → demand (S .table) t1 t2 ≡ streams.demand (jobs S) (dues S) t1 t2
+unfolding demand jobsIn streams.demand
+demand-streams S t1 t2 = refl
