@@ -40,6 +40,10 @@ Late J D s t = (i : ℕ) × (j : ℕ) × (i < J .n) × (D .due i j ≤ t) × (s 
 abbrev pub Miss : (J : Jobs) → Dues J → (ℕ → ℕ → ℕ) → ℕ → Type 0
 Miss J D s t = (i : ℕ) × (j : ℕ) × (i < J .n) × (D .due i j ≡ t) × (s t i < J .cost i * suc j)
 
+-- Every job is done by its deadline.
+abbrev pub Met : (J : Jobs) → Dues J → (ℕ → ℕ → ℕ) → Type 0
+Met J D s = (i j : ℕ) → i < J .n → J .cost i * suc j ≤ s (D .due i j) i
+
 module _ (J : Jobs) (D : Dues J) where
   -- All work that is due by t.
   abbrev pub total : ℕ → ℕ
@@ -112,11 +116,11 @@ module _ (J : Jobs) (D : Dues J) (s : ℕ → ℕ → ℕ) (R : Run J s) where
 
   -- The run meets every deadline exactly if no interval asks too much.
   pub criterion :
-      ((i j : ℕ) → i < J .n → J .cost i * suc j ≤ s (D .due i j) i)
+      Met J D s
       ↔ ((t1 t2 : ℕ) → t1 < t2 → demand J D t1 t2 ≤ t2 - t1)
   criterion = (λ h t1 t2 l. fwd h t1 t2 l (decLe _ _), λ h i j l. bwd h i j l (decLe _ _))
     where
-      fwd : ((i j : ℕ) → i < J .n → J .cost i * suc j ≤ s (D .due i j) i) → (t1 t2 : ℕ) → t1 < t2 → Dec (demand J D t1 t2 ≤ t2 - t1) → demand J D t1 t2 ≤ t2 - t1
+      fwd : Met J D s → (t1 t2 : ℕ) → t1 < t2 → Dec (demand J D t1 t2 ≤ t2 - t1) → demand J D t1 t2 ≤ t2 - t1
       fwd h t1 t2 l (yes p) = p
       fwd h t1 t2 l (no p) =
           let (i, j, b, d, q) = late-iff-over t2 .1 (t1, l, omega arith) in

@@ -145,8 +145,12 @@ module _ (J : Jobs) (s : ℕ → ℕ → ℕ) (R : Run J s) where
   pub served-mono : (i : ℕ) → i < J .n → (t u : ℕ) → t ≤ u → s t i ≤ s u i
   served-mono i l t u h = le-ind (λ (x : ℕ). s t i ≤ s x i) (le-refl (s t i)) (λ m k ih. omega (arith, served-up i l m)) u h
 
+-- Job j of stream i is done at t, and not before.
+abbrev pub DoneFirst : Jobs → (ℕ → ℕ → ℕ) → ℕ → ℕ → ℕ → Type 0
+DoneFirst J s i j = Least (λ t. J .cost i * suc j ≤ s t i)
+
 module _ (J : Jobs) (s : ℕ → ℕ → ℕ) (R : Run J s) (i j : ℕ) (l : i < J .n) where
-  -- Job j of stream i is done; no work up to its key is left after its release.
+  -- It is done; no work up to its key is left after its release.
   abbrev Done : ℕ → Type 0
   Done t = J .cost i * suc j ≤ s t i
 

@@ -7,3 +7,9 @@ pub mod System
 pub mod ModelRun
 pub mod RunSchedule
 pub mod Necessary
+pub mod Shift
+pub mod Repeats
+pub mod Worst
+pub mod Horizon
+pub mod Domination
+pub mod History

@@ -1,0 +1,92 @@
+-- THE STATE REPEATS: from one round after the start on, every job is as far as its twin a round later will be.
+use mathlib.Core.Path.{_≡_, refl, sym, ap, _∙_}
+use mathlib.Core.Logic.{_≢_, _↔_}
+use Prim.Native.Nat.{ℕ, zero, suc, _+_, _-_, _*_, _≤_, _<_, min}
+use native.Mathlib.Nat.{mul-pos, mul-le-mul-left, min-eq-left}
+use native.Mathlib.Omega.{arith}
+use Rattle.counting.specs.Sum.{sum-by}
+use Rattle.counting.specs.Below.{below, lt-below, below-below, below-at, below-after}
+use Rattle.backlog.specs.Streams.{Jobs, Run, released, work, left, leftOf}
+use Rattle.backlog.specs.System.{System, size, costOf, releaseOf, dueOf, keyOf, jobs}
+use Rattle.backlog.specs.Shift.{Cycle, Light, release-later, key-later, left-up, left-down}
+
+-- What is left of job j of stream i, once it is released.
+abbrev pub restOf : Jobs → (ℕ → ℕ → ℕ) → ℕ → ℕ → ℕ → ℕ
+restOf J s t i j = min (J .cost i) (J .cost i * suc j - s t i)
+
+-- With p slots for the jobs before it and q with it.
+part : (c p q r s : ℕ) → q ≡ p + c → q ≤ r → min q r - min s q ≡ (min p r - min s p) + min c (q - s)
+part c p q r s e h = let g : p ≤ r = omega arith in rw (min-eq-left h, min-eq-left g) (core c p q s e)
+  where
+    core : (c p q s : ℕ) → q ≡ p + c → q - min s q ≡ (p - min s p) + min c (q - s)
+    core c p q s e = omega arith
+
+module _ (J : Jobs) (s : ℕ → ℕ → ℕ) (R : Run J s) where
+  -- The work up to the key of a job is the work before it and the rest of the job itself.
+  pub job-left : (t i j κ : ℕ) → i < J .n → suc κ ≡ J .key i j → J .rel i j < t → left J s (J .key i j) t ≡ left J s κ t + restOf J s t i j
+  unfolding left
+  job-left t i j κ l e r = sum-by (J .n) (leftOf J (J .key i j) t (s t)) (leftOf J κ t (s t)) i (restOf J s t i j) l own other
+    where
+      here : work J (J .key i j) i ≡ J .cost i * suc j
+      here = ap (λ (x : ℕ). J .cost i * x) (below-after (J .key i) (J .key-grows i l) j)
+
+      before : below (J .key i) (suc κ) ≡ j
+      before = rw e (below-at (J .key i) (J .key-grows i l) j)
+
+      own : leftOf J (J .key i j) t (s t) i ≡ leftOf J κ t (s t) i + restOf J s t i j
+      own =
+          let w : work J κ i ≡ J .cost i * j = ap (λ (x : ℕ). J .cost i * x) before in
+          rw (here, w) (part (J .cost i) (J .cost i * j) (J .cost i * suc j) (released J t i) (s t i) (omega arith) (mul-le-mul-left (J .cost i) (lt-below (J .rel i) (J .rel-grows i l) t j .1 r)))
+
+      other : (k : ℕ) → k < J .n → k ≢ i → leftOf J (J .key i j) t (s t) k ≡ leftOf J κ t (s t) k
+      other k q d = rw same
+        where
+          apart : (b : ℕ) → J .key k b ≢ J .key i j
+          apart b v = d (J .key-apart k b i j q l v)
+
+          same : below (J .key k) (suc (J .key i j)) ≡ below (J .key k) (suc κ)
+          same = omega (
+            arith,
+            below-below (J .key k) (J .key k) (J .key-grows k q) (J .key-grows k q) (suc (J .key i j)) (suc κ) (λ b h. omega (arith, apart b)),
+            below-below (J .key k) (J .key k) (J .key-grows k q) (J .key-grows k q) (suc κ) (suc (J .key i j)) (λ b h. omega arith),
+          )
+
+  -- Nothing is left of a job exactly if it is done.
+  pub rest-done : (t i j : ℕ) → i < J .n → (restOf J s t i j ≡ 0) ↔ (J .cost i * suc j ≤ s t i)
+  rest-done t i j l = (λ e. omega (arith, J .cost-pos i l), λ h. omega arith)
+
+module _ (S : System) (Y : Cycle S) (light : Light S Y) (s : ℕ → ℕ → ℕ) (R : Run (jobs S) s) where
+  key-pos : (i j : ℕ) → i < size S → 0 < keyOf S i j
+  key-pos i j l = omega (arith, mul-pos (due-pos i j l) (small l))
+    where
+      small : {i n : ℕ} → i < n → 0 < n
+      small l = omega arith
+
+      due-pos : (i j : ℕ) → i < size S → 0 < dueOf S i j
+      due-pos i j l = omega (arith, S .deadline-pos i l)
+
+  -- What is left of a job, from one round after the start on, is left of its twin a round later.
+  pub repeats : (t i j : ℕ) → i < size S → Y .start + Y .round ≤ t → releaseOf S i j < t → restOf (jobs S) s t i j ≡ restOf (jobs S) s (t + Y .round) i (j + Y .times i)
+  repeats t i j l h r = go (keyOf S i j) refl
+    where
+      go : (k : ℕ) → keyOf S i j ≡ k → restOf (jobs S) s t i j ≡ restOf (jobs S) s (t + Y .round) i (j + Y .times i)
+      go zero e = absurd (omega (arith, key-pos i j l))
+      go (suc κ) e =
+          let f : suc (κ + size S * Y .round) ≡ keyOf S i (j + Y .times i) = omega (arith, key-later S Y i l j) in
+          let k : left (jobs S) s (keyOf S i (j + Y .times i)) (t + Y .round) ≡ left (jobs S) s (keyOf S i j + size S * Y .round) (t + Y .round) = ap (λ (x : ℕ). left (jobs S) s x (t + Y .round)) (key-later S Y i l j) in
+          omega (
+            arith,
+            job-left (jobs S) s R t i j κ l (sym e) r,
+            job-left (jobs S) s R (t + Y .round) i (j + Y .times i) (κ + size S * Y .round) l f (omega (arith, release-later S Y i l j)),
+            left-up S Y s R κ t,
+            left-down S Y s R light κ t h,
+            left-up S Y s R (keyOf S i j) t,
+            left-down S Y s R light (keyOf S i j) t h,
+          )
+
+  -- So one is done exactly if the other is a round later.
+  pub repeats-done : (t i j : ℕ) → i < size S → Y .start + Y .round ≤ t → releaseOf S i j < t → (costOf S i * suc j ≤ s t i) ↔ (costOf S i * suc (j + Y .times i) ≤ s (t + Y .round) i)
+  repeats-done t i j l h r = (
+    λ d. rest-done (jobs S) s R (t + Y .round) i (j + Y .times i) l .0 (sym (repeats t i j l h r) ∙ rest-done (jobs S) s R t i j l .1 d),
+    λ d. rest-done (jobs S) s R t i j l .0 (repeats t i j l h r ∙ rest-done (jobs S) s R (t + Y .round) i (j + Y .times i) l .1 d),
+  )
