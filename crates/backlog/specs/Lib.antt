@@ -13,3 +13,4 @@ pub mod Worst
 pub mod Horizon
 pub mod Domination
 pub mod History
+pub mod RunHistory

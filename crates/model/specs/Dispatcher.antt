@@ -1,40 +1,56 @@
 -- The dispatcher: its state, when a state belongs to a table, the start, and the step in its four rules.
+use mathlib.Core.List.{List}
 use mathlib.Core.Bool.{Bool, cond, not, _&&_, _||_}
 use Prim.Native.Nat.{ℕ, _-_, max}
 use lib.Dec.{ltb, eqb}
 use lib.ListN.{getD, replicate}
-use Rattle.model.specs.Values.{Table, Judgement, Admission, Dispatcher, Started, Turn, Given, Stepped}
+use Rattle.model.specs.Values.{Table, Judgement, Admission, Turn, Given}
 use Rattle.model.specs.Notation.{count, first, bits, fill}
 use Rattle.model.specs.Limits.{taskLimit}
 use Rattle.model.specs.Tasks.{task, judged}
 use Rattle.model.specs.Run.{tieOrder, choose}
 
+-- For each task the slots until its next release, and those that its open job may still use; which task ran last, or `taskLimit`.
+pub record State : Type 0 where
+  pub wait : List ℕ
+  pub left : List ℕ
+  pub last : ℕ
+
+-- A started dispatcher; a step's answer and the successor.
+pub record Started : Type 0 where
+  pub admission : Admission
+  pub state : State
+
+pub record Stepped : Type 0 where
+  pub given : Given
+  pub state : State
+
 -- The wait of task i, and the slots its open job may still use. An open job has at least one.
-abbrev pub waitOf : Dispatcher → ℕ → ℕ
+abbrev pub waitOf : State → ℕ → ℕ
 waitOf d i = getD (d .wait) i 0
 
-abbrev pub leftOf : Dispatcher → ℕ → ℕ
+abbrev pub leftOf : State → ℕ → ℕ
 leftOf d i = getD (d .left) i 0
 
-abbrev pub isOpen : Dispatcher → ℕ → Bool
+abbrev pub isOpen : State → ℕ → Bool
 isOpen d i = ltb 0 (leftOf d i)
 
 -- Task i of the state does not belong to the table.
-abbrev pub strange : Table → Dispatcher → ℕ → Bool
+abbrev pub strange : Table → State → ℕ → Bool
 strange t d i =
     ltb (max (task t i .offset) (task t i .period)) (waitOf d i)
     || ltb (task t i .cost) (leftOf d i)
     || (isOpen d i && (ltb (waitOf d i) (task t i .period - task t i .deadline) || ltb (task t i .period - 1) (waitOf d i)))
 
 -- The first task that does not belong, or the count; and whether the last-run number is neither none nor a task.
-unfoldable pub firstStrange : Table → Dispatcher → ℕ
+unfoldable pub firstStrange : Table → State → ℕ
 firstStrange t d = first (strange t d) 0 (t .count)
 
-abbrev pub lastStrange : Table → Dispatcher → Bool
+abbrev pub lastStrange : Table → State → Bool
 lastStrange t d = not (eqb (d .last) taskLimit || ltb (d .last) (t .count))
 
 -- At the start the waits are the offsets, no job is open and no task ran last.
-unfoldable pub startOf : Table → Dispatcher
+unfoldable pub startOf : Table → State
 startOf t =
     record {
       wait = fill (t .count) (λ i. task t i .offset) (replicate taskLimit 0);
@@ -49,7 +65,7 @@ startJudged t (Judgement.WellFormed m) = record { admission = Admission.Admitted
 unfoldable pub started : Table → Started
 started t = startJudged t (judged t)
 
-module _ (t : Table) (d : Dispatcher) (done : Bool) where
+module _ (t : Table) (d : State) (done : Bool) where
   -- Rule 1: a done report closes the open job of the task that ran last.
   abbrev pub leftDone : ℕ → ℕ
   leftDone i = cond (done && eqb (d .last) i) 0 (leftOf d i)
@@ -73,7 +89,7 @@ module _ (t : Table) (d : Dispatcher) (done : Bool) where
   ownerNow = choose (λ i. ltb 0 (leftReleased i)) (λ i. waitReleased i - (task t i .period - task t i .deadline)) (tieOrder t) (t .count)
 
   -- It has one slot fewer left, and every wait goes down by one. Entries past the last task stay as they came.
-  unfoldable pub after : Dispatcher
+  unfoldable pub after : State
   after =
       record {
         wait = fill (t .count) (λ i. waitReleased i - 1) (d .wait);
@@ -91,16 +107,16 @@ module _ (t : Table) (d : Dispatcher) (done : Bool) where
         lowest = first isLate 0 taskLimit;
       }
 
--- A step on any table and any state: refused by the table's number, then by 8, or taken.
-abbrev pub refuse : ℕ → ℕ → Dispatcher → Stepped
+-- A step on any table and any state: refused by the table's number, then by 8, or taken. A refusal hands the state back as it came.
+abbrev pub refuse : ℕ → ℕ → State → Stepped
 refuse n p d = record { given = Given.Refused (record { number = n; place = p }); state = d }
 
-abbrev pub stepJudged : Table → Dispatcher → Bool → Judgement → Stepped
+abbrev pub stepJudged : Table → State → Bool → Judgement → Stepped
 stepJudged t d done (Judgement.Refused r) = refuse (r .number) (r .place) d
 stepJudged t d done (Judgement.WellFormed m) =
     cond (ltb (firstStrange t d) (t .count)) (refuse 8 (firstStrange t d) d)
     (cond (lastStrange t d) (refuse 8 taskLimit d)
     (record { given = Given.Slot (turn t d done); state = after t d done }))
 
-unfoldable pub stepped : Table → Dispatcher → Bool → Stepped
+unfoldable pub stepped : Table → State → Bool → Stepped
 stepped t d done = stepJudged t d done (judged t)

@@ -4,7 +4,7 @@ use mathlib.Core.List.{List, [], _∷_, _++_, map}
 use mathlib.Core.Bool.{Bool, true, false}
 use Prim.Native.Nat.{ℕ, zero, suc, _-_, _/_, _%_}
 use lib.ListN.{replicate}
-use Rattle.model.specs.Values.{Task, Table, Judgement, Verdict, Outcome, Empty, Admission, Dispatcher, Given}
+use Rattle.model.specs.Values.{Task, Table, Judgement, Verdict, Outcome, Empty, Admission, Given}
 use Rattle.model.specs.Notation.{sum, product, largest, count, first, last, bits, fill, text, digits, decimal}
 use Rattle.model.specs.Limits.{taskLimit, longestFile}
 use Rattle.model.specs.Tasks.{taskFault, firstFaulty, round, load, horizon, refuse, judged}
@@ -13,7 +13,7 @@ use Rattle.model.specs.Schedule.{given}
 use Rattle.model.specs.Run.{tieOrder, choose, ownerOf, served, owner, run, firstEmpty}
 use Rattle.model.specs.Verdict.{needed, lateStart, verdict, settledBy, emptyIn, brief}
 use Rattle.model.specs.TableFile.{recordAt, tableOf, readFrom, formOf, loadedFrom}
-use Rattle.model.specs.Dispatcher.{firstStrange, startOf, ownerNow, after, turn, stepped}
+use Rattle.model.specs.Dispatcher.{State, firstStrange, startOf, ownerNow, after, turn, stepped}
 use Rattle.model.specs.Report.{worstLines, reportOf, refusalLine}
 
 -- A task as document 01 writes it, and its tables.
@@ -181,7 +181,7 @@ file-refusals = refl
 -- ---- the dispatcher
 
 -- The owners of some steps from a start, with these done reports; and where they end.
-steps : Table → Dispatcher → List Bool → List ℕ
+steps : Table → State → List Bool → List ℕ
 steps t d [] = []
 steps t d (done ∷ more) = turn t d done .owner ∷ steps t (after t d done) more
 

@@ -13,11 +13,8 @@ pub use Rattle.model.specs.declared.Answer.{Answer}
 pub use Rattle.model.specs.declared.Record.{Record}
 pub use Rattle.model.specs.declared.Admission.{Admission}
 pub use Rattle.model.specs.declared.Loaded.{Loaded}
-pub use Rattle.model.specs.declared.Dispatcher.{Dispatcher}
-pub use Rattle.model.specs.declared.Started.{Started}
 pub use Rattle.model.specs.declared.Turn.{Turn}
 pub use Rattle.model.specs.declared.Given.{Given}
-pub use Rattle.model.specs.declared.Stepped.{Stepped}
 
 -- A number of document 01, and the values that go with it.
 pub record Said : Type 0 where

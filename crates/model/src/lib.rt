@@ -69,7 +69,7 @@ pub enum Record {
     End,
 }
 
-// Whether a file, or a table to be started, is taken.
+// Whether a file, or a table to start with, is taken.
 pub enum Admission {
     Refused(Refusal),
     Admitted,
@@ -82,20 +82,6 @@ pub struct Loaded {
     pub table: Table,
 }
 
-// The dispatcher's state: for each task the slots to its next release and those that its open job may still use;
-// the task that ran last, or 16.
-pub struct Dispatcher {
-    pub wait: [u32; 16],
-    pub left: [u32; 16],
-    pub last: u32,
-}
-
-// A started dispatcher. Of a refused table the state is all 0.
-pub struct Started {
-    pub admission: Admission,
-    pub state: Dispatcher,
-}
-
 // What a step says: the task that owns the slot, or 16; the tasks closed late as a set of bits, how many they are, and
 // the lowest of them, or 16.
 pub struct Turn {
@@ -105,13 +91,8 @@ pub struct Turn {
     pub lowest: u32,
 }
 
+// The answer of a step: a refusal, or what it says.
 pub enum Given {
     Refused(Refusal),
     Slot(Turn),
-}
-
-// The answer of a step and its successor. A refused step hands the state back as it came.
-pub struct Stepped {
-    pub given: Given,
-    pub state: Dispatcher,
 }
