@@ -14,3 +14,6 @@ pub mod Horizon
 pub mod Domination
 pub mod History
 pub mod RunHistory
+pub mod TableSystem
+pub mod Decided
+pub mod Verdicts
