@@ -38,7 +38,7 @@ within-iff a b x =
       λ h. both .1 (le→leb a x (h .0), le→leb x b (h .1)),
     )
 
--- No number of a fault: the test holds, and the checks after it find none.
+-- Where no fault is found, the test holds, and the checks after it find none; and the other way.
 kept : (p : Bool) (n : ℕ) {m : ℕ} → cond (not p) (suc n) m ≡ 0 → T p × (m ≡ 0)
 kept true n e = (tt, e)
 kept false n e = absurd (omega arith)
@@ -47,13 +47,13 @@ kept-test : (p : Bool) (n : ℕ) {m : ℕ} → T p → cond (not p) n m ≡ m
 kept-test true n t = refl
 
 -- A task without a fault keeps its ranges.
-pub faultless : (k : Task) → taskFault k ≡ 0 → InRange k
+faultless : (k : Task) → taskFault k ≡ 0 → InRange k
 unfolding taskFault
 faultless k e =
     let (period, e₁) = kept (within 1 slotLimit (k .period)) 2 e in
     let (deadline, e₂) = kept (within 1 (k .period) (k .deadline)) 3 e₁ in
     let (cost, e₃) = kept (within 1 (k .deadline) (k .cost)) 4 e₂ in
-    let (offset, e₄) = kept (within 0 slotLimit (k .offset)) 5 e₃ in
+    let (offset, none) = kept (within 0 slotLimit (k .offset)) 5 e₃ in
     let p = within-iff 1 slotLimit (k .period) .0 period in
     let d = within-iff 1 (k .period) (k .deadline) .0 deadline in
     let c = within-iff 1 (k .deadline) (k .cost) .0 cost in
@@ -68,7 +68,7 @@ faultless k e =
     }
 
 -- A task that keeps its ranges has no fault.
-pub no-fault : (k : Task) → InRange k → taskFault k ≡ 0
+no-fault : (k : Task) → InRange k → taskFault k ≡ 0
 unfolding taskFault
 no-fault k r =
     rw (
