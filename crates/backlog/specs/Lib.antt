@@ -21,4 +21,6 @@ pub mod Necessary
 pub mod Decided
 pub mod Verdicts
 pub mod Answers
+pub mod Stepping
+pub mod StepHistory
 pub mod Instances
