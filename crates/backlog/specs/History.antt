@@ -100,7 +100,7 @@ module _ (J : Jobs) (D : Dues J) (told : ℕ → ℕ → Type 0) (open' ready ga
         not-open J open' dispatches s R i j t l (omega (arith, q .0, served-mono J s R i l g t (omega (arith, worst j g q)))) (current i j t l c b)
 
     -- As long as a job is not reported, what it was given and what is left make its cost.
-    account : (i j d : ℕ) → i < J .n → J .rel i j + d < J .rel i (suc j) → ((u : ℕ) × (0 < u) × (u ≤ d) × told (J .rel i j + u) i) ⊎ (givenTo i (J .rel i j) (suc d) + open' (J .rel i j + suc d) i ≡ J .cost i)
+    pub account : (i j d : ℕ) → i < J .n → J .rel i j + d < J .rel i (suc j) → ((u : ℕ) × (0 < u) × (u ≤ d) × told (J .rel i j + u) i) ⊎ (givenTo i (J .rel i j) (suc d) + open' (J .rel i j + suc d) i ≡ J .cost i)
     unfolding sum
     account i j zero l h = inr (first-slot i j l)
     account i j (suc d) l h = go (account i j d l (omega arith)) (P .kept (J .rel i j + suc d) i l (between i j d l (omega arith)))

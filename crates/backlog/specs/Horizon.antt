@@ -10,7 +10,7 @@ use Rattle.counting.specs.Below.{below, below-least, below-bound}
 use Rattle.backlog.specs.Streams.{Run, left, work, released}
 use Rattle.backlog.specs.Criterion.{Late, Over, late-of-left, left-of-late, late-iff-over, demand, demand-is}
 use Rattle.backlog.specs.System.{System, size, costOf, periodOf, releaseOf, keyOf, jobs, dues}
-use Rattle.backlog.specs.Shift.{Cycle, Light, loadOf, left-down}
+use Rattle.backlog.specs.Shift.{Cycle, horizonOf, Light, loadOf, left-down}
 
 module _ (S : System) (Y : Cycle S) (light : Light S Y) (s : ℕ → ℕ → ℕ) (R : Run (jobs S) s) where
   abbrev LateBy : ℕ → Type 0
@@ -22,18 +22,18 @@ module _ (S : System) (Y : Cycle S) (light : Light S Y) (s : ℕ → ℕ → ℕ
       let e : (dues S) .cut (t + Y .round) ≡ (dues S) .cut t + size S * Y .round = omega arith in
       late-of-left (jobs S) (dues S) s R t (omega (arith, left-down S Y s R light ((dues S) .cut t) t h, left-of-late (jobs S) (dues S) s R (t + Y .round) p, ap (λ (x : ℕ). left (jobs S) s x (t + Y .round)) e))
 
-  late-soon : (t : ℕ) → LateBy t → (u : ℕ) × (u ≤ Y .start + 2 * Y .round) × LateBy u
-  late-soon = strong {P = λ t. LateBy t → (u : ℕ) × (u ≤ Y .start + 2 * Y .round) × LateBy u} step
+  late-soon : (t : ℕ) → LateBy t → (u : ℕ) × (u ≤ horizonOf S Y) × LateBy u
+  late-soon = strong {P = λ t. LateBy t → (u : ℕ) × (u ≤ horizonOf S Y) × LateBy u} step
     where
-      step : (t : ℕ) → ((v : ℕ) → v < t → LateBy v → (u : ℕ) × (u ≤ Y .start + 2 * Y .round) × LateBy u) → LateBy t → (u : ℕ) × (u ≤ Y .start + 2 * Y .round) × LateBy u
-      step t ih p = go (decLe t (Y .start + 2 * Y .round))
+      step : (t : ℕ) → ((v : ℕ) → v < t → LateBy v → (u : ℕ) × (u ≤ horizonOf S Y) × LateBy u) → LateBy t → (u : ℕ) × (u ≤ horizonOf S Y) × LateBy u
+      step t ih p = go (decLe t (horizonOf S Y))
         where
-          go : Dec (t ≤ Y .start + 2 * Y .round) → (u : ℕ) × (u ≤ Y .start + 2 * Y .round) × LateBy u
+          go : Dec (t ≤ horizonOf S Y) → (u : ℕ) × (u ≤ horizonOf S Y) × LateBy u
           go (yes h) = (t, h, p)
           go (no h) = ih (t - Y .round) (omega (arith, Y .round-pos)) (late-down (t - Y .round) (omega arith) (subst LateBy (sym (sub-add-cancel {n = t} {m = Y .round} (omega arith))) p))
 
   -- An interval that asks too much can be had that ends by the horizon.
-  pub over-soon : (t : ℕ) → Over (jobs S) (dues S) t → (u : ℕ) × (u ≤ Y .start + 2 * Y .round) × Over (jobs S) (dues S) u
+  pub over-soon : (t : ℕ) → Over (jobs S) (dues S) t → (u : ℕ) × (u ≤ horizonOf S Y) × Over (jobs S) (dues S) u
   over-soon t p =
       let (u, h, q) = late-soon t (late-iff-over (jobs S) (dues S) s R t .1 p) in
       (u, h, late-iff-over (jobs S) (dues S) s R u .0 q)

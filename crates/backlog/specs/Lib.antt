@@ -1,16 +1,26 @@
+-- Any streams of jobs: the backlog of a class, the criterion, domination.
 pub mod Queue
 pub mod Streams
 pub mod Left
 pub mod Criterion
-pub mod Choice
+pub mod Domination
+pub mod History
+-- A table, its run, and one round later.
 pub mod System
+pub mod Choice
 pub mod ModelRun
 pub mod RunSchedule
-pub mod Necessary
 pub mod Shift
 pub mod Repeats
 pub mod Worst
 pub mod Horizon
-pub mod Domination
-pub mod History
 pub mod RunHistory
+-- The model's own words.
+pub mod TableSystem
+pub mod Necessary
+pub mod Decided
+pub mod Verdicts
+pub mod Answers
+pub mod Stepping
+pub mod StepHistory
+pub mod Instances

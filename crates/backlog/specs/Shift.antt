@@ -22,6 +22,10 @@ pub record Cycle (S : System) : Type 0 where
   pub common : (i : ℕ) → i < size S → times i * periodOf S i ≡ round
   pub starts : (i : ℕ) → i < size S → offsetOf S i ≤ start
 
+-- The horizon: the start and two rounds.
+abbrev pub horizonOf : (S : System) → Cycle S → ℕ
+horizonOf S Y = Y .start + 2 * Y .round
+
 -- The jobs of a round ask for this many slots; without overload they fit it.
 unfoldable pub loadOf : (S : System) → Cycle S → ℕ
 loadOf S Y = sum (size S) (λ i. costOf S i * Y .times i)

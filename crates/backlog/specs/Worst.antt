@@ -15,7 +15,7 @@ use Rattle.backlog.specs.Criterion.{Met}
 use Rattle.backlog.specs.System.{System, size, costOf, periodOf, releaseOf, dueOf, keyOf, jobs, dues, period-pos}
 use Rattle.backlog.specs.ModelRun.{servedOf, model-run}
 use Rattle.backlog.specs.RunSchedule.{finishes-iff}
-use Rattle.backlog.specs.Shift.{Cycle, Light, release-later, key-later, left-down}
+use Rattle.backlog.specs.Shift.{Cycle, horizonOf, Light, release-later, key-later, left-down}
 use Rattle.backlog.specs.Repeats.{repeats-done}
 
 module _ (S : System) (Y : Cycle S) (light : Light S Y) (s : ℕ → ℕ → ℕ) (R : Run (jobs S) s) (met : Met (jobs S) (dues S) s) (i : ℕ) (l : i < size S) where
@@ -42,24 +42,24 @@ module _ (S : System) (Y : Cycle S) (light : Light S Y) (s : ℕ → ℕ → ℕ
 
   -- Some job that finishes by the horizon has no smaller response than job j, which finishes at f.
   abbrev pub Seen : ℕ → ℕ → Type 0
-  Seen j f = (k : ℕ) × (g : ℕ) × DoneFirst (jobs S) s i k g × (g ≤ Y .start + 2 * Y .round) × (f - releaseOf S i j ≤ g - releaseOf S i k)
+  Seen j f = (k : ℕ) × (g : ℕ) × DoneFirst (jobs S) s i k g × (g ≤ horizonOf S Y) × (f - releaseOf S i j ≤ g - releaseOf S i k)
 
   -- Every response is at most one that is seen by the horizon.
   pub worst-seen : (j f : ℕ) → DoneFirst (jobs S) s i j f → Seen j f
   worst-seen j = strong {P = λ j. (f : ℕ) → DoneFirst (jobs S) s i j f → Seen j f} step j
     where
       step : (j : ℕ) → ((k : ℕ) → k < j → (f : ℕ) → DoneFirst (jobs S) s i k f → Seen k f) → (f : ℕ) → DoneFirst (jobs S) s i j f → Seen j f
-      step j ih f d = go (decLe f (Y .start + 2 * Y .round))
+      step j ih f d = go (decLe f (horizonOf S Y))
         where
           -- A finish after the horizon is of a release after one round less.
-          far : Y .start + 2 * Y .round < f → Y .start + Y .round < releaseOf S i j
+          far : horizonOf S Y < f → Y .start + Y .round < releaseOf S i j
           far h = elim (decLe f (dueOf S i j)) [ yes p ↦ omega (arith, S .deadline-le i l, period-le) | no p ↦ absurd (d .1 (dueOf S i j) (omega arith) (met i j l)) ]
 
           late-number : Y .start + Y .round < releaseOf S i j → Dec (Y .times i ≤ j) → Y .times i ≤ j
           late-number h (yes p) = p
           late-number h (no p) = let q : j ≤ Y .times i = omega arith in absurd (omega (arith, Y .starts i l, Y .common i l, mul-le-mul-right (periodOf S i) q))
 
-          back : Y .start + 2 * Y .round < f → (k : ℕ) → k + Y .times i ≡ j → Seen j f
+          back : horizonOf S Y < f → (k : ℕ) → k + Y .times i ≡ j → Seen j f
           back h k e = at (finishes k)
             where
               rel : releaseOf S i j ≡ releaseOf S i k + Y .round
@@ -82,12 +82,12 @@ module _ (S : System) (Y : Cycle S) (light : Light S Y) (s : ℕ → ℕ → ℕ
                       let y = repeats-done S Y light s R (Y .start + Y .round) i k l (le-refl _) (omega arith) .0 (omega (arith, q .0)) in
                       omega (arith, j-done (Y .start + Y .round + Y .round) y)
 
-          go : Dec (f ≤ Y .start + 2 * Y .round) → Seen j f
+          go : Dec (f ≤ horizonOf S Y) → Seen j f
           go (yes p) = (j, f, d, p, le-refl _)
-          go (no p) = let h : Y .start + 2 * Y .round < f = omega arith in back h (j - Y .times i) (sub-add-cancel {n = j} {m = Y .times i} (late-number (far h) (decLe _ _)))
+          go (no p) = let h : horizonOf S Y < f = omega arith in back h (j - Y .times i) (sub-add-cancel {n = j} {m = Y .times i} (late-number (far h) (decLe _ _)))
 
   -- A bound of the responses that are seen by the horizon is one for ever.
-  pub worst-for-ever : (w : ℕ) → ((j f : ℕ) → DoneFirst (jobs S) s i j f → f ≤ Y .start + 2 * Y .round → f - releaseOf S i j ≤ w) → (j f : ℕ) → DoneFirst (jobs S) s i j f → f - releaseOf S i j ≤ w
+  pub worst-for-ever : (w : ℕ) → ((j f : ℕ) → DoneFirst (jobs S) s i j f → f ≤ horizonOf S Y → f - releaseOf S i j ≤ w) → (j f : ℕ) → DoneFirst (jobs S) s i j f → f - releaseOf S i j ≤ w
   worst-for-ever w h j f d = let (k, g, q, a, b) = worst-seen j f d in omega (arith, h k g q a)
 
   -- And something is seen.
@@ -109,7 +109,7 @@ module _ (S : System) (Y : Cycle S) (light : Light S Y) (met : Met (jobs S) (due
 
   -- A response that is attained, and is the largest of those seen by the horizon, is the worst.
   pub worst-is : (w j f : ℕ) → Ends j f → f - releaseOf S i j ≡ w
-      → ((j f : ℕ) → Ends j f → f ≤ Y .start + 2 * Y .round → f - releaseOf S i j ≤ w) → Worst (S .table) (S .rank) i w
+      → ((j f : ℕ) → Ends j f → f ≤ horizonOf S Y → f - releaseOf S i j ≤ w) → Worst (S .table) (S .rank) i w
   worst-is w j f d e h = record {
     attained = (j, f, d, e);
     bound = λ j f d. worst-for-ever S Y light (servedOf S) (model-run S) met i l w (λ j f d. h j f (finishes-iff S i j f l .1 d)) j f (finishes-iff S i j f l .0 d);
@@ -118,13 +118,13 @@ module _ (S : System) (Y : Cycle S) (light : Light S Y) (met : Met (jobs S) (due
   -- There is one,
   pub worst-exists : (w : ℕ) × Worst (S .table) (S .rank) i w
   worst-exists =
-      let (k, m, h) = greatest response (Y .start + 2 * Y .round) in
+      let (k, m, h) = greatest response (horizonOf S Y) in
       (response k, worst-is (response k) k (ends k .0) (ends k .1) refl (seen k h))
     where
       response : ℕ → ℕ
       response j = ends j .0 - releaseOf S i j
 
-      seen : (k : ℕ) → ((j : ℕ) → j ≤ Y .start + 2 * Y .round → response j ≤ response k) → (j f : ℕ) → Ends j f → f ≤ Y .start + 2 * Y .round → f - releaseOf S i j ≤ response k
+      seen : (k : ℕ) → ((j : ℕ) → j ≤ horizonOf S Y → response j ≤ response k) → (j f : ℕ) → Ends j f → f ≤ horizonOf S Y → f - releaseOf S i j ≤ response k
       seen k h j f d g =
           let e : f ≡ ends j .0 = ends-once j f (ends j .0) d (ends j .1) in
           omega (arith, h j (omega (arith, ends j .2, le-mul-of-pos-right j (period-pos S i l))), ap (λ (x : ℕ). x - releaseOf S i j) e)

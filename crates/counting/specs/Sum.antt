@@ -4,6 +4,7 @@ use mathlib.Core.Logic.{_⊎_, inl, inr, _≢_}
 use Prim.Native.Nat.{ℕ, zero, suc, _+_, _*_, _≤_, _<_}
 use native.Mathlib.Nat.{eq-zero-or-pos, le-refl, le-step}
 use native.Mathlib.Decide.{ℕ-discrete}
+use native.Mathlib.Numerals.{add-one}
 use native.Mathlib.Omega.{arith}
 use Rattle.model.specs.Notation.{sum}
 
@@ -73,3 +74,19 @@ sum-by (suc n) f g k d l e h = go (ℕ-discrete n k) (λ m. sum-by n f g k d m e
         let b : f n ≡ g n + d = rw q e in
         omega arith
     go (no q) ih = omega (arith, ih (omega arith), h n (le-refl (suc n)) q)
+
+-- A sum of n terms that are at most b.
+pub sum-bound : (n : ℕ) (f : ℕ → ℕ) (b : ℕ) → ((i : ℕ) → i < n → f i ≤ b) → sum n f ≤ n * b
+unfolding sum
+sum-bound zero f b h = omega arith
+sum-bound (suc n) f b h = omega (arith, sum-bound n f b (λ i l. h i (le-step l)), h n (le-refl (suc n)))
+
+-- The start of a loop that adds up.
+pub sum-none : (f : ℕ → ℕ) → 0 ≡ sum 0 f
+unfolding sum
+sum-none f = refl
+
+-- A turn of that loop.
+pub sum-more : (f : ℕ → ℕ) (i : ℕ) {s r : ℕ} → s ≡ sum i f → r ≡ s + f i → r ≡ sum (i + 1) f
+unfolding sum
+sum-more f i e q = rw add-one (omega arith)

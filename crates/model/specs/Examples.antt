@@ -50,6 +50,10 @@ table-i = tableOf (of 0 3 5 5 ∷ of 2 3 5 5 ∷ [])
 abbrev pub table-j : Table
 table-j = tableOf (of 4 1 1 2 ∷ [])
 
+-- One more, of which two intervals that end at its first late deadline ask too much.
+abbrev table-k : Table
+table-k = tableOf (of 0 1 1 4 ∷ of 1 1 1 4 ∷ of 1 1 1 4 ∷ [])
+
 -- ---- tables
 
 -- The numbers 1 to 7 with their places: no task, seventeen tasks, then T, D, C and O of task 1, each alone and before a later fault; H.
@@ -97,6 +101,12 @@ budgets :
     ≡ Verdict.Undecided ∷ Verdict.Passes ∷ Verdict.Undecided ∷ Verdict.Late 8 15 8 ∷ Verdict.Overload ∷ []
 unfolding verdict needed lateStart lateAt first last round product load horizon largest sum count demand jobsIn
 budgets = refl
+
+-- Of two starts that ask too much up to 2, the larger is named.
+largest-start :
+    (map (λ from. asksTooMuch table-k from 2) (0 ∷ 1 ∷ []) ≡ true ∷ true ∷ []) × (verdict table-k 1000 ≡ Verdict.Late 1 2 2)
+unfolding verdict needed lateStart lateAt first last round product load horizon largest sum count demand jobsIn
+largest-start = (refl, refl)
 
 -- The closed formula of the source documents would name 0 to 3 on h: it invents a job of task 0 before its first release at 4.
 no-job-before-the-first : (jobsIn (of 4 1 1 2) 0 3 ≡ 0) × (asksTooMuch table-h 0 3 ≡ false)

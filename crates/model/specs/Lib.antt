@@ -9,5 +9,6 @@ pub mod Run
 pub mod Verdict
 pub mod TableFile
 pub mod Dispatcher
+pub mod History
 pub mod Report
 pub mod Examples

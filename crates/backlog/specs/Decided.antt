@@ -1,0 +1,107 @@
+-- DEMAND 2: what the model's verdict means for schedules, for ever.
+use mathlib.Core.Logic.{_↔_}
+use Prim.Native.Nat.{ℕ, suc, _-_, _*_, _≤_, _<_}
+use native.Mathlib.Decide.{decLe}
+use native.Mathlib.Omega.{arith}
+use lib.Dec.{T}
+use Rattle.model.specs.Notation.{Least}
+use Rattle.model.specs.declared.Table.{Table}
+use Rattle.model.specs.Tasks.{round, load, horizon}
+use Rattle.model.specs.Demand.{demand, asksTooMuch, lateAt}
+use Rattle.model.specs.Schedule.{Schedule, given, Good}
+use Rattle.model.specs.Run.{run}
+use Rattle.counting.specs.Count.{tests, and-iff, some-iff}
+use Rattle.wellformed.specs.Ranges.{Ranged}
+use Rattle.backlog.specs.Criterion as streams
+use Rattle.backlog.specs.Criterion.{Over, Met, late-iff-over, criterion}
+use Rattle.backlog.specs.System.{System, size, costOf, dueOf, jobs, dues, demand-streams}
+use Rattle.backlog.specs.ModelRun.{servedOf, model-run}
+use Rattle.backlog.specs.RunSchedule.{done-iff, run-good}
+use Rattle.backlog.specs.Necessary.{necessary}
+use Rattle.backlog.specs.Horizon.{over-soon, overload}
+use Rattle.backlog.specs.TableSystem.{tie-ranks, systemOf, cycleOf, load-is, horizon-is}
+
+-- No interval of the table ever asks too much; some schedule of it is good.
+abbrev pub NeverTooMuch : Table → Type 0
+NeverTooMuch t = (from to : ℕ) → T (asksTooMuch t from to) → ⊥
+
+abbrev pub Feasible : Table → Type 0
+Feasible t = (σ : Schedule) × Good t σ
+
+-- An interval that asks too much, read.
+pub too-much-iff : (t : Table) (from to : ℕ) → T (asksTooMuch t from to) ↔ ((from < to) × (to - from < demand t from to))
+too-much-iff t from to = (λ h. let w = simp and-iff at h in (omega tests, omega tests), λ h. simp and-iff (omega (tests, h .0), omega (tests, h .1)))
+
+-- A late deadline is where some interval that asks too much ends.
+pub late-at-iff : (t : Table) (to : ℕ) → T (lateAt t to) ↔ ((from : ℕ) × T (asksTooMuch t from to))
+unfolding lateAt
+late-at-iff t to = (
+  λ h. let (from, l, w) = some-iff (λ from. asksTooMuch t from to) to .0 h in (from, w),
+  λ h. some-iff (λ from. asksTooMuch t from to) to .1 (h .0, too-much-iff t (h .0) to .0 (h .1) .0, h .1),
+)
+
+module _ (S : System) where
+  -- The same of the streams.
+  over-iff : (to : ℕ) → T (lateAt (S .table) to) ↔ Over (jobs S) (dues S) to
+  over-iff to = (
+    λ h. let (from, w) = late-at-iff (S .table) to .0 h in let (l, d) = too-much-iff (S .table) from to .0 w in (from, l, omega (arith, demand-streams S from to)),
+    λ h. let (from, l, d) = h in late-at-iff (S .table) to .1 (from, too-much-iff (S .table) from to .1 (l, omega (arith, demand-streams S from to))),
+  )
+
+  -- At u the run has not finished a job that is due by u.
+  abbrev pub Missed : ℕ → Type 0
+  Missed u = (i : ℕ) × (j : ℕ) × (i < size S) × (dueOf S i j ≤ u) × (given (run (S .table) (S .rank)) i j 0 u < costOf S i)
+
+  -- EVERY INSTANT: the run has missed a deadline by u exactly if some interval that ends at u asks too much.
+  pub missed-iff : (u : ℕ) → Missed u ↔ T (lateAt (S .table) u)
+  missed-iff u = (
+    λ h. let (i, j, l, d, g) = h in over-iff u .1 (late-iff-over (jobs S) (dues S) (servedOf S) (model-run S) u .0 (i, j, l, d, unserved i j l g)),
+    λ h. let (i, j, l, d, g) = late-iff-over (jobs S) (dues S) (servedOf S) (model-run S) u .1 (over-iff u .0 h) in (i, j, l, d, ungiven i j l g),
+  )
+    where
+      unserved : (i j : ℕ) → i < size S → given (run (S .table) (S .rank)) i j 0 u < costOf S i → servedOf S u i < costOf S i * suc j
+      unserved i j l g = elim (decLe (costOf S i * suc j) (servedOf S u i)) [ yes p ↦ absurd (omega (arith, done-iff S i j u l .1 p)) | no p ↦ omega arith ]
+
+      ungiven : (i j : ℕ) → i < size S → servedOf S u i < costOf S i * suc j → given (run (S .table) (S .rank)) i j 0 u < costOf S i
+      ungiven i j l g = elim (decLe (costOf S i) (given (run (S .table) (S .rank)) i j 0 u)) [ yes p ↦ absurd (omega (arith, done-iff S i j u l .0 p)) | no p ↦ omega arith ]
+
+  -- So the first miss is the smallest late deadline.
+  pub first-missed : (u : ℕ) → Least Missed u ↔ Least (λ u. T (lateAt (S .table) u)) u
+  first-missed u = (
+    λ h. (missed-iff u .0 (h .0), λ v l w. h .1 v l (missed-iff v .1 w)),
+    λ h. (missed-iff u .1 (h .0), λ v l w. h .1 v l (missed-iff v .0 w)),
+  )
+
+  -- SUFFICIENT: if no interval ever asks too much, the run meets every deadline, and is good.
+  pub met-of-never : NeverTooMuch (S .table) → Met (jobs S) (dues S) (servedOf S)
+  met-of-never h = criterion (jobs S) (dues S) (servedOf S) (model-run S) .1 (λ t1 t2 l. fits t1 t2 l (decLe _ _))
+    where
+      fits : (t1 t2 : ℕ) → t1 < t2 → Dec (streams.demand (jobs S) (dues S) t1 t2 ≤ t2 - t1) → streams.demand (jobs S) (dues S) t1 t2 ≤ t2 - t1
+      fits t1 t2 l (yes p) = p
+      fits t1 t2 l (no p) = absurd (h t1 t2 (too-much-iff (S .table) t1 t2 .1 (l, omega (arith, demand-streams S t1 t2))))
+
+  pub sufficient : NeverTooMuch (S .table) → Good (S .table) (run (S .table) (S .rank))
+  sufficient h = run-good S (met-of-never h)
+
+-- NECESSARY AND SUFFICIENT: some schedule is good exactly if no interval ever asks too much.
+pub feasible-iff : (t : Table) → Ranged t → Feasible t ↔ NeverTooMuch t
+feasible-iff t r = (
+  λ h from to w. let (l, d) = too-much-iff t from to .0 w in omega (arith, necessary (h .0) from to t (h .1)),
+  λ h. (run t _, sufficient (systemOf t r _ (tie-ranks t)) h),
+)
+
+module _ (t : Table) (r : Ranged t) where
+  abbrev S : System
+  S = systemOf t r _ (tie-ranks t)
+
+  -- HORIZON: without overload, load exactly 1 included, a late deadline lies within the horizon if there is one at all.
+  pub late-soon : load t ≤ round t → (to : ℕ) → T (lateAt t to) → (u : ℕ) × (u ≤ horizon t) × T (lateAt t u)
+  late-soon light to h =
+      let (u, l, o) = over-soon S (cycleOf t r _ (tie-ranks t)) (omega (arith, load-is t r _ (tie-ranks t))) (servedOf S) (model-run S) to (over-iff S to .0 h) in
+      (u, omega (arith, horizon-is t r _ (tie-ranks t)), over-iff S u .1 o)
+
+  -- OVERLOAD: some interval asks too much.
+  pub overload-late : round t < load t → (to : ℕ) × T (lateAt t to)
+  overload-late heavy =
+      let (u, o) = overload S (cycleOf t r _ (tie-ranks t)) (omega (arith, load-is t r _ (tie-ranks t))) in
+      (u, over-iff S u .1 o)

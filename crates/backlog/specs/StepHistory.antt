@@ -1,0 +1,198 @@
+-- DEMAND 3 of the model's dispatcher, under any pattern of done reports.
+use mathlib.Core.Path.{_≡_, refl, sym, ap, _∙_}
+use mathlib.Core.Logic.{_⊎_, inl, inr, _≢_}
+use mathlib.Core.Bool.{Bool, _&&_}
+use Prim.Native.Nat.{ℕ, zero, suc, _+_, _-_, _*_, _≤_, _<_}
+use native.Mathlib.Nat.{mul-le-mul-right, add-suc}
+use native.Mathlib.Decide.{ℕ-discrete, decLt}
+use native.Mathlib.Omega.{arith}
+use borrow.Author.Tests.{eq-eqb, ne-eqb, le-leb}
+use lib.Dec.{T, leb, ltb, eqb, ltb→lt, lt→ltb}
+use Rattle.model.specs.declared.Table.{Table}
+use Rattle.model.specs.Notation.{bit, sum, count}
+use Rattle.model.specs.Limits.{taskLimit}
+use Rattle.model.specs.declared.Verdict.{Verdict}
+use Rattle.model.specs.Tasks.{task, release}
+use Rattle.model.specs.Verdict.{verdict}
+use Rattle.model.specs.Run.{tieOrder, Worst}
+use Rattle.model.specs.Dispatcher.{leftOf, isLate, waitReleased, leftReleased}
+use Rattle.model.specs.History.{stateAt, ownerAt, reported, had, Finished}
+use Rattle.counting.specs.Count.{tests, and-iff, bit-no}
+use Rattle.counting.specs.Below.{below, below-bound}
+use Rattle.wellformed.specs.Ranges.{Ranged}
+use Rattle.backlog.specs.Criterion.{Met}
+use Rattle.backlog.specs.Domination.{openKey}
+use Rattle.backlog.specs.History as streams
+use Rattle.backlog.specs.History.{History}
+use Rattle.backlog.specs.System.{System, releaseOf, dueOf, keyOf, jobs, dues}
+use Rattle.backlog.specs.Choice.{NoLater, Chosen}
+use Rattle.backlog.specs.ModelRun.{servedOf, model-run}
+use Rattle.backlog.specs.RunSchedule.{finishes-iff}
+use Rattle.backlog.specs.RunHistory.{constrained}
+use Rattle.backlog.specs.Worst.{worst-range}
+use Rattle.backlog.specs.TableSystem.{tie-ranks, cycleOf}
+use Rattle.backlog.specs.Answers.{light-of-passed, met-of-passed}
+use Rattle.backlog.specs.Stepping.{S, Fresh, Kept, finds, late-is, ready-is, left-after, chosen, sound}
+
+module _ (t : Table) (r : Ranged t) (done : ℕ → Bool) where
+  abbrev table-system : System
+  table-system = S t r done
+
+  abbrev open' : ℕ → ℕ → ℕ
+  open' n i = leftOf (stateAt t done n) i
+
+  abbrev ready : ℕ → ℕ → ℕ
+  ready n i = leftReleased t (stateAt t done n) (done n) i
+
+  abbrev gave : ℕ → ℕ → ℕ
+  gave n i = bit (eqb (ownerAt t done n) i)
+
+  abbrev Choice : ℕ → Type 0
+  Choice n = Chosen (λ i. ltb 0 (ready n i)) (λ i. waitReleased t (stateAt t done n) (done n) i - (task t i .period - task t i .deadline)) (tieOrder t) (t .count) (ownerAt t done n)
+
+  -- What comes no later has no larger key.
+  key-le : (n i k : ℕ) → i < t .count → k < t .count → 0 < ready n i → 0 < ready n k
+      → NoLater (λ i. waitReleased t (stateAt t done n) (done n) i - (task t i .period - task t i .deadline)) (tieOrder t) k i
+      → openKey (jobs table-system) (suc n) k ≤ openKey (jobs table-system) (suc n) i
+  key-le n i k l m p q c =
+      let (a, x, y, z) = ready-is t r done n i (sound t r done n) l p in
+      let (b, u, v, w) = ready-is t r done n k (sound t r done n) m q in
+      let e : below (releaseOf table-system i) (suc n) - 1 ≡ a = omega arith in
+      let f : below (releaseOf table-system k) (suc n) - 1 ≡ b = omega arith in
+      rw (e, f) (go a b y v c)
+    where
+      go : (a b : ℕ) → dueOf table-system i a ≡ n + (waitReleased t (stateAt t done n) (done n) i - (task t i .period - task t i .deadline))
+          → dueOf table-system k b ≡ n + (waitReleased t (stateAt t done n) (done n) k - (task t k .period - task t k .deadline))
+          → NoLater (λ i. waitReleased t (stateAt t done n) (done n) i - (task t i .period - task t i .deadline)) (tieOrder t) k i
+          → keyOf table-system k b ≤ keyOf table-system i a
+      go a b y v (inl h) = let s : suc (dueOf table-system k b) ≤ dueOf table-system i a = omega arith in omega (arith, mul-le-mul-right (t .count) s)
+      go a b y v (inr (h, o)) = let s : dueOf table-system k b ≡ dueOf table-system i a = omega arith in omega (arith, ap (λ (x : ℕ). x * t .count) s)
+
+  pub step-history : History (jobs table-system) (dues table-system) (λ n i. T (reported t done i n)) open' ready gave
+  step-history = record {
+    start = λ i l. nothing i l;
+    fresh = λ n i j l e. fresh n i j l e (finds t r done n i (sound t r done n) l);
+    kept = λ n i l none. kept n i l none (finds t r done n i (sound t r done n) l);
+    spent = λ n i l. spent n i l (ℕ-discrete (ownerAt t done n) i) (chosen t r done n (sound t r done n));
+    slot = λ n. slot n (chosen t r done n (sound t r done n));
+  }
+    where
+      nothing : (i : ℕ) → i < t .count → open' 0 i ≡ 0
+      nothing i l = elim (decLt 0 (open' 0 i)) [
+        | yes p ↦ (let (j, b, d) = sound t r done 0 .current i l p in absurd (omega (arith, below-bound (releaseOf table-system i) ((jobs table-system) .rel-grows i l) 0)))
+        | no p ↦ omega arith
+      ]
+
+      fresh : (n i j : ℕ) → i < t .count → releaseOf table-system i j ≡ n → ((k : ℕ) × Fresh t r done n i k) ⊎ Kept t r done n i → ready n i ≡ task t i .cost
+      fresh n i j l e (inl (k, f)) = f .left
+      fresh n i j l e (inr k) = absurd (k .none j e)
+
+      kept : (n i : ℕ) → i < t .count → ((j : ℕ) → releaseOf table-system i j ≢ n) → ((k : ℕ) × Fresh t r done n i k) ⊎ Kept t r done n i
+          → (ready n i ≡ open' n i) ⊎ ((ready n i ≡ 0) × (T (reported t done i n) ⊎ ((j : ℕ) × (dueOf table-system i j ≡ n))))
+      kept n i l none (inl (k, f)) = absurd (none k (f .now))
+      kept n i l none (inr k) = elim (k .left) [
+        | inl e ↦ inl (e .0)
+        | inr e ↦ inr (e .0, elim (e .1) [ inl x ↦ inl x | inr x ↦ inr (late-is t r done n i (sound t r done n) l x .1) ])
+      ]
+
+      spent : (n i : ℕ) → i < t .count → Dec (ownerAt t done n ≡ i) → Choice n → ready n i ≡ open' (suc n) i + gave n i
+      spent n i l (no e) c = rw (left-after t r done n (sound t r done n) i l, ne-eqb (ownerAt t done n) i e) (omega arith)
+      spent n i l (yes e) (inl c) = absurd (omega (arith, c .none, r .few))
+      spent n i l (yes e) (inr c) =
+          let p : T (ltb 0 (ready n (ownerAt t done n))) = c .opened in
+          let q : T (ltb 0 (ready n i)) = rw e at p in
+          rw (left-after t r done n (sound t r done n) i l, eq-eqb (ownerAt t done n) i e) (omega tests)
+
+      slot : (n : ℕ) → Choice n → ((i : ℕ) → i < t .count → ready n i ≡ 0) ⊎ ((k : ℕ) × (k < t .count) × (0 < ready n k) × ((i : ℕ) → i < t .count → 0 < ready n i → openKey (jobs table-system) (suc n) k ≤ openKey (jobs table-system) (suc n) i) × (gave n k ≡ 1) × ((i : ℕ) → i < t .count → i ≢ k → gave n i ≡ 0))
+      slot n (inl c) = inl (λ i l. elim (decLt 0 (ready n i)) [ yes p ↦ absurd (c .shut i l (lt→ltb 0 (ready n i) p)) | no p ↦ omega arith ])
+      slot n (inr c) =
+          let p : 0 < ready n (ownerAt t done n) = ltb→lt 0 (ready n (ownerAt t done n)) (c .opened) in
+          inr (
+            ownerAt t done n,
+            c .bound,
+            p,
+            λ i l q. key-le n i (ownerAt t done n) l (c .bound) q p (c .ahead i l (lt→ltb 0 (ready n i) q)),
+            rw (eq-eqb (ownerAt t done n) (ownerAt t done n) refl),
+            λ i l e. rw (ne-eqb (ownerAt t done n) i (λ x. e (sym x))),
+          )
+
+  -- The slots that a task had: none before the first one counted, and then slot by slot.
+  had-early : (i from m : ℕ) → m ≤ from → had t done i from m ≡ 0
+  unfolding had count
+  had-early i from zero l = refl
+  had-early i from (suc m) l = omega (arith, had-early i from m (omega arith), bit-no (leb from m && eqb (ownerAt t done m) i) (λ h. absurd (let w = and-iff (leb from m) (eqb (ownerAt t done m) i) .0 h in omega (tests, w .0))))
+
+  had-sum : (i from d : ℕ) → had t done i from (from + d) ≡ sum d (λ u. gave (from + u) i)
+  unfolding had sum count
+  had-sum i from zero = had-early i from (from + 0) (omega arith)
+  had-sum i from (suc d) = rw (add-suc from d) (rw (le-leb from (from + d) (omega arith)) (omega (arith, had-sum i from d)))
+
+  -- NONE GETS TOO MUCH: from its release to the next one a task has no more slots than its cost. Of any well-formed table.
+  pub never-more : (i j n : ℕ) → i < t .count → n ≤ release (task t i) (suc j) → had t done i (release (task t i) j) n ≤ task t i .cost
+  never-more i j n l h = go (decLt (release (task t i) j) n)
+    where
+      more : (d : ℕ) → release (task t i) j + suc d ≡ n → had t done i (release (task t i) j) n ≤ task t i .cost
+      more d e = rw (← e) (omega (arith, had-sum i (release (task t i) j) (suc d), streams.at-most (jobs table-system) (dues table-system) _ open' ready gave step-history i j d l (omega arith)))
+
+      go : Dec (release (task t i) j < n) → had t done i (release (task t i) j) n ≤ task t i .cost
+      go (yes p) = more (n - release (task t i) j - 1) (omega arith)
+      go (no p) = omega (arith, had-early i (release (task t i) j) n (omega arith))
+
+  module _ (budget : ℕ) (pass : verdict t budget ≡ Verdict.Passes) where
+    abbrev met : Met (jobs table-system) (dues table-system) (servedOf table-system)
+    met = met-of-passed t r budget pass
+
+    nothing-left : (i j : ℕ) → i < t .count → open' (dueOf table-system i j) i ≡ 0
+    nothing-left = streams.none-late (jobs table-system) (dues table-system) _ open' ready gave step-history (constrained table-system) (servedOf table-system) (model-run table-system) met
+
+    -- NONE IS CUT OFF: no step closes a job as late.
+    pub none-closed : (n i : ℕ) → T (isLate t (stateAt t done n) (done n) i) → ⊥
+    none-closed n i h =
+        let l : i < t .count = ltb→lt i (t .count) (and-iff (ltb i (t .count)) _ .0 h .0) in
+        let (p, (j, e)) = late-is t r done n i (sound t r done n) l h in
+        omega (arith, nothing-left i j l, ap (λ (m : ℕ). open' m i) e)
+
+    -- EVERY JOB IN TIME: by its worst response each job had its whole cost, or was reported done.
+    pub in-time : (i w : ℕ) → i < t .count → Worst t (tieOrder t) i w → (j : ℕ) → Finished t done i j (release (task t i) j + w)
+    in-time i w l v j =
+        let (p, q) = worst-range table-system (cycleOf t r _ (tie-ranks t)) (light-of-passed t r budget pass) met i l w v in
+        go (streams.on-time (jobs table-system) (dues table-system) _ open' ready gave step-history (constrained table-system) (servedOf table-system) (model-run table-system) met i w l (λ j f d. v .bound j f (finishes-iff table-system i j f l .1 d)) p j (omega (arith, r .each i l .deadline-le)))
+      where
+        go : ((u : ℕ) × (0 < u) × (u < w) × T (reported t done i (release (task t i) j + u))) ⊎ (sum w (λ u. gave (release (task t i) j + u) i) ≡ task t i .cost) → Finished t done i j (release (task t i) j + w)
+        go (inl (u, a, b, c)) = inr (release (task t i) j + u, omega arith, omega arith, c)
+        go (inr e) = inl (had-sum i (release (task t i) j) w ∙ e)
+
+    -- NO SLOT IS EMPTY WHILE A JOB WAITS: where slot n goes to none, every job released and not yet followed by the next of its task is finished.
+    pub none-waits : (n : ℕ) → ownerAt t done n ≡ taskLimit → (i j : ℕ) → i < t .count → release (task t i) j ≤ n → n < release (task t i) (suc j) → Finished t done i j n
+    none-waits n e i j l a b = go (step-history .slot n)
+      where
+        finished : (d : ℕ) → release (task t i) j + suc d ≡ n → open' n i ≡ 0 → Finished t done i j n
+        finished d q z = at (streams.account (jobs table-system) (dues table-system) _ open' ready gave step-history (constrained table-system) (servedOf table-system) (model-run table-system) met i j d l (omega arith))
+          where
+            at : ((u : ℕ) × (0 < u) × (u ≤ d) × T (reported t done i (release (task t i) j + u))) ⊎ (sum (suc d) (λ u. gave (release (task t i) j + u) i) + open' (release (task t i) j + suc d) i ≡ task t i .cost) → Finished t done i j n
+            at (inl (u, x, y, c)) = inr (release (task t i) j + u, omega arith, omega arith, c)
+            at (inr x) = inl (rw (← q) (omega (arith, had-sum i (release (task t i) j) (suc d), ap (λ (m : ℕ). open' m i) q)))
+
+        idle : ready n i ≡ 0 → Finished t done i j n
+        idle z = elim (ℕ-discrete (release (task t i) j) n) [
+          | yes q ↦ absurd (omega (arith, step-history .fresh n i j l q, r .each i l .cost-pos))
+          | no q ↦ closed q (step-history .kept n i l (between q))
+        ]
+          where
+            between : release (task t i) j ≢ n → (k : ℕ) → release (task t i) k ≢ n
+            between q k x = elim (decLt k (suc j)) [
+              | yes p ↦ (let m : k ≤ j = omega arith in absurd (omega (arith, mul-le-mul-right (task t i .period) m)))
+              | no p ↦ (let m : suc j ≤ k = omega arith in absurd (omega (arith, mul-le-mul-right (task t i .period) m)))
+            ]
+
+            closed : release (task t i) j ≢ n → (ready n i ≡ open' n i) ⊎ ((ready n i ≡ 0) × (T (reported t done i n) ⊎ ((j : ℕ) × (dueOf table-system i j ≡ n)))) → Finished t done i j n
+            closed q (inl x) = finished (n - release (task t i) j - 1) (omega arith) (omega arith)
+            closed q (inr (x, inl c)) = inr (n, omega arith, omega arith, c)
+            closed q (inr (x, inr (k, c))) = finished (n - release (task t i) j - 1) (omega arith) (omega (arith, nothing-left i k l, ap (λ (m : ℕ). open' m i) c))
+
+        go : ((i : ℕ) → i < t .count → ready n i ≡ 0) ⊎ ((k : ℕ) × (k < t .count) × (0 < ready n k) × ((i : ℕ) → i < t .count → 0 < ready n i → openKey (jobs table-system) (suc n) k ≤ openKey (jobs table-system) (suc n) i) × (gave n k ≡ 1) × ((i : ℕ) → i < t .count → i ≢ k → gave n i ≡ 0)) → Finished t done i j n
+        go (inl z) = idle (z i l)
+        go (inr (k, m, p, o, g, x)) = absurd (omega (arith, one k g))
+          where
+            one : (k : ℕ) → gave n k ≡ 1 → ownerAt t done n ≡ k
+            one k g = elim (ℕ-discrete (ownerAt t done n) k) [ yes q ↦ q | no q ↦ absurd (let z : gave n k ≡ 0 = rw (ne-eqb (ownerAt t done n) k q) in omega arith) ]

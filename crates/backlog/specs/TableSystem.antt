@@ -1,0 +1,54 @@
+-- A table that keeps its ranges, with any order of its tasks, is a system, and its H and largest offset make its cycle.
+use mathlib.Core.Path.{_≡_, refl}
+use Prim.Native.Nat.{ℕ, _/_, _<_}
+use native.Mathlib.Nat.{div-mul-cancel}
+use Rattle.model.specs.Notation.{largest}
+use Rattle.model.specs.declared.Table.{Table}
+use Rattle.model.specs.Tasks.{task, round, load, horizon}
+use Rattle.model.specs.Run.{Order, tieOrder}
+use Rattle.counting.specs.Search.{le-largest}
+use Rattle.wellformed.specs.Ranges.{Ranged}
+use Rattle.wellformed.specs.Round.{round-pos, period-divides}
+use Rattle.backlog.specs.System.{System}
+use Rattle.backlog.specs.Shift.{Cycle, horizonOf, loadOf}
+
+-- An order of a table's tasks: ranks below the count that tell the tasks apart.
+pub record Ranks (t : Table) (rank : Order) : Type 0 where
+  pub low : (i : ℕ) → i < t .count → rank i < t .count
+  pub apart : (i k : ℕ) → i < t .count → k < t .count → rank i ≡ rank k → i ≡ k
+
+-- The base's order is one.
+pub tie-ranks : (t : Table) → Ranks t (tieOrder t)
+tie-ranks t = record { low = λ i l. l; apart = λ i k a b e. e }
+
+module _ (t : Table) (r : Ranged t) (rank : Order) (o : Ranks t rank) where
+  abbrev pub systemOf : System
+  systemOf = record {
+    table = t;
+    rank = rank;
+    size-le = r .few;
+    cost-pos = λ i l. r .each i l .cost-pos;
+    deadline-pos = λ i l. r .each i l .deadline-pos;
+    deadline-le = λ i l. r .each i l .deadline-le;
+    rank-lt = o .low;
+    rank-apart = o .apart;
+  }
+
+  abbrev pub cycleOf : Cycle systemOf
+  cycleOf = record {
+    round = round t;
+    start = largest (t .count) (λ i. task t i .offset);
+    times = λ i. round t / task t i .period;
+    round-pos = round-pos t r;
+    common = λ i l. div-mul-cancel (task t i .period) (period-divides t r i l);
+    starts = λ i l. le-largest (t .count) (λ k. task t k .offset) i l;
+  }
+
+  -- The cycle's load and horizon are the model's.
+  pub load-is : loadOf systemOf cycleOf ≡ load t
+  unfolding loadOf load
+  load-is = refl
+
+  pub horizon-is : horizonOf systemOf cycleOf ≡ horizon t
+  unfolding horizon
+  horizon-is = refl

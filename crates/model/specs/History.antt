@@ -1,0 +1,32 @@
+-- Histories: what the dispatcher does step after step from a start, under any pattern of done reports.
+use mathlib.Core.Path.{_≡_}
+use mathlib.Core.Logic.{_⊎_}
+use mathlib.Core.Bool.{Bool, _&&_}
+use Prim.Native.Nat.{ℕ, zero, suc, _≤_, _<_}
+use lib.Dec.{T, leb, eqb}
+use Rattle.model.specs.Values.{Table}
+use Rattle.model.specs.Notation.{count}
+use Rattle.model.specs.Tasks.{task, release}
+use Rattle.model.specs.Dispatcher.{State, startOf, after, ownerNow}
+
+module _ (t : Table) (done : ℕ → Bool) where
+  -- The state before slot n; `done n` is the report that step n is given.
+  unfoldable pub stateAt : ℕ → State
+  stateAt zero = startOf t
+  stateAt (suc n) = after t (stateAt n) (done n)
+
+  -- The task that owns slot n, or `taskLimit`.
+  abbrev pub ownerAt : ℕ → ℕ
+  ownerAt n = ownerNow t (stateAt n) (done n)
+
+  -- Step n is told that task i, which ran last, is done.
+  abbrev pub reported : ℕ → ℕ → Bool
+  reported i n = done n && eqb (stateAt n .last) i
+
+  -- The slots from `from` up to `to` that task i had.
+  unfoldable pub had : ℕ → ℕ → ℕ → ℕ
+  had i from to = count (λ n. leb from n && eqb (ownerAt n) i) to
+
+  -- Job j of task i is finished by n: it had its whole cost, or was reported done after its release.
+  abbrev pub Finished : ℕ → ℕ → ℕ → Type 0
+  Finished i j n = (had i (release (task t i) j) n ≡ task t i .cost) ⊎ ((u : ℕ) × (release (task t i) j < u) × (u ≤ n) × T (reported i u))

@@ -1,0 +1,133 @@
+// Judges any table: document 01's refusals 1 to 7, or what a well-formed table measures.
+ghost use mathlib.Core.Path.{_≡_};
+ghost use Prim.Native.Nat.{_≤_};
+ghost use Rattle.model.specs.Limits.{taskLimit};
+ghost use Rattle.model.specs.Tasks.{within, taskFault, firstFaulty, load, horizon, refuse, judged};
+ghost use Rattle.wellformed.specs.Ranges.{Ranged};
+ghost use Rattle.wellformed.specs.Round.{RoundTold, RoundKept};
+use model::Judgement;
+use model::Measure;
+use model::Refusal;
+use model::Table;
+use model::Task;
+
+pub const TASK_LIMIT: usize = 16;
+
+pub const SLOT_LIMIT: u32 = 60_000;
+
+pub const ROUND_LIMIT: u64 = 1_000_000_000;
+
+pub fn judge(t: Table) -> Judgement
+    ensures { λ r. ⌜ r ≡ judged t ⌝ }
+{
+    let n = t.count;
+    if n == 0 {
+        return refused(1, 0);
+    }
+    if n > TASK_LIMIT {
+        return refused(2, TASK_LIMIT as u32);
+    }
+    let faulty = first_faulty(t);
+    if faulty < n {
+        return refused(task_fault(t.tasks[faulty]), faulty as u32);
+    }
+    let round = round_of(t);
+    if round > ROUND_LIMIT {
+        return refused(7, 0);
+    }
+    Judgement::WellFormed(Measure {
+        round,
+        load: load_of(t, round),
+        horizon: horizon_of(t, round),
+    })
+}
+
+fn refused(number: u32, place: u32) -> Judgement
+    ensures { λ r. ⌜ r ≡ refuse number place ⌝ }
+{
+    Judgement::Refused(Refusal { number, place })
+}
+
+fn first_faulty(t: Table) -> usize
+    requires { ⌜ t .count ≤ taskLimit ⌝ }
+    ensures { λ r. ⌜ r ≡ firstFaulty t ⌝ }
+{
+    let n = t.count;
+    for i in 0..n {
+        if task_fault(t.tasks[i]) != 0 {
+            return i;
+        }
+    }
+    n
+}
+
+fn task_fault(k: Task) -> u32
+    ensures { λ r. ⌜ r ≡ taskFault k ⌝ }
+{
+    if !within(1, SLOT_LIMIT, k.period) {
+        return 3;
+    }
+    if !within(1, k.period, k.deadline) {
+        return 4;
+    }
+    if !within(1, k.deadline, k.cost) {
+        return 5;
+    }
+    if !within(0, SLOT_LIMIT, k.offset) {
+        return 6;
+    }
+    0
+}
+
+fn within(least: u32, most: u32, x: u32) -> bool
+    ensures { λ r. ⌜ r ≡ within least most x ⌝ }
+{
+    least <= x && x <= most
+}
+
+// It stops above the limit: a least common multiple never falls with more periods, and so nothing wraps.
+fn round_of(t: Table) -> u64
+    requires { ⌜ Ranged t ⌝ }
+    ensures { λ r. ⌜ RoundTold t r ⌝ }
+{
+    let n = t.count;
+    let mut multiple: u64 = 1;
+    for i in 0..n {
+        let period = t.tasks[i].period as u64;
+        multiple = multiple / divisor::divisor(multiple, period) * period;
+        if multiple > ROUND_LIMIT {
+            return multiple;
+        }
+    }
+    multiple
+}
+
+fn load_of(t: Table, round: u64) -> u64
+    requires { ⌜ Ranged t ⌝ }
+    requires { ⌜ RoundKept t round ⌝ }
+    ensures { λ r. ⌜ r ≡ load t ⌝ }
+{
+    let n = t.count;
+    let mut load: u64 = 0;
+    for i in 0..n {
+        let task = t.tasks[i];
+        load += task.cost as u64 * (round / task.period as u64);
+    }
+    load
+}
+
+fn horizon_of(t: Table, round: u64) -> u64
+    requires { ⌜ Ranged t ⌝ }
+    requires { ⌜ RoundKept t round ⌝ }
+    ensures { λ r. ⌜ r ≡ horizon t ⌝ }
+{
+    let n = t.count;
+    let mut latest: u64 = 0;
+    for i in 0..n {
+        let offset = t.tasks[i].offset as u64;
+        if offset > latest {
+            latest = offset;
+        }
+    }
+    latest + 2 * round
+}

@@ -1,0 +1,27 @@
+use borrow.Author.Needs.{needs}
+use borrow.Author.Tests.{lt-ltb, le-ltb}
+use Rattle.tablefile.proofs.budget_reading.Statement.{statement}
+use Rattle.tablefile.proofs.budget_reading.Tie as tie
+
+refusal-requires : tie.Need-refusal-requires
+refusal-requires c κs = search needs
+
+returns : tie.Need-returns
+returns c = simp (lt-ltb _ _ (c .before .if1 .taken)) (c .refusal .ensures)
+
+refusal-requires-2 : tie.Need-refusal-requires-2
+refusal-requires-2 c κs = search needs
+
+returns-2 : tie.Need-returns-2
+returns-2 c = simp (le-ltb _ _ (c .before .before .if1 .left), lt-ltb _ _ (c .before .if2 .taken)) (c .refusal2 .ensures)
+
+budget-in-requires : tie.Need-budget-in-requires
+budget-in-requires c κs = search needs
+
+returns-3 : tie.Need-returns-3
+returns-3 c = simp (le-ltb _ _ (c .before .before .if1 .left), le-ltb _ _ (c .before .if2 .left)) (cc)
+
+pub budget-reading-spec : {M : Type 1} → statement M
+budget-reading-spec =
+    tie.close
+    (tie.spec refusal-requires returns refusal-requires-2 returns-2 budget-in-requires returns-3)

@@ -1,0 +1,133 @@
+-- The invariant is `Loading`: reading on from here makes the form of the file. The measure is what is left of the file.
+use mathlib.Core.Path.{_≡_, sym, ap, _∙_}
+use mathlib.Core.List.{List}
+use Prim.Native.Nat.{ℕ, _+_, _-_}
+use native.Mathlib.Omega.{arith}
+use borrow.Author.Needs.{needs}
+use lib.ListN.{length}
+use Rattle.model.specs.declared.Record.{Record}
+use Rattle.model.specs.Limits.{budgetBytes, taskBytes}
+use Rattle.tablefile.specs.declared.Reading.{Reading}
+use Rattle.tablefile.specs.Reading.{readingAt}
+use Rattle.tablefile.specs.Loading.{Loading, start, within, follows, after-budget, has-room, after-task, after-end}
+use Rattle.tablefile.proofs.form_of.Statement.{statement}
+use Rattle.tablefile.proofs.form_of.Tie as tie
+
+abbrev Inv-loop : tie.InvT-loop
+Inv-loop file budget₀ table₀ at₀ budget table at = Loading file budget table at
+
+abbrev μ-loop : tie.MeasureT-loop
+μ-loop file budget₀ table₀ at₀ budget table at = length file - at
+
+no-tasks-requires : tie.Need-no-tasks-requires Inv-loop μ-loop
+no-tasks-requires c κs = search needs
+
+loop-holds : tie.Need-loop-holds Inv-loop μ-loop
+loop-holds c = start _ (c .no-tasks .ensures)
+
+reading-at-requires : tie.Need-reading-at-requires Inv-loop μ-loop
+reading-at-requires c κs = within (c .loop .inv) .1
+
+enum-known-why : tie.Need-enum-known-why Inv-loop μ-loop
+enum-known-why c = search needs
+
+refused-file-requires : tie.Need-refused-file-requires Inv-loop μ-loop
+refused-file-requires c κs = search needs
+
+returns : tie.Need-returns Inv-loop μ-loop
+returns c =
+    c .refused-file .ensures
+    ∙ follows (c .before .before .before .before .before .loop .inv)
+    (sym (c .before .before .why .given .1) ∙ c .before .before .before .before .reading-at .ensures)
+
+enum-known-record : tie.Need-enum-known-record Inv-loop μ-loop
+enum-known-record c = search needs
+
+enum-known-record-2 : tie.Need-enum-known-record-2 Inv-loop μ-loop
+enum-known-record-2 c = search needs
+
+abbrev file-of : tie.At-loop Inv-loop μ-loop → List ℕ
+file-of t = t .before .before .before .args .file .now
+
+budget-read : (c : tie.After-known-told3 Inv-loop μ-loop)
+    → let t = c .before .before .before .before .before .before .before in
+    Loading (file-of t) (c .before .record2 .given .0 .0) (t .loop .table) (t .loop .at + budgetBytes)
+budget-read c =
+    after-budget (c .before .before .before .before .before .before .before .loop .inv)
+    (ap Reading.Whole (sym (c .before .record2 .given .1))
+    ∙ sym (c .before .before .before .before .record .given .1)
+    ∙ c .before .before .before .before .before .before .reading-at .ensures)
+
+add-at : tie.Need-add-at Inv-loop μ-loop
+add-at c = omega (arith, within (budget-read c))
+
+loop-less : tie.Need-loop-less Inv-loop μ-loop
+loop-less c = omega (arith, within (budget-read c))
+
+loop-again : tie.Need-loop-again Inv-loop μ-loop
+loop-again c = budget-read c
+
+enum-known-record-3 : tie.Need-enum-known-record-3 Inv-loop μ-loop
+enum-known-record-3 c = search needs
+
+task-found : (c : tie.After-known-told4 Inv-loop μ-loop)
+    → let t = c .before .before .before .before .before .before .before in
+    Reading.Whole (Record.OneTask (c .before .record3 .given .0 .0)) ≡ readingAt (file-of t) (t .loop .at) (t .loop .table .count)
+task-found c =
+    ap Reading.Whole (sym (c .before .record3 .given .1))
+    ∙ sym (c .before .before .before .before .record .given .1)
+    ∙ c .before .before .before .before .before .before .reading-at .ensures
+
+with-task-requires : tie.Need-with-task-requires Inv-loop μ-loop
+with-task-requires c κs = has-room (c .before .before .before .before .before .before .before .loop .inv) (task-found c)
+
+task-read : (c : tie.After-with-task Inv-loop μ-loop)
+    → let t = c .before .before .before .before .before .before .before .before in
+    Loading (file-of t) (t .loop .budget) (c .with-task .result) (t .loop .at + taskBytes)
+task-read c =
+    rw (c .with-task .ensures)
+    (after-task (c .before .before .before .before .before .before .before .before .loop .inv) (task-found (c .before)))
+
+add-at-2 : tie.Need-add-at-2 Inv-loop μ-loop
+add-at-2 c = omega (arith, within (task-read c))
+
+loop-less-2 : tie.Need-loop-less-2 Inv-loop μ-loop
+loop-less-2 c = omega (arith, within (task-read c))
+
+loop-again-2 : tie.Need-loop-again-2 Inv-loop μ-loop
+loop-again-2 c = task-read c
+
+enum-told : tie.Need-enum-told Inv-loop μ-loop
+enum-told c = search needs
+
+returns-2 : tie.Need-returns-2 Inv-loop μ-loop
+returns-2 c =
+    after-end (c .before .before .before .before .before .before .loop .inv)
+    (ap Reading.Whole (sym (c .enum-told .given .1))
+    ∙ sym (c .before .before .before .record .given .1)
+    ∙ c .before .before .before .before .before .reading-at .ensures)
+
+pub form-of-spec : {M : Type 1} → statement M
+form-of-spec =
+    tie.close
+    (tie.spec
+    Inv-loop
+    μ-loop
+    no-tasks-requires
+    loop-holds
+    reading-at-requires
+    enum-known-why
+    refused-file-requires
+    returns
+    enum-known-record
+    enum-known-record-2
+    add-at
+    loop-less
+    loop-again
+    enum-known-record-3
+    with-task-requires
+    add-at-2
+    loop-less-2
+    loop-again-2
+    enum-told
+    returns-2)

@@ -1,0 +1,94 @@
+use borrow.Author.Needs.{needs}
+use borrow.Rule.Slice.PartAt.{part-to-end}
+use borrow.Author.Tests.{eq-eqb, ne-eqb, le-leb, lt-leb}
+use Rattle.tablefile.specs.Reading.{readingAt}
+use Rattle.tablefile.proofs.reading_at.Statement.{statement}
+use Rattle.tablefile.proofs.reading_at.Tie as tie
+
+refusal-requires : tie.Need-refusal-requires
+refusal-requires c κs = search needs
+
+returns : tie.Need-returns
+unfolding readingAt
+returns c = simp (le-leb _ _ (c .before .before .if1 .taken), eq-eqb _ _ (c .before .if2 .taken)) (c .refusal .ensures)
+
+refusal-requires-2 : tie.Need-refusal-requires-2
+refusal-requires-2 c κs = search needs
+
+returns-2 : tie.Need-returns-2
+unfolding readingAt
+returns-2 c = simp (le-leb _ _ (c .before .before .if1 .taken), ne-eqb _ _ (c .before .if2 .left)) (c .refusal2 .ensures)
+
+add-from : tie.Need-add-from
+add-from c = search needs
+
+sub-rest : tie.Need-sub-rest
+sub-rest c = search needs
+
+part-rest-start : tie.Need-part-rest-start
+part-rest-start c = search needs
+
+part-rest-end : tie.Need-part-rest-end
+part-rest-end c = search needs
+
+shared-slice-read-match : tie.Need-shared-slice-read-match
+shared-slice-read-match c = search needs
+
+budget-reading-requires : tie.Need-budget-reading-requires
+budget-reading-requires c κs = search needs
+
+task-reading-requires : tie.Need-task-reading-requires
+task-reading-requires c κs = search needs
+
+end-reading-requires : tie.Need-end-reading-requires
+end-reading-requires c κs = search needs
+
+refusal-requires-3 : tie.Need-refusal-requires-3
+refusal-requires-3 c κs = search needs
+
+returns-3 : tie.Need-returns-3
+unfolding readingAt
+returns-3 c =
+    simp (lt-leb _ _ (c .before .before .before .before .if1 .left), c .before .match .keys1)
+    (simp part-to-end at (c .budget-reading .ensures))
+
+returns-4 : tie.Need-returns-4
+unfolding readingAt
+returns-4 c =
+    simp (lt-leb _ _ (c .before .before .before .before .if1 .left), c .before .match .keys2)
+    (simp part-to-end at (c .task-reading .ensures))
+
+returns-5 : tie.Need-returns-5
+unfolding readingAt
+returns-5 c =
+    simp (lt-leb _ _ (c .before .before .before .before .if1 .left), c .before .match .keys3)
+    (simp part-to-end at (c .end-reading .ensures))
+
+returns-6 : tie.Need-returns-6
+unfolding readingAt
+returns-6 c =
+    simp
+    (lt-leb _ _ (c .before .before .before .before .if1 .left), ne-eqb _ _ (c .before .match .rest .1), ne-eqb _ _ (c .before .match .rest .0 .1), ne-eqb _ _ (c .before .match .rest .0 .0 .1))
+    (c .refusal3 .ensures)
+
+pub reading-at-spec : {M : Type 1} → statement M
+reading-at-spec =
+    tie.close
+    (tie.spec
+    refusal-requires
+    returns
+    refusal-requires-2
+    returns-2
+    add-from
+    sub-rest
+    part-rest-start
+    part-rest-end
+    shared-slice-read-match
+    budget-reading-requires
+    task-reading-requires
+    end-reading-requires
+    refusal-requires-3
+    returns-3
+    returns-4
+    returns-5
+    returns-6)

@@ -1,0 +1,47 @@
+use borrow.Author.Needs.{needs}
+use borrow.Author.Tests.{eq-eqb, ne-eqb, lt-ltb, le-ltb, le-leb, lt-leb}
+use Rattle.tablefile.proofs.task_reading.Statement.{statement}
+use Rattle.tablefile.proofs.task_reading.Tie as tie
+
+refusal-requires : tie.Need-refusal-requires
+refusal-requires c κs = search needs
+
+returns : tie.Need-returns
+returns c = simp (eq-eqb _ _ (c .before .if1 .taken)) (c .refusal .ensures)
+
+refusal-requires-2 : tie.Need-refusal-requires-2
+refusal-requires-2 c κs = search needs
+
+returns-2 : tie.Need-returns-2
+returns-2 c = simp (ne-eqb _ _ (c .before .before .if1 .left), le-leb _ _ (c .before .if2 .taken)) (c .refusal2 .ensures)
+
+refusal-requires-3 : tie.Need-refusal-requires-3
+refusal-requires-3 c κs = search needs
+
+returns-3 : tie.Need-returns-3
+returns-3 c =
+    simp
+    (ne-eqb _ _ (c .before .before .before .if1 .left), lt-leb _ _ (c .before .before .if2 .left), lt-ltb _ _ (c .before .if3 .taken))
+    (c .refusal3 .ensures)
+
+task-in-requires : tie.Need-task-in-requires
+task-in-requires c κs = search needs
+
+returns-4 : tie.Need-returns-4
+returns-4 c =
+    simp
+    (ne-eqb _ _ (c .before .before .before .if1 .left), lt-leb _ _ (c .before .before .if2 .left), le-ltb _ _ (c .before .if3 .left))
+    (cc)
+
+pub task-reading-spec : {M : Type 1} → statement M
+task-reading-spec =
+    tie.close
+    (tie.spec
+    refusal-requires
+    returns
+    refusal-requires-2
+    returns-2
+    refusal-requires-3
+    returns-3
+    task-in-requires
+    returns-4)

@@ -1,0 +1,45 @@
+-- What reading at a place comes to: the checks in their order, over the rest of the file after the kind byte.
+use mathlib.Core.List.{List}
+use mathlib.Core.Bool.{cond}
+use Prim.Native.Nat.{ℕ, _+_, _-_}
+use lib.Dec.{ltb, leb, eqb}
+use lib.ListN.{getD, length, drop}
+use Rattle.model.specs.declared.Record.{Record}
+use Rattle.model.specs.Limits.{taskLimit, budgetBytes, taskBytes}
+use Rattle.model.specs.TableFile.{eight, taskIn}
+use Rattle.tablefile.specs.declared.Reading.{Reading}
+
+-- The bytes of a body: those of the record without its kind.
+abbrev pub budgetBody : ℕ
+budgetBody = budgetBytes - 1
+
+abbrev pub taskBody : ℕ
+taskBody = taskBytes - 1
+
+abbrev pub refused : ℕ → ℕ → Reading
+refused n p = Reading.Refused (record { number = n; place = p })
+
+-- A budget, a task after n tasks, an end: its kind byte stands at this place, and this is the rest of the file.
+abbrev pub budgetReading : List ℕ → ℕ → Reading
+budgetReading rest at =
+    cond (ltb 0 at) (refused 23 at)
+    (cond (ltb (length rest) budgetBody) (refused 20 at) (Reading.Whole (Record.Budget (eight rest 0))))
+
+abbrev pub taskReading : List ℕ → ℕ → ℕ → Reading
+taskReading rest at n =
+    cond (eqb at 0) (refused 22 at)
+    (cond (leb taskLimit n) (refused 25 at)
+    (cond (ltb (length rest) taskBody) (refused 20 at) (Reading.Whole (Record.OneTask (taskIn rest 0)))))
+
+abbrev pub endReading : List ℕ → ℕ → Reading
+endReading rest at =
+    cond (eqb at 0) (refused 22 at)
+    (cond (ltb 0 (length rest)) (refused 24 (at + 1)) (Reading.Whole Record.End))
+
+-- What stands at a place of the file, after n tasks.
+unfoldable pub readingAt : List ℕ → ℕ → ℕ → Reading
+readingAt s at n =
+    cond (leb (length s) at) (cond (eqb at 0) (refused 22 at) (refused 26 at))
+    (cond (eqb (getD s at 0) 1) (budgetReading (drop (at + 1) s) at)
+    (cond (eqb (getD s at 0) 2) (taskReading (drop (at + 1) s) at n)
+    (cond (eqb (getD s at 0) 3) (endReading (drop (at + 1) s) at) (refused 21 at))))

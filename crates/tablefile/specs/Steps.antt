@@ -1,0 +1,94 @@
+-- From record to record: what was reached, and what reading there leads to.
+use mathlib.Core.Path.{_≡_, refl, sym, ap, _∙_}
+use mathlib.Core.Bool.{Bool, true, false, cond}
+use mathlib.Core.List.{List, [], _∷_, _++_}
+use Prim.Native.Nat.{ℕ, zero, suc, _+_, _*_, _<_, _≤_}
+use native.Mathlib.Omega.{arith}
+use borrow.Author.Tests.{ne-eqb, lt-ltb, le-ltb, le-leb, lt-leb, ltb-true, ltb-false, leb-true, leb-false}
+use lib.Dec.{ltb, leb, eqb}
+use lib.ListN.{length, getD, drop, length-drop, length-append}
+use Rattle.model.specs.declared.Task.{Task}
+use Rattle.model.specs.declared.Record.{Record}
+use Rattle.model.specs.declared.Loaded.{Loaded}
+use Rattle.model.specs.Limits.{taskLimit, budgetBytes, taskBytes, endBytes, longestFile}
+use Rattle.model.specs.TableFile.{taskIn, recordAt, refuse, admit, whole, readRecord, readFrom, formOf}
+use Rattle.tablefile.specs.declared.Reading.{Reading}
+use Rattle.tablefile.specs.Reading.{budgetBody, taskBody, taskReading, readingAt}
+use Rattle.tablefile.specs.Part.{eight-part, task-part}
+
+-- Up to a place the budget b and the tasks ks were read: nothing yet, or all so that reading on from there makes the form of the file.
+pub data Reached (s : List ℕ) : ℕ → List Task → ℕ → Type 0 where
+  first : Reached s 0 [] 0
+  later : {b : ℕ} {ks : List Task} {at : ℕ} (room : ℕ) → length ks + room ≡ taskLimit → at ≡ budgetBytes + taskBytes * length ks → at ≤ length s
+      → readFrom s b ks room at ≡ formOf s → Reached s b ks at
+
+-- What was reached lies in the file and in the longest legal file, and fits a table.
+pub bounds : {s : List ℕ} {b : ℕ} {ks : List Task} {at : ℕ} → Reached s b ks at → (at ≤ length s) × (at < longestFile) × (length ks ≤ taskLimit)
+bounds first = omega arith
+bounds (later room all here inside same) = omega arith
+
+-- What reading there leads to: the form of the file, or the next place.
+abbrev pub Follows : List ℕ → ℕ → List Task → ℕ → Reading → Type 0
+Follows s b ks at (Reading.Refused r) = refuse (r .number) (r .place) ≡ formOf s
+Follows s b ks at (Reading.Whole (Record.Budget x)) = Reached s x ks (at + budgetBytes)
+Follows s b ks at (Reading.Whole (Record.OneTask k)) = Reached s b (ks ++ (k ∷ [])) (at + taskBytes)
+Follows s b ks at (Reading.Whole Record.End) = admit b ks ≡ formOf s
+
+-- What a task leads to in the model, with room for this many.
+unfoldable afterTask : List ℕ → ℕ → List Task → ℕ → ℕ → Task → Loaded
+afterTask s b ks zero at k = refuse 25 at
+afterTask s b ks (suc room) at k = whole s at taskBytes (readFrom s b (ks ++ (k ∷ [])) room (at + taskBytes))
+
+module _ (s : List ℕ) (b : ℕ) (ks : List Task) (at : ℕ) where
+  opened : (room : ℕ) → readFrom s b ks room at ≡ readRecord s b ks at (afterTask s b ks room at) (recordAt s at)
+  unfolding afterTask readFrom
+  opened zero = refl
+  opened (suc room) = refl
+
+  either : (test : Bool) (x y : Reading) → (test ≡ true → Follows s b ks at x) → (test ≡ false → Follows s b ks at y) → Follows s b ks at (cond test x y)
+  either true x y f g = f refl
+  either false x y f g = g refl
+
+step-first : (s : List ℕ) → Follows s 0 [] 0 (readingAt s 0 0)
+unfolding readingAt formOf recordAt
+step-first s =
+    either s 0 [] 0 (leb (length s) 0) _ _ (λ e0. rw e0)
+    (λ e0. either s 0 [] 0 (eqb (getD s 0 0) 1) _ _
+    (λ e1. either s 0 [] 0 (ltb (length (drop 1 s)) budgetBody) _ _
+    (λ e. rw (e0, e1, lt-ltb (length s) budgetBytes (omega (arith, ltb-true, length-drop 1 s))))
+    (λ e. later taskLimit refl refl (omega (arith, ltb-false, length-drop 1 s))
+    (rw (e0, e1, le-ltb (length s) budgetBytes (omega (arith, ltb-false, length-drop 1 s)), eight-part))))
+    (λ e1. either s 0 [] 0 (eqb (getD s 0 0) 2) _ _ (λ e2. rw (e0, e1, e2))
+    (λ e2. either s 0 [] 0 (eqb (getD s 0 0) 3) _ _ (λ e3. rw (e0, e1, e2, e3)) (λ e3. rw (e0, e1, e2, e3)))))
+
+module _ (s : List ℕ) (b : ℕ) (ks : List Task) (at : ℕ) (here : at ≡ budgetBytes + taskBytes * length ks) where
+  step-task : (room : ℕ) → length ks + room ≡ taskLimit → at < length s → afterTask s b ks room at (taskIn s (at + 1)) ≡ formOf s
+      → Follows s b ks at (taskReading (drop (at + 1) s) at (length ks))
+  unfolding afterTask
+  step-task zero all inside same = rw (ne-eqb at 0 (omega arith), le-leb taskLimit (length ks) (omega arith)) same
+  step-task (suc room) all inside same =
+      rw (ne-eqb at 0 (omega arith), lt-leb taskLimit (length ks) (omega arith))
+      (either s b ks at (ltb (length (drop (at + 1) s)) taskBody) _ _
+      (λ e. rw (lt-ltb (length s) (at + taskBytes) (omega (arith, ltb-true, length-drop (at + 1) s))) at same)
+      (λ e. later room (simp length-append (omega arith)) (simp length-append (omega arith)) (omega (arith, ltb-false, length-drop (at + 1) s))
+      (rw task-part (rw (le-ltb (length s) (at + taskBytes) (omega (arith, ltb-false, length-drop (at + 1) s))) at same))))
+
+  step-later : (room : ℕ) → length ks + room ≡ taskLimit → at ≤ length s → readRecord s b ks at (afterTask s b ks room at) (recordAt s at) ≡ formOf s
+      → Follows s b ks at (readingAt s at (length ks))
+  unfolding readingAt recordAt
+  step-later room all inside same =
+      either s b ks at (leb (length s) at) _ _
+      (λ e0. let stop : at ≡ length s = omega (arith, leb-true) in rw (ne-eqb at 0 (omega arith)) (ap (refuse 26) stop ∙ rw e0 at same))
+      (λ e0. either s b ks at (eqb (getD s at 0) 1) _ _ (λ e1. rw (lt-ltb 0 at (omega arith)) (rw (e0, e1) at same))
+      (λ e1. either s b ks at (eqb (getD s at 0) 2) _ _ (λ e2. step-task room all (leb-false _ _ e0) (rw (e0, e1, e2) at same))
+      (λ e2. either s b ks at (eqb (getD s at 0) 3) _ _
+      (λ e3. rw (ne-eqb at 0 (omega arith))
+      (either s b ks at (ltb 0 (length (drop (at + 1) s))) _ _
+      (λ e. rw (e0, e1, e2, e3, lt-ltb (at + endBytes) (length s) (omega (arith, ltb-true, length-drop (at + 1) s))) at same)
+      (λ e. rw (e0, e1, e2, e3, le-ltb (at + endBytes) (length s) (omega (arith, ltb-false, length-drop (at + 1) s))) at same)))
+      (λ e3. rw (e0, e1, e2, e3) at same))))
+
+-- What the checks say of a place that was reached is what the model makes of it.
+pub step : {s : List ℕ} {b : ℕ} {ks : List Task} {at : ℕ} → Reached s b ks at → Follows s b ks at (readingAt s at (length ks))
+step {s} first = step-first s
+step {s} {b} {ks} {at} (later room all here inside same) = step-later s b ks at here room all inside (sym (opened s b ks at room) ∙ same)

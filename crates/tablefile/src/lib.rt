@@ -1,0 +1,234 @@
+// A table file, read record by record where it lies.
+use model::Admission;
+use model::Loaded;
+use model::Record;
+use model::Refusal;
+use model::Table;
+use model::Task;
+ghost use mathlib.Core.Path.{_≡_};
+ghost use mathlib.Core.List.{[]};
+ghost use Prim.Native.Nat.{_+_, _<_, _≤_};
+ghost use lib.ListN.{length};
+ghost use Rattle.model.specs.Limits.{taskLimit, longestFile};
+ghost use Rattle.model.specs.TableFile.{four, eight, taskIn, tableOf, refuse, formOf};
+ghost use Rattle.tablefile.specs.Reading.{budgetBody, taskBody, refused, budgetReading, taskReading, endReading, readingAt};
+ghost use Rattle.tablefile.specs.Built.{withTask};
+
+const TASK_LIMIT: usize = 16;
+
+const BUDGET: u8 = 1;
+
+const TASK: u8 = 2;
+
+const END: u8 = 3;
+
+const BUDGET_BODY: usize = 8;
+
+const TASK_BODY: usize = 16;
+
+const BUDGET_BYTES: usize = 1 + BUDGET_BODY;
+
+const TASK_BYTES: usize = 1 + TASK_BODY;
+
+const CUT_SHORT: u32 = 20;
+
+const UNKNOWN_KIND: u32 = 21;
+
+const NO_BUDGET: u32 = 22;
+
+const ANOTHER_BUDGET: u32 = 23;
+
+const AFTER_END: u32 = 24;
+
+const ONE_TASK_TOO_MANY: u32 = 25;
+
+const NO_END: u32 = 26;
+
+enum Reading {
+    Refused(Refusal),
+    Whole(Record),
+}
+
+// A cast by a function of its own: who reads a byte or a word has nothing to show of its width.
+fn to_u32(x: u8) -> u32
+    ensures { λ r. ⌜ (r ≡ x) × (x < 256) ⌝ }
+{
+    x as u32
+}
+
+fn to_u64(x: u32) -> u64
+    ensures { λ r. ⌜ (r ≡ x) × (x < 4294967296) ⌝ }
+{
+    x as u64
+}
+
+fn word_at(s: &[u8], at: usize) -> u32
+    requires { ⌜ at + 4 ≤ length (now s) ⌝ }
+    ensures { λ r. ⌜ r ≡ four (now (s .entry)) at ⌝ }
+{
+    to_u32(s[at])
+        + 256 * to_u32(s[at + 1])
+        + 65536 * to_u32(s[at + 2])
+        + 16777216 * to_u32(s[at + 3])
+}
+
+fn budget_in(body: &[u8]) -> u64
+    requires { ⌜ budgetBody ≤ length (now body) ⌝ }
+    ensures { λ r. ⌜ r ≡ eight (now (body .entry)) 0 ⌝ }
+{
+    to_u64(word_at(body, 0)) + 4294967296 * to_u64(word_at(body, 4))
+}
+
+fn task_in(body: &[u8]) -> Task
+    requires { ⌜ taskBody ≤ length (now body) ⌝ }
+    ensures { λ r. ⌜ r ≡ taskIn (now (body .entry)) 0 ⌝ }
+{
+    Task {
+        offset: word_at(body, 0),
+        cost: word_at(body, 4),
+        deadline: word_at(body, 8),
+        period: word_at(body, 12),
+    }
+}
+
+// Reading stops within the longest legal file, so a place fits a refusal whatever the file's length.
+fn refusal(number: u32, place: usize) -> Reading
+    requires { ⌜ place ≤ longestFile ⌝ }
+    ensures { λ r. ⌜ r ≡ refused number place ⌝ }
+{
+    Reading::Refused(Refusal {
+        number: number,
+        place: place as u32,
+    })
+}
+
+fn budget_reading(rest: &[u8], at: usize) -> Reading
+    requires { ⌜ at < longestFile ⌝ }
+    ensures { λ r. ⌜ r ≡ budgetReading (now (rest .entry)) at ⌝ }
+{
+    if 0 < at {
+        return refusal(ANOTHER_BUDGET, at);
+    }
+    if rest.len() < BUDGET_BODY {
+        return refusal(CUT_SHORT, at);
+    }
+    Reading::Whole(Record::Budget(budget_in(rest)))
+}
+
+fn task_reading(rest: &[u8], at: usize, count: usize) -> Reading
+    requires { ⌜ at < longestFile ⌝ }
+    ensures { λ r. ⌜ r ≡ taskReading (now (rest .entry)) at count ⌝ }
+{
+    if at == 0 {
+        return refusal(NO_BUDGET, at);
+    }
+    if TASK_LIMIT <= count {
+        return refusal(ONE_TASK_TOO_MANY, at);
+    }
+    if rest.len() < TASK_BODY {
+        return refusal(CUT_SHORT, at);
+    }
+    Reading::Whole(Record::OneTask(task_in(rest)))
+}
+
+fn end_reading(rest: &[u8], at: usize) -> Reading
+    requires { ⌜ at < longestFile ⌝ }
+    ensures { λ r. ⌜ r ≡ endReading (now (rest .entry)) at ⌝ }
+{
+    if at == 0 {
+        return refusal(NO_BUDGET, at);
+    }
+    if 0 < rest.len() {
+        return refusal(AFTER_END, at + 1);
+    }
+    Reading::Whole(Record::End)
+}
+
+// Document 01's order is kind known, kind allowed here, body whole: the reader of each kind keeps the last two.
+fn reading_at(file: &[u8], at: usize, count: usize) -> Reading
+    requires { ⌜ at < longestFile ⌝ }
+    ensures { λ r. ⌜ r ≡ readingAt (now (file .entry)) at count ⌝ }
+{
+    if file.len() <= at {
+        if at == 0 {
+            return refusal(NO_BUDGET, at);
+        }
+        return refusal(NO_END, at);
+    }
+    let from = at + 1;
+    let rest = &file[from..];
+    match file[at] {
+        BUDGET => budget_reading(rest, at),
+        TASK => task_reading(rest, at, count),
+        END => end_reading(rest, at),
+        _ => refusal(UNKNOWN_KIND, at),
+    }
+}
+
+fn no_tasks() -> Table
+    ensures { λ r. ⌜ r ≡ tableOf [] ⌝ }
+{
+    let none = Task {
+        offset: 0,
+        cost: 0,
+        deadline: 0,
+        period: 0,
+    };
+    Table {
+        count: 0,
+        tasks: [none; TASK_LIMIT],
+    }
+}
+
+fn with_task(table: Table, task: Task) -> Table
+    requires { ⌜ table .count < taskLimit ⌝ }
+    ensures { λ r. ⌜ r ≡ withTask table task ⌝ }
+{
+    let mut longer = table;
+    let count = table.count;
+    longer.tasks[count] = task;
+    longer.count = count + 1;
+    longer
+}
+
+fn refused_file(why: Refusal) -> Loaded
+    ensures { λ r. ⌜ r ≡ refuse (why .number) (why .place) ⌝ }
+{
+    Loaded {
+        admission: Admission::Refused(why),
+        budget: 0,
+        table: no_tasks(),
+    }
+}
+
+pub fn form_of(file: &[u8]) -> Loaded
+    ensures { λ r. ⌜ r ≡ formOf (now (file .entry)) ⌝ }
+{
+    let mut budget: u64 = 0;
+    let mut table = no_tasks();
+    let mut at: usize = 0;
+    loop {
+        match reading_at(file, at, table.count) {
+            Reading::Refused(why) => {
+                return refused_file(why);
+            }
+            Reading::Whole(record) => match record {
+                Record::Budget(slots) => {
+                    budget = slots;
+                    at = at + BUDGET_BYTES;
+                }
+                Record::OneTask(task) => {
+                    table = with_task(table, task);
+                    at = at + TASK_BYTES;
+                }
+                Record::End => {
+                    return Loaded {
+                        admission: Admission::Admitted,
+                        budget: budget,
+                        table: table,
+                    };
+                }
+            },
+        }
+    }
+}

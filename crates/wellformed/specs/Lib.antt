@@ -1,0 +1,4 @@
+-- What a table keeps that is not refused.
+pub mod Ranges
+pub mod Round
+pub mod WellFormed

@@ -1,0 +1,61 @@
+-- H of a table that keeps its ranges: the least common multiple of the periods, found as far as its limit.
+use mathlib.Core.Path.{_≡_, sym, _∙_}
+use Prim.Native.Nat.{ℕ, _*_, _/_, _≤_, _<_, _∣_}
+use native.Mathlib.Nat.{div-le-self, mul-le-mul, mul-div-le, mul-le-mul-right, le-trans}
+use native.Mathlib.Omega.{arith}
+use Rattle.model.specs.declared.Table.{Table}
+use Rattle.model.specs.Limits.{slotLimit, roundLimit}
+use Rattle.model.specs.Tasks.{task, round}
+use Rattle.counting.specs.Divisors.{lcmAll, lcmAll-mono, lcmAll-pos, divides-lcmAll, round-is}
+use Rattle.wellformed.specs.Ranges.{Ranged}
+
+-- r is H where H keeps its limit, and is above the limit where H is.
+pub record RoundTold (t : Table) (r : ℕ) : Type 0 where
+  pub exact : r ≤ roundLimit → r ≡ round t
+  pub above : roundLimit < r → roundLimit < round t
+
+-- r is H, and keeps its limit.
+pub record RoundKept (t : Table) (r : ℕ) : Type 0 where
+  pub is : r ≡ round t
+  pub le : r ≤ roundLimit
+
+-- The period of task i.
+abbrev pub period : Table → ℕ → ℕ
+period t i = task t i .period
+
+module _ (t : Table) (ranged : Ranged t) where
+  periods-pos : (i : ℕ) → i < t .count → 0 < period t i
+  periods-pos i l = ranged .each i l .period-pos
+
+  -- H is the least common multiple that the code finds.
+  pub round-lcm : round t ≡ lcmAll (t .count) (period t)
+  round-lcm = round-is t periods-pos
+
+  -- H is not 0.
+  pub round-pos : 0 < round t
+  round-pos = rw round-lcm (lcmAll-pos (t .count) (period t) periods-pos)
+
+  -- Each period divides H.
+  pub period-divides : (i : ℕ) → i < t .count → period t i ∣ round t
+  period-divides i l = rw round-lcm (divides-lcmAll (t .count) (period t) i l)
+
+  -- The least common multiple of all periods tells H.
+  pub told-all : {r : ℕ} → r ≡ lcmAll (t .count) (period t) → RoundTold t r
+  told-all e = record { exact = λ l. e ∙ sym round-lcm; above = λ l. omega (arith, round-lcm) }
+
+  -- So does that of some of them, once it is above the limit: with more of them it does not fall.
+  pub told-above : (i : ℕ) {r : ℕ} → i ≤ t .count → r ≡ lcmAll i (period t) → roundLimit < r → RoundTold t r
+  told-above i l e h = record { exact = λ k. absurd (omega arith); above = λ k. omega (arith, round-lcm, lcmAll-mono i (t .count) (period t) l periods-pos) }
+
+-- The next multiple of a number up to the limit and of a period.
+pub multiple-le : (r g p : ℕ) → r ≤ roundLimit → p ≤ slotLimit → r / g * p ≤ roundLimit * slotLimit
+multiple-le r g p a b = mul-le-mul (le-trans (div-le-self r g) a) b
+
+-- The slots that the jobs of task i ask for in h slots: at most h.
+abbrev pub share : Table → ℕ → ℕ → ℕ
+share t h i = task t i .cost * (h / task t i .period)
+
+pub share-le : (t : Table) → Ranged t → (h i : ℕ) → i < t .count → share t h i ≤ h
+share-le t r h i l =
+    let k = r .each i l in
+    le-trans (mul-le-mul-right (h / task t i .period) (le-trans (k .cost-le) (k .deadline-le))) (mul-div-le h (task t i .period))

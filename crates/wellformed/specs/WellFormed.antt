@@ -1,0 +1,94 @@
+-- What holds of a table that is judged well-formed.
+use mathlib.Core.Path.{_≡_, refl, ap}
+use mathlib.Core.Bool.{Bool, true, false, cond}
+use Prim.Native.Nat.{ℕ, _+_, _*_, _≤_, _<_, _∣_}
+use native.Mathlib.Nat.{mul-le-mul}
+use native.Mathlib.Omega.{arith}
+use lib.Dec.{eqb, ltb}
+use borrow.Author.Tests.{eqb-false, ltb-false, ne-eqb, le-ltb, lt-ltb}
+use Rattle.model.specs.declared.Table.{Table}
+use Rattle.model.specs.declared.Measure.{Measure}
+use Rattle.model.specs.declared.Judgement.{Judgement}
+use Rattle.model.specs.Limits.{taskLimit, slotLimit, roundLimit}
+use Rattle.model.specs.Tasks.{task, taskFault, firstFaulty, round, load, horizon, refuse, judged}
+use Rattle.counting.specs.Sum.{sum-bound}
+use Rattle.counting.specs.Search.{le-largest, largest-le}
+use Rattle.wellformed.specs.Ranges.{Ranged, ranged, none-faulty}
+use Rattle.wellformed.specs.Round.{round-pos, period-divides, share, share-le}
+
+-- A well-formed table, and what it measures.
+pub record WellFormed (t : Table) (m : Measure) : Type 0 where
+  pub ranged : Ranged t
+  pub round-is : m .round ≡ round t
+  pub load-is : m .load ≡ load t
+  pub horizon-is : m .horizon ≡ horizon t
+  pub round-pos : 0 < round t
+  pub round-le : round t ≤ roundLimit
+  pub divides : (i : ℕ) → i < t .count → task t i .period ∣ round t
+  pub load-le : load t ≤ taskLimit * roundLimit
+  pub offset-le : (i : ℕ) → i < t .count → task t i .offset + 2 * round t ≤ horizon t
+  pub horizon-le : horizon t ≤ slotLimit + 2 * roundLimit
+
+-- What a table measures.
+abbrev pub measure : Table → Measure
+measure t = record { round = round t; load = load t; horizon = horizon t }
+
+-- Of a table that keeps its ranges, H decides.
+judged-ranged : (t : Table) → Ranged t → judged t ≡ cond (ltb roundLimit (round t)) (refuse 7 0) (Judgement.WellFormed (measure t))
+unfolding judged
+judged-ranged t r = rw (ne-eqb (t .count) 0 (omega arith), le-ltb taskLimit (t .count) (omega arith), le-ltb (firstFaulty t) (t .count) (omega (arith, none-faulty t r)))
+
+-- It is refused where H is above its limit.
+pub judged-long : (t : Table) → Ranged t → roundLimit < round t → judged t ≡ refuse 7 0
+judged-long t r h = rw (judged-ranged t r, lt-ltb roundLimit (round t) h)
+
+-- Else it is well-formed, and measures this.
+pub judged-of : (t : Table) → Ranged t → round t ≤ roundLimit → judged t ≡ Judgement.WellFormed (measure t)
+judged-of t r h = rw (judged-ranged t r, le-ltb roundLimit (round t) h)
+
+-- A table that one test does not refuse goes on to the next.
+passed : (p : Bool) (n place : ℕ) {j : Judgement} {m : Measure} → cond p (refuse n place) j ≡ Judgement.WellFormed m → (p ≡ false) × (j ≡ Judgement.WellFormed m)
+passed true n place e = let z : _≡_ {A = ℕ} 0 1 = cc in absurd (omega arith)
+passed false n place e = (refl, e)
+
+-- Every task asks for at most all slots.
+load-bound : (t : Table) → Ranged t → round t ≤ roundLimit → load t ≤ taskLimit * roundLimit
+unfolding load
+load-bound t r h = omega (arith, sum-bound (t .count) (share t (round t)) (round t) (share-le t r (round t)), mul-le-mul (r .few) h)
+
+horizon-bound : (t : Table) → Ranged t → round t ≤ roundLimit → horizon t ≤ slotLimit + 2 * roundLimit
+unfolding horizon
+horizon-bound t r h = omega (arith, largest-le (t .count) (λ i. task t i .offset) slotLimit (λ i l. r .each i l .offset-le))
+
+-- Two rounds lie between any offset and the horizon.
+offset-bound : (t : Table) (i : ℕ) → i < t .count → task t i .offset + 2 * round t ≤ horizon t
+unfolding horizon
+offset-bound t i l = omega (arith, le-largest (t .count) (λ j. task t j .offset) i l)
+
+-- A table that is judged well-formed is so.
+pub well-formed : (t : Table) (m : Measure) → judged t ≡ Judgement.WellFormed m → WellFormed t m
+unfolding judged
+well-formed t m e =
+    let (a, e₁) = passed (eqb (t .count) 0) 1 0 e in
+    let (b, e₂) = passed (ltb taskLimit (t .count)) 2 taskLimit e₁ in
+    let (c, e₃) = passed (ltb (firstFaulty t) (t .count)) (taskFault (task t (firstFaulty t))) (firstFaulty t) e₂ in
+    let (d, e₄) = passed (ltb roundLimit (round t)) 7 0 e₃ in
+    let r = ranged t (omega (arith, eqb-false (t .count) 0 a)) (ltb-false taskLimit (t .count) b) (ltb-false (firstFaulty t) (t .count) c) in
+    let h = ltb-false roundLimit (round t) d in
+    let same : m ≡ measure t = cc in
+    record {
+      ranged = r;
+      round-is = ap (λ (x : Measure). x .round) same;
+      load-is = ap (λ (x : Measure). x .load) same;
+      horizon-is = ap (λ (x : Measure). x .horizon) same;
+      round-pos = round-pos t r;
+      round-le = h;
+      divides = period-divides t r;
+      load-le = load-bound t r h;
+      offset-le = offset-bound t;
+      horizon-le = horizon-bound t r h;
+    }
+
+-- And what is so is judged so.
+pub judged-so : (t : Table) (m : Measure) → WellFormed t m → judged t ≡ Judgement.WellFormed m
+judged-so t m w = rw (judged-of t (w .ranged) (w .round-le), ← w .round-is, ← w .load-is, ← w .horizon-is)

@@ -1,0 +1,1 @@
+// What a table keeps that is not refused.
