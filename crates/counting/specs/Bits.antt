@@ -4,13 +4,14 @@ use mathlib.Core.Bool.{Bool, true, false}
 use Prim.Native.Nat.{ℕ, zero, suc, _+_, _*_, _/_, _%_, _^_, _≤_, _<_}
 use native.Mathlib.Nat.{add-comm, pow-suc, le-refl, le-step}
 use native.Mathlib.Decide.{le-ind}
-use native.Mathlib.Numerals.{add-one}
+use native.Mathlib.Numerals.{add-one, one-add}
 use native.Mathlib.Omega.{arith}
 use lib.Dec.{T, lit<}
 use lib.Bits.{bitOr, or-shifted-r}
-use lib.Pow.{shl-exact}
+use lib.Pow.{shl-exact, shr-shr}
 use lib.Count.{ones, ones-cat, trailingZeros, under}
 use Rattle.model.specs.Notation.{bit, sum, count, first, bits}
+use Rattle.counting.specs.Sum.{sum-eq}
 use Rattle.counting.specs.Search.{NoneFrom, first-shift}
 
 -- The start of a loop that sets the bits.
@@ -78,3 +79,30 @@ bits-past p n m h = le-ind (λ (k : ℕ). NoneFrom p n k → bits p k ≡ bits p
 -- Numbers that do not pass add nothing to the count.
 pub count-past : (p : ℕ → Bool) (n m : ℕ) → n ≤ m → NoneFrom p n m → count p m ≡ count p n
 count-past p n m h f = sym (ones-bits p m) ∙ ap ones (bits-past p n m h f) ∙ ones-bits p n
+
+-- Two tests that agree below n have the same members.
+pub bits-eq : (p q : ℕ → Bool) (n : ℕ) → ((i : ℕ) → i < n → p i ≡ q i) → bits p n ≡ bits q n
+unfolding bits
+bits-eq p q n h = sum-eq n (λ k. bit (p k) * 2 ^ k) (λ k. bit (q k) * 2 ^ k) (λ i l. rw (h i l))
+
+-- Bit i of the set says whether i passes.
+pub bits-at : (p : ℕ → Bool) (n i : ℕ) → i < n → bits p n / 2 ^ i % 2 ≡ bit (p i)
+bits-at p zero i l = absurd (omega arith)
+bits-at p (suc n) i l = rw bits-low (go i l (bits-at (λ k. p (suc k)) n))
+  where
+    rest : ℕ
+    rest = bits (λ k. p (suc k)) n
+
+    low : (b : Bool) → (rest * 2 + bit b) / 1 % 2 ≡ bit b
+    low true = omega arith
+    low false = omega arith
+
+    half : (b : Bool) → (rest * 2 + bit b) / 2 ≡ rest
+    half true = omega arith
+    half false = omega arith
+
+    go : (i : ℕ) → i < suc n → ((j : ℕ) → j < n → rest / 2 ^ j % 2 ≡ bit (p (suc j))) → (rest * 2 + bit (p 0)) / 2 ^ i % 2 ≡ bit (p i)
+    go zero a h = low (p 0)
+    go (suc j) a h =
+        let e : (rest * 2 + bit (p 0)) / 2 ^ suc j ≡ rest / 2 ^ j = rw (← one-add j, ← shr-shr (rest * 2 + bit (p 0)) 1 j, half (p 0)) in
+        rw e (h j (omega arith))

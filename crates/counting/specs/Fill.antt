@@ -1,13 +1,14 @@
 -- Laws of a loop that writes a list from the front: `fill n f w` is w with its entries below n replaced by f 0, f 1, ..
 use mathlib.Core.Path.{_≡_, refl, sym, ap, _∙_}
+use mathlib.Core.Logic.{_≢_}
 use mathlib.Core.List.{List}
 use Prim.Native.Nat.{ℕ, zero, suc, _+_, _-_, _≤_, _<_}
 use native.Mathlib.Nat.{le-antisymm, le-of-eq, le-refl, le-step}
-use native.Mathlib.Decide.{ℕ-discrete, le-ind}
+use native.Mathlib.Decide.{ℕ-discrete, decLt, le-ind}
 use native.Mathlib.Numerals.{add-one}
 use native.Mathlib.Omega.{arith}
 use lib.ListN.{length, getD, set, take, drop, length-drop, length-set}
-use lib.Seq.{take-all, set-out, getD-set-same, getD-set-other, ext-getD}
+use lib.Seq.{take-all, set-out, set-getD, set-set, set-comm, getD-set-same, getD-set-other, ext-getD}
 use Rattle.model.specs.Notation.{fill}
 
 -- What a loop's invariant says of its counter holds at the end.
@@ -75,3 +76,30 @@ module _ {A : Type 0} where
   pub fill-over : (n m : ℕ) (f : ℕ → A) (w : List A) → length w ≤ n → n ≤ m → fill m f w ≡ fill n f w
   unfolding fill
   fill-over n m f w h = le-ind (λ (k : ℕ). fill k f w ≡ fill n f w) refl (λ k l e. set-out (fill k f w) k (f k) (omega (arith, fill-length k f w)) ∙ e) m
+
+  -- A list filled with its own entries is as it was.
+  pub fill-same : (n : ℕ) (w : List A) (d : A) → fill n (λ i. getD w i d) w ≡ w
+  unfolding fill
+  fill-same zero w d = refl
+  fill-same (suc n) w d = rw (fill-same n w d, set-getD w n d)
+
+  -- What was filled before is filled anew.
+  pub fill-again : (n : ℕ) (f g : ℕ → A) (w : List A) → fill n f (fill n g w) ≡ fill n f w
+  fill-again n f g w =
+      ext-getD (f 0) (fill n f (fill n g w)) (fill n f w) (fill-length n f (fill n g w) ∙ fill-length n g w ∙ sym (fill-length n f w))
+      (λ i l.
+      let h : i < length w = omega (arith, fill-length n f (fill n g w), fill-length n g w) in
+      elim (decLt i n) [
+        | yes a ↦ fill-passed n f (fill n g w) i (f 0) a (omega (arith, fill-length n g w)) ∙ sym (fill-passed n f w i (f 0) a h)
+        | no a ↦ fill-ahead n f (fill n g w) i (f 0) (omega arith) ∙ fill-ahead n g w i (f 0) (omega arith) ∙ sym (fill-ahead n f w i (f 0) (omega arith))
+      ])
+
+  -- A store into a filled list, as one fill.
+  pub fill-set : (n : ℕ) (f g : ℕ → A) (w : List A) (k : ℕ) {v : A} → k < n → v ≡ g k → ((i : ℕ) → i < n → i ≢ k → f i ≡ g i) → set (fill n f w) k v ≡ fill n g w
+  unfolding fill
+  fill-set zero f g w k l e h = absurd (omega arith)
+  fill-set (suc n) f g w k {v} l e h = go (ℕ-discrete n k) (λ a. fill-set n f g w k a e (λ i b. h i (le-step b)))
+    where
+      go : Dec (n ≡ k) → (k < n → set (fill n f w) k v ≡ fill n g w) → set (set (fill n f w) n (f n)) k v ≡ set (fill n g w) n (g n)
+      go (yes q) ih = rw (← q, set-set, fill-eq n f g w (λ i b. h i (le-step b) (omega arith)), e, ← q)
+      go (no q) ih = rw (set-comm (fill n f w) n k (f n) v q, ih (omega arith), h n (le-refl (suc n)) q)

@@ -1,0 +1,83 @@
+-- The loop has the late jobs of the tasks that it has passed.
+use mathlib.Core.Path.{_≡_}
+use Prim.Native.Nat.{_≤_, _-_}
+use native.Mathlib.Omega.{arith}
+use denote.Ref.{now}
+use borrow.Author.Tests.{lt-ltb}
+use borrow.Author.Needs.{needs}
+use Rattle.model.specs.Notation.{bits}
+use Rattle.counting.specs.Bits.{bits-none, bits-more, bits-lt}
+use Rattle.slots.specs.Slot.{isLate}
+use Rattle.slots.specs.Laws.{late-done}
+use Rattle.slots.proofs.late_set.Statement.{statement}
+use Rattle.slots.proofs.late_set.Tie as tie
+
+abbrev Inv-loop : tie.InvT-loop
+Inv-loop wait left slack n tasks₀ i₀ tasks i = (i ≤ n) × (tasks ≡ bits (isLate wait left slack n) i)
+
+abbrev μ-loop : tie.MeasureT-loop
+μ-loop wait left slack n tasks₀ i₀ tasks i = n - i
+
+loop-holds : tie.Need-loop-holds Inv-loop μ-loop
+loop-holds c = (omega arith, bits-none _)
+
+mul-at-deadline : tie.Need-mul-at-deadline Inv-loop μ-loop
+mul-at-deadline c = search needs
+
+element-copy-out-at-deadline : tie.Need-element-copy-out-at-deadline Inv-loop μ-loop
+element-copy-out-at-deadline c = search needs
+
+mul-at-deadline-2 : tie.Need-mul-at-deadline-2 Inv-loop μ-loop
+mul-at-deadline-2 c = search needs
+
+element-copy-out-at-deadline-2 : tie.Need-element-copy-out-at-deadline-2 Inv-loop μ-loop
+element-copy-out-at-deadline-2 c = search needs
+
+mul-at-deadline-3 : tie.Need-mul-at-deadline-3 Inv-loop μ-loop
+mul-at-deadline-3 c = search needs
+
+element-copy-out-at-deadline-3 : tie.Need-element-copy-out-at-deadline-3 Inv-loop μ-loop
+element-copy-out-at-deadline-3 c = search needs
+
+at-deadline-requires : tie.Need-at-deadline-requires Inv-loop μ-loop
+at-deadline-requires c κs = search needs
+
+joined-requires : tie.Need-joined-requires Inv-loop μ-loop
+joined-requires c κs = (omega arith, rw (c .before .before .before .before .before .loop .inv .1) (bits-lt _ _))
+
+add-i : tie.Need-add-i Inv-loop μ-loop
+add-i c = search needs
+
+loop-less : tie.Need-loop-less Inv-loop μ-loop
+loop-less c = search needs
+
+loop-again : tie.Need-loop-again Inv-loop μ-loop
+loop-again c = let a = c .before .before .before .before .before .before in
+    let l = lt-ltb (a .loop .i) (a .before .args .n) (omega arith) in
+    (omega arith, bits-more (isLate (now (a .before .args .wait)) (now (a .before .args .left)) (now (a .before .args .slack)) (a .before .args .n)) _ (a .loop .inv .1) (rw (c .joined .ensures, c .before .at-deadline .ensures, l)))
+
+returns : tie.Need-returns Inv-loop μ-loop
+returns c =
+    let a = c .before in
+    let s = a .before .args in
+    late-done (now (s .wait)) (now (s .left)) (now (s .slack)) _ _ (a .loop .inv .0) (omega arith) (omega arith) (a .loop .inv .1)
+
+pub late-set-spec : {M : Type 1} → statement M
+late-set-spec =
+    tie.close
+    (tie.spec
+    Inv-loop
+    μ-loop
+    loop-holds
+    mul-at-deadline
+    element-copy-out-at-deadline
+    mul-at-deadline-2
+    element-copy-out-at-deadline-2
+    mul-at-deadline-3
+    element-copy-out-at-deadline-3
+    at-deadline-requires
+    joined-requires
+    add-i
+    loop-less
+    loop-again
+    returns)

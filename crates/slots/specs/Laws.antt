@@ -1,0 +1,140 @@
+-- Laws of the rules of a slot: what they make of lists whose entries for the n tasks are known.
+use mathlib.Core.Path.{_≡_, refl, sym, ap, _∙_}
+use mathlib.Core.Logic.{_⊎_, inl, inr}
+use mathlib.Core.List.{List}
+use mathlib.Core.Bool.{Bool, true, false, cond, _&&_}
+use Prim.Native.Nat.{ℕ, _-_, _≤_, _<_}
+use native.Mathlib.Omega.{arith}
+use borrow.Author.Tests.{lt-ltb, le-ltb, eq-eqb, ne-eqb}
+use lib.Dec.{ltb, eqb, ltb→lt}
+use lib.ListN.{length, set, replicate}
+use Rattle.model.specs.declared.Table.{Table}
+use Rattle.model.specs.Limits.{taskLimit}
+use Rattle.model.specs.Notation.{bit, bits, fill}
+use Rattle.model.specs.Tasks.{task}
+use Rattle.model.specs.Run.{Order, tieOrder, choose}
+use Rattle.counting.specs.Count.{and-iff}
+use Rattle.counting.specs.Fill.{at-end, fill-passed, fill-eq, fill-same, fill-again, fill-set}
+use Rattle.counting.specs.Bits.{bits-at, bits-past}
+use Rattle.slots.specs.Slot.{at, isLate, isMember, closed, waitReleased, leftReleased, waitsReleased, leftsReleased, chosen, given, passed, Served}
+use Rattle.slots.specs.Columns.{columnsOf}
+use Rattle.slots.specs.Choice.{choose-range, choose-eq}
+
+-- The end of the loop that finds the late jobs: past the n tasks there are none.
+pub late-done : (wait left slack : List ℕ) {tasks : ℕ} (i n : ℕ) → i ≤ n → n ≤ i → n ≤ taskLimit → tasks ≡ bits (isLate wait left slack n) i → tasks ≡ bits (isLate wait left slack n) taskLimit
+late-done wait left slack i n a b h e =
+    at-end (bits (isLate wait left slack n)) i n a b e
+    ∙ sym (bits-past (isLate wait left slack n) n taskLimit h (λ k l m t.
+    let q : k < n = ltb→lt k n (and-iff (ltb k n) (ltb 0 (at left k) && eqb (at wait k) (at slack k)) .0 t .0) in
+    omega arith))
+
+-- A member of the set of those that pass is one that passes.
+pub member-is : (p : ℕ → Bool) (i : ℕ) → i < taskLimit → isMember (bits p taskLimit) i ≡ p i
+member-is p i l = ap (λ (x : ℕ). eqb x 1) (bits-at p taskLimit i l) ∙ go (p i)
+  where
+    go : (b : Bool) → eqb (bit b) 1 ≡ b
+    go true = refl
+    go false = refl
+
+-- The list has the numbers f 0, f 1, .. for the n tasks.
+abbrev pub Has : ℕ → List ℕ → (ℕ → ℕ) → Type 0
+Has n l f = (i : ℕ) → i < n → at l i ≡ f i
+
+-- A filled list has what it was filled with.
+pub fill-has : (n : ℕ) (f : ℕ → ℕ) (l : List ℕ) → n ≤ length l → Has n (fill n f l) f
+fill-has n f l h i a = fill-passed n f l i 0 a (omega arith)
+
+-- One task's number is changed: none of them, if it is no task.
+store-fill : (n : ℕ) (f g : ℕ → ℕ) (w : List ℕ) (task v : ℕ) → n ≤ taskLimit → (task ≡ taskLimit) ⊎ (task < n) → (task < n → v ≡ g task) → ((i : ℕ) → i < n → (i ≡ task → ⊥) → f i ≡ g i)
+    → cond (ltb task taskLimit) (set (fill n f w) task v) (fill n f w) ≡ fill n g w
+store-fill n f g w task v h (inl e) q s = rw (le-ltb task taskLimit (omega arith)) (fill-eq n f g w (λ i l. s i l (omega arith)))
+store-fill n f g w task v h (inr l) q s = rw (lt-ltb task taskLimit (omega arith)) (fill-set n f g w task l (q l) s)
+
+-- The job of one task is closed.
+pub closed-fill : (n : ℕ) (left : List ℕ) (task : ℕ) → n ≤ taskLimit → (task ≡ taskLimit) ⊎ (task < n) → closed left task ≡ fill n (λ i. cond (eqb task i) 0 (at left i)) left
+unfolding closed
+closed-fill n left task h r =
+    ap (λ (l : List ℕ). cond (ltb task taskLimit) (set l task 0) l) (sym (fill-same n left 0))
+    ∙ store-fill n (at left) (λ i. cond (eqb task i) 0 (at left i)) left task 0 h r (λ l. rw (eq-eqb task task refl)) (λ i l q. rw (ne-eqb task i (λ e. q (sym e))))
+
+-- A slot's releases, for waits W, slots left L, periods P and costs C.
+abbrev pub waitThen : (ℕ → ℕ) → (ℕ → ℕ) → ℕ → ℕ
+waitThen W P i = cond (eqb (W i) 0) (P i) (W i)
+
+abbrev pub leftThen : (ℕ → ℕ) → (ℕ → ℕ) → (ℕ → ℕ) → ℕ → ℕ
+leftThen W L C i = cond (eqb (W i) 0) (C i) (L i)
+
+-- A slot in the numbers of its n tasks, with slacks S and ranks R.
+pub record Slotted (n : ℕ) (W L P C S : ℕ → ℕ) (R : Order) (wait left wait′ left′ : List ℕ) (owner : ℕ) : Type 0 where
+  pub owned : owner ≡ choose (λ i. ltb 0 (leftThen W L C i)) (λ i. waitThen W P i - S i) R n
+  pub waits : wait′ ≡ fill n (λ i. waitThen W P i - 1) wait
+  pub lefts : left′ ≡ fill n (λ i. leftThen W L C i - cond (eqb owner i) 1 0) left
+
+module _
+    (n : ℕ) (wait left period cost slack rank : List ℕ) (W L P C S : ℕ → ℕ) (R : Order)
+    (few : n ≤ taskLimit) (wait-long : length wait ≡ taskLimit) (left-long : length left ≡ taskLimit)
+    (wait-has : Has n wait W) (left-has : Has n left L)
+    (period-has : Has n period P) (cost-has : Has n cost C) (slack-has : Has n slack S) (rank-has : Has n rank R)
+  where
+    wait-then : (i : ℕ) → i < n → waitReleased wait period i ≡ waitThen W P i
+    wait-then i l = rw (wait-has i l, period-has i l)
+
+    left-then : (i : ℕ) → i < n → leftReleased wait left cost i ≡ leftThen W L C i
+    left-then i l = rw (wait-has i l, cost-has i l, left-has i l)
+
+    waits-have : Has n (waitsReleased wait period n) (waitThen W P)
+    unfolding waitsReleased
+    waits-have i l = fill-has n (waitReleased wait period) wait (omega arith) i l ∙ wait-then i l
+
+    lefts-have : Has n (leftsReleased wait left cost n) (leftThen W L C)
+    unfolding leftsReleased
+    lefts-have i l = fill-has n (leftReleased wait left cost) left (omega arith) i l ∙ left-then i l
+
+    owned-by : {owner : ℕ} → owner ≡ chosen (waitsReleased wait period n) (leftsReleased wait left cost n) slack rank n → owner ≡ choose (λ i. ltb 0 (leftThen W L C i)) (λ i. waitThen W P i - S i) R n
+    unfolding chosen
+    owned-by e = e ∙ choose-eq _ _ _ _ _ _ n (λ i l. ap (ltb 0) (lefts-have i l)) (λ i l. rw (waits-have i l, slack-has i l)) rank-has
+
+    waits-passed : passed (waitsReleased wait period n) n ≡ fill n (λ i. waitThen W P i - 1) wait
+    unfolding passed waitsReleased
+    waits-passed = fill-again n _ _ wait ∙ fill-eq n _ _ wait (λ i l. rw (waits-have i l))
+
+    left-given : (owner : ℕ) → (owner ≡ taskLimit) ⊎ (owner < n) → given (leftsReleased wait left cost n) owner ≡ fill n (λ i. leftThen W L C i - cond (eqb owner i) 1 0) left
+    unfolding given leftsReleased
+    left-given owner r =
+        store-fill n _ _ left owner _ few r (λ l. rw (lefts-have owner l, eq-eqb owner owner refl))
+        (λ i l q. left-then i l ∙ rw (ne-eqb owner i (λ e. q (sym e))) (omega arith))
+
+    -- The served slot, in those numbers.
+    pub slotted : {wait′ left′ : List ℕ} {owner : ℕ} → Served wait left period cost slack rank n wait′ left′ owner → Slotted n W L P C S R wait left wait′ left′ owner
+    slotted {owner = owner} s =
+        record {
+          owned = owned-by (s .owned);
+          waits = s .waits ∙ waits-passed;
+          lefts = s .lefts ∙ left-given owner (rw (owned-by (s .owned)) (choose-range _ _ _ n));
+        }
+
+-- What the columns of a table have for its tasks.
+module _ (t : Table) (few : t .count ≤ taskLimit) where
+  period-has : Has (t .count) (columnsOf t .period) (λ i. task t i .period)
+  unfolding columnsOf
+  period-has = fill-has (t .count) _ (replicate taskLimit 0) few
+
+  cost-has : Has (t .count) (columnsOf t .cost) (λ i. task t i .cost)
+  unfolding columnsOf
+  cost-has = fill-has (t .count) _ (replicate taskLimit 0) few
+
+  pub slack-has : Has (t .count) (columnsOf t .slack) (λ i. task t i .period - task t i .deadline)
+  unfolding columnsOf
+  slack-has = fill-has (t .count) _ (replicate taskLimit 0) few
+
+  rank-has : Has (t .count) (columnsOf t .rank) (tieOrder t)
+  unfolding columnsOf
+  rank-has = fill-has (t .count) _ (replicate taskLimit 0) few
+
+  -- A slot of the table's tasks.
+  pub table-slotted :
+      (wait left : List ℕ) (W L : ℕ → ℕ) {wait′ left′ : List ℕ} {owner : ℕ} → length wait ≡ taskLimit → length left ≡ taskLimit → Has (t .count) wait W → Has (t .count) left L
+      → Served wait left (columnsOf t .period) (columnsOf t .cost) (columnsOf t .slack) (columnsOf t .rank) (t .count) wait′ left′ owner
+      → Slotted (t .count) W L (λ i. task t i .period) (λ i. task t i .cost) (λ i. task t i .period - task t i .deadline) (tieOrder t) wait left wait′ left′ owner
+  table-slotted wait left W L wait-long left-long wait-has left-has =
+      slotted (t .count) wait left _ _ _ _ W L _ _ _ _ few wait-long left-long wait-has left-has period-has cost-has slack-has rank-has

@@ -1,0 +1,214 @@
+// One slot, over two numbers for each task: its wait, the slots until its next release, and the slots left to its open job.
+ghost use mathlib.Core.Path.{_≡_};
+ghost use mathlib.Core.Bool.{cond, _&&_, _||_};
+ghost use Prim.Native.Nat.{_+_, _-_, _*_, _^_, _≤_, _<_};
+ghost use lib.Dec.{ltb, eqb};
+ghost use Rattle.model.specs.Limits.{taskLimit};
+ghost use Rattle.model.specs.Notation.{bit, bits};
+ghost use Rattle.model.specs.Run.{tieOrder};
+ghost use Rattle.slots.specs.Columns.{columnsOf};
+ghost use Rattle.slots.specs.Slot.{closed, isLate, isMember, closedAll, Released, chosen, given, passed, Served};
+use model::Table;
+
+// Tasks in a table. As a task's number it stands for no task.
+pub const TASK_LIMIT: usize = 16;
+
+pub const NO_TASK: u32 = TASK_LIMIT as u32;
+
+// A number for each task.
+pub type Numbers = [u32; TASK_LIMIT];
+
+// A rank is below this, so that a deadline and a rank are compared as one number.
+const RANKS: u64 = 4294967296;
+
+// What a slot reads of a table, a list for each number. The slack is T - D: the wait of a job at its deadline.
+pub struct Columns {
+    pub period: Numbers,
+    pub cost: Numbers,
+    pub slack: Numbers,
+    pub rank: Numbers,
+}
+
+pub fn unpack(t: Table) -> Columns
+    requires { ⌜ t .count ≤ taskLimit ⌝ }
+    ensures { λ r. ⌜ r ≡ columnsOf t ⌝ }
+{
+    let n = t.count;
+    let mut period = [0u32; TASK_LIMIT];
+    let mut cost = [0u32; TASK_LIMIT];
+    let mut slack = [0u32; TASK_LIMIT];
+    let mut rank = [0u32; TASK_LIMIT];
+    for i in 0..n {
+        let task = t.tasks[i];
+        period[i] = task.period;
+        cost[i] = task.cost;
+        slack[i] = less(task.period, task.deadline);
+        rank[i] = rank_of(t, i);
+    }
+    Columns {
+        period,
+        cost,
+        slack,
+        rank,
+    }
+}
+
+// Of two tasks that tie, the one of lower rank goes first.
+pub fn rank_of(t: Table, i: usize) -> u32
+    requires { ⌜ i < taskLimit ⌝ }
+    ensures { λ r. ⌜ r ≡ tieOrder t i ⌝ }
+{
+    i as u32
+}
+
+fn less(x: u32, y: u32) -> u32
+    ensures { λ r. ⌜ r ≡ x - y ⌝ }
+{
+    if x < y { 0 } else { x - y }
+}
+
+// The open jobs at their deadline, as a set of bits.
+pub fn late_set(wait: &Numbers, left: &Numbers, slack: &Numbers, n: usize) -> u32
+    requires { ⌜ n ≤ taskLimit ⌝ }
+    ensures { λ r. ⌜ r ≡ bits (isLate (now (wait .entry)) (now (left .entry)) (now (slack .entry)) n) taskLimit ⌝ }
+{
+    let mut tasks: u32 = 0;
+    for i in 0..n {
+        tasks = joined(tasks, i, at_deadline(wait[i], left[i], slack[i]));
+    }
+    tasks
+}
+
+fn at_deadline(wait: u32, left: u32, slack: u32) -> bool
+    ensures { λ r. ⌜ r ≡ (ltb 0 left && eqb wait slack) ⌝ }
+{
+    0 < left && wait == slack
+}
+
+// The set with i, if i is a member; the others are below i.
+fn joined(tasks: u32, i: usize, member: bool) -> u32
+    requires { ⌜ (i < taskLimit) × (tasks < 2 ^ i) ⌝ }
+    ensures { λ r. ⌜ r ≡ tasks + bit member * 2 ^ i ⌝ }
+{
+    if member { tasks | (1u32 << i) } else { tasks }
+}
+
+// The jobs of a set of tasks are closed.
+pub fn close_all(left: &mut Numbers, tasks: u32, n: usize)
+    requires { ⌜ n ≤ taskLimit ⌝ }
+    ensures { λ _. ⌜ now (left .exit) ≡ closedAll (now (left .entry)) tasks n ⌝ }
+{
+    for i in 0..n {
+        left[i] = none_if(is_member(tasks, i), left[i]);
+    }
+}
+
+fn is_member(tasks: u32, i: usize) -> bool
+    requires { ⌜ i < taskLimit ⌝ }
+    ensures { λ r. ⌜ r ≡ isMember tasks i ⌝ }
+{
+    (tasks >> i) & 1 == 1
+}
+
+fn none_if(closed: bool, left: u32) -> u32
+    ensures { λ r. ⌜ r ≡ cond closed 0 left ⌝ }
+{
+    if closed { 0 } else { left }
+}
+
+// The job of a task is closed; that of no task is none.
+pub fn close(left: &mut Numbers, task: u32)
+    ensures { λ _. ⌜ now (left .exit) ≡ closed (now (left .entry)) task ⌝ }
+{
+    if task < NO_TASK {
+        let i = task as usize;
+        left[i] = 0;
+    }
+}
+
+// A task whose wait is 0 has a job released, and waits a period.
+pub fn release(wait: &mut Numbers, left: &mut Numbers, period: &Numbers, cost: &Numbers, n: usize)
+    requires { ⌜ n ≤ taskLimit ⌝ }
+    ensures { λ _. ⌜ Released (now (wait .entry)) (now (left .entry)) (now (period .entry)) (now (cost .entry)) n (now (wait .exit)) (now (left .exit)) ⌝ }
+{
+    for i in 0..n {
+        let w = wait[i];
+        left[i] = at_release(w, cost[i], left[i]);
+        wait[i] = at_release(w, period[i], w);
+    }
+}
+
+fn at_release(wait: u32, new: u32, old: u32) -> u32
+    ensures { λ r. ⌜ r ≡ cond (eqb wait 0) new old ⌝ }
+{
+    if wait == 0 { new } else { old }
+}
+
+// The open task that comes first by its slots to the deadline and then its rank, or no task.
+pub fn choose(wait: &Numbers, left: &Numbers, slack: &Numbers, rank: &Numbers, n: usize) -> u32
+    requires { ⌜ n ≤ taskLimit ⌝ }
+    ensures { λ r. ⌜ r ≡ chosen (now (wait .entry)) (now (left .entry)) (now (slack .entry)) (now (rank .entry)) n ⌝ }
+{
+    let mut owner = NO_TASK;
+    let mut least: u64 = 0;
+    for i in 0..n {
+        let key = key_of(less(wait[i], slack[i]), rank[i]);
+        if comes_first(left[i], owner, key, least) {
+            least = key;
+            owner = i as u32;
+        }
+    }
+    owner
+}
+
+fn key_of(due: u32, rank: u32) -> u64
+    ensures { λ r. ⌜ (r ≡ due * 2 ^ 32 + rank) × (rank < 2 ^ 32) ⌝ }
+{
+    due as u64 * RANKS + rank as u64
+}
+
+fn comes_first(left: u32, owner: u32, key: u64, least: u64) -> bool
+    ensures { λ r. ⌜ r ≡ (ltb 0 left && (eqb owner taskLimit || ltb key least)) ⌝ }
+{
+    0 < left && (owner == NO_TASK || key < least)
+}
+
+// The task has one slot fewer left.
+pub fn give(left: &mut Numbers, task: u32)
+    ensures { λ _. ⌜ now (left .exit) ≡ given (now (left .entry)) task ⌝ }
+{
+    if task < NO_TASK {
+        let i = task as usize;
+        left[i] = less(left[i], 1);
+    }
+}
+
+// Every wait goes down by one.
+pub fn pass(wait: &mut Numbers, n: usize)
+    requires { ⌜ n ≤ taskLimit ⌝ }
+    ensures { λ _. ⌜ now (wait .exit) ≡ passed (now (wait .entry)) n ⌝ }
+{
+    for i in 0..n {
+        wait[i] = less(wait[i], 1);
+    }
+}
+
+// The slot itself: releases, the choice, and the slot given. Its owner is handed back, or no task.
+pub fn serve(
+    wait: &mut Numbers,
+    left: &mut Numbers,
+    period: &Numbers,
+    cost: &Numbers,
+    slack: &Numbers,
+    rank: &Numbers,
+    n: usize,
+) -> u32
+    requires { ⌜ n ≤ taskLimit ⌝ }
+    ensures { λ r. ⌜ Served (now (wait .entry)) (now (left .entry)) (now (period .entry)) (now (cost .entry)) (now (slack .entry)) (now (rank .entry)) n (now (wait .exit)) (now (left .exit)) r ⌝ }
+{
+    release(wait, left, period, cost, n);
+    let owner = choose(wait, left, slack, rank, n);
+    give(left, owner);
+    pass(wait, n);
+    owner
+}
