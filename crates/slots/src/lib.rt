@@ -61,7 +61,7 @@ pub fn rank_of(t: Table, i: usize) -> u32
     i as u32
 }
 
-fn less(x: u32, y: u32) -> u32
+pub fn less(x: u32, y: u32) -> u32
     ensures { λ r. ⌜ r ≡ x - y ⌝ }
 {
     if x < y { 0 } else { x - y }
