@@ -201,7 +201,7 @@ fn refused_file(why: Refusal) -> Loaded
     }
 }
 
-pub fn form_of(file: &[u8]) -> Loaded
+fn form_of(file: &[u8]) -> Loaded
     ensures { λ r. ⌜ r ≡ formOf (now (file .entry)) ⌝ }
 {
     let mut budget: u64 = 0;
