@@ -25,6 +25,11 @@ pub is-false : (b : Bool) → (T b → ⊥) → b ≡ false
 is-false true x = absurd (x tt)
 is-false false x = refl
 
+-- It holds, or it does not.
+pub decT : (b : Bool) → Dec (T b)
+decT true = yes tt
+decT false = no (λ x. x)
+
 -- Equal numbers pass the test for it.
 pub eq→eqb : (m n : ℕ) → m ≡ n → T (eqb m n)
 eq→eqb m n e = rw e (eqb-refl n)

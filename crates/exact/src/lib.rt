@@ -10,7 +10,6 @@ ghost use Rattle.model.specs.Tasks.{judged, horizon};
 ghost use Rattle.model.specs.Demand.{jobsIn, demand};
 ghost use Rattle.model.specs.Verdict.{Permitted};
 ghost use Rattle.wellformed.specs.Ranges.{InRange, Ranged};
-
 use model::Answer;
 use model::Empty;
 use model::Judgement;
@@ -19,8 +18,8 @@ use model::Outcome;
 use model::Table;
 use model::Task;
 use model::Verdict;
-use slots::Numbers;
 use slots::NO_TASK;
+use slots::Numbers;
 use table::TASK_LIMIT;
 
 // The difference, or 0.
@@ -123,7 +122,11 @@ fn conclude(m: Measure, from: u64, asked: u64, at: u64, worst: Numbers, empty: u
     ensures { λ r. ⌜ r ≡ concluded m from asked at worst empty ⌝ }
 {
     if 0 < asked {
-        let late = Verdict::Late { from: from, to: at, demand: asked };
+        let late = Verdict::Late {
+            from: from,
+            to: at,
+            demand: asked,
+        };
         return brief(Outcome::Tested(late), m, at);
     }
     if at < m.horizon {
@@ -141,7 +144,11 @@ fn conclude(m: Measure, from: u64, asked: u64, at: u64, worst: Numbers, empty: u
 fn slot_or_nowhere(empty: u64, horizon: u64) -> Empty
     ensures { λ r. ⌜ r ≡ emptyOf empty horizon ⌝ }
 {
-    if empty < horizon { Empty::Slot(empty) } else { Empty::Nowhere }
+    if empty < horizon {
+        Empty::Slot(empty)
+    } else {
+        Empty::Nowhere
+    }
 }
 
 fn smaller(x: u64, y: u64) -> u64
@@ -199,7 +206,11 @@ pub fn test(t: Table, budget: u64) -> Answer
 {
     match table::judge(t) {
         Judgement::Refused(why) => {
-            let nothing = Measure { round: 0, load: 0, horizon: 0 };
+            let nothing = Measure {
+                round: 0,
+                load: 0,
+                horizon: 0,
+            };
             brief(Outcome::Refused(why), nothing, 0)
         }
         Judgement::WellFormed(m) => {

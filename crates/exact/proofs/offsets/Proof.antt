@@ -1,17 +1,15 @@
-use lib.ListN.{replicate}
+-- A loop that fills the waits.
+use mathlib.Core.Path.{_≡_, refl, sym, ap, _∙_}
+use Prim.Native.Nat.{ℕ, _≤_, _<_, _+_, _-_}
+use native.Mathlib.Omega.{arith}
+use lib.ListN.{replicate, length, getD, set}
+use borrow.Author.Needs.{needs}
 use Rattle.model.specs.Notation.{fill}
 use Rattle.model.specs.Tasks.{task}
 use Rattle.model.specs.Dispatcher.{startOf}
 use Rattle.counting.specs.Fill.{fill-none, fill-put, fill-done}
-use mathlib.Core.Path.{_≡_, refl, sym, ap, _∙_}
-use Prim.Native.Nat.{ℕ, _≤_, _<_, _+_, _-_}
-use native.Mathlib.Omega.{arith}
-use lib.ListN.{length, getD, set}
-use borrow.Author.Needs.{needs}
 use Rattle.exact.proofs.offsets.Statement.{statement}
 use Rattle.exact.proofs.offsets.Tie as tie
-use Rattle.exact.proofs.offsets.Reads as reads
-use Rattle.exact.proofs.offsets.Lts as lts
 
 abbrev Inv-loop : tie.InvT-loop
 Inv-loop t n wait₀ i₀ wait i = (i ≤ n) × (wait ≡ fill i (λ k. task t k .offset) (replicate 16 0))
@@ -19,39 +17,30 @@ Inv-loop t n wait₀ i₀ wait i = (i ≤ n) × (wait ≡ fill i (λ k. task t k
 abbrev μ-loop : tie.MeasureT-loop
 μ-loop t n wait₀ i₀ wait i = n - i
 
--- src/lib.rt:74:5
 loop-holds : tie.Need-loop-holds Inv-loop μ-loop
 loop-holds c = (omega arith, fill-none _ _)
 
--- src/lib.rt:75:19
 mul-wait : tie.Need-mul-wait Inv-loop μ-loop
 mul-wait c = search needs
 
--- src/lib.rt:75:19
 element-copy-out-wait : tie.Need-element-copy-out-wait Inv-loop μ-loop
 element-copy-out-wait c = search needs
 
--- src/lib.rt:75:9
 mul-wait-2 : tie.Need-mul-wait-2 Inv-loop μ-loop
 mul-wait-2 c = search needs
 
--- src/lib.rt:75:9
 array-write-wait : tie.Need-array-write-wait Inv-loop μ-loop
 array-write-wait c = search needs
 
--- src/lib.rt:74:9
 add-i : tie.Need-add-i Inv-loop μ-loop
 add-i c = search needs
 
--- src/lib.rt:74:5
 loop-less : tie.Need-loop-less Inv-loop μ-loop
 loop-less c = search needs
 
--- src/lib.rt:74:5
 loop-again : tie.Need-loop-again Inv-loop μ-loop
 loop-again c = (omega arith, fill-put _ _ _ (c .before .loop .inv .1) refl)
 
--- src/lib.rt:68:1
 returns : tie.Need-returns Inv-loop μ-loop
 unfolding startOf
 returns c = fill-done _ _ _ _ (omega arith) (omega arith) (c .before .loop .inv .1)

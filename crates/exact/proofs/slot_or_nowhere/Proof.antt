@@ -1,16 +1,13 @@
+-- By the test against the horizon.
 use native.Mathlib.Omega.{arith}
 use borrow.Author.Tests.{lt-ltb, le-ltb, eq-eqb, ne-eqb}
 use borrow.Author.Needs.{needs}
 use Rattle.exact.proofs.slot_or_nowhere.Statement.{statement}
 use Rattle.exact.proofs.slot_or_nowhere.Tie as tie
-use Rattle.exact.proofs.slot_or_nowhere.Reads as reads
-use Rattle.exact.proofs.slot_or_nowhere.Lts as lts
 
--- src/lib.rt:136:1
 returns : tie.Need-returns
 returns c = let s = c .before .args in rw (lt-ltb (s .empty) (s .horizon) (omega arith))
 
--- src/lib.rt:136:1
 returns-2 : tie.Need-returns-2
 returns-2 c = let s = c .before .args in rw (le-ltb (s .empty) (s .horizon) (omega arith))
 
