@@ -1,9 +1,11 @@
 -- DEMAND 3 of the model's dispatcher, under any pattern of done reports.
 use mathlib.Core.Path.{_≡_, refl, sym, ap, _∙_}
 use mathlib.Core.Logic.{_⊎_, inl, inr, _≢_}
+use mathlib.Core.List.{List}
+use lib.ListN.{getD}
 use mathlib.Core.Bool.{Bool, _&&_}
-use Prim.Native.Nat.{ℕ, zero, suc, _+_, _-_, _*_, _≤_, _<_}
-use native.Mathlib.Nat.{mul-le-mul-right, add-suc}
+use Prim.Native.Nat.{ℕ, zero, suc, _+_, _-_, _*_, min, _≤_, _<_}
+use native.Mathlib.Nat.{mul-le-mul-right, add-suc, min-eq-left, le-antisymm}
 use native.Mathlib.Decide.{ℕ-discrete, decLt}
 use native.Mathlib.Omega.{arith}
 use borrow.Author.Tests.{eq-eqb, ne-eqb, le-leb}
@@ -13,11 +15,13 @@ use Rattle.model.specs.Notation.{bit, sum, count}
 use Rattle.model.specs.Limits.{taskLimit}
 use Rattle.model.specs.declared.Verdict.{Verdict}
 use Rattle.model.specs.Tasks.{task, release}
-use Rattle.model.specs.Verdict.{verdict}
+use Rattle.model.specs.Verdict.{verdict, Worsts}
 use Rattle.model.specs.Run.{tieOrder, Worst}
-use Rattle.model.specs.Dispatcher.{leftOf, isLate, waitReleased, leftReleased}
+use Rattle.model.specs.Dispatcher.{waitOf, leftOf, isLate, waitReleased, leftReleased, turn}
 use Rattle.model.specs.History.{stateAt, ownerAt, reported, had, Finished}
-use Rattle.counting.specs.Count.{tests, and-iff, bit-no}
+use Rattle.counting.specs.Count.{tests, and-iff, bit-no, count-more}
+use Rattle.counting.specs.Search.{NoneFrom, first-none}
+use Rattle.counting.specs.Bits.{bits-none, bits-past, count-past}
 use Rattle.counting.specs.Below.{below, below-bound}
 use Rattle.wellformed.specs.Ranges.{Ranged}
 use Rattle.backlog.specs.Criterion.{Met}
@@ -31,7 +35,7 @@ use Rattle.backlog.specs.RunSchedule.{finishes-iff}
 use Rattle.backlog.specs.RunHistory.{constrained}
 use Rattle.backlog.specs.Worst.{worst-range}
 use Rattle.backlog.specs.TableSystem.{tie-ranks, cycleOf}
-use Rattle.backlog.specs.Answers.{light-of-passed, met-of-passed}
+use Rattle.backlog.specs.Answers.{light-of-passed, met-of-passed, worsts-exist}
 use Rattle.backlog.specs.Stepping.{S, Fresh, Kept, finds, late-is, ready-is, left-after, chosen, sound}
 
 module _ (t : Table) (r : Ranged t) (done : ℕ → Bool) where
@@ -122,6 +126,10 @@ module _ (t : Table) (r : Ranged t) (done : ℕ → Bool) where
   had-early i from zero l = refl
   had-early i from (suc m) l = omega (arith, had-early i from m (omega arith), bit-no (leb from m && eqb (ownerAt t done m) i) (λ h. absurd (let w = and-iff (leb from m) (eqb (ownerAt t done m) i) .0 h in omega (tests, w .0))))
 
+  had-grows : (i from m n : ℕ) → m ≤ n → had t done i from m ≤ had t done i from n
+  unfolding had
+  had-grows i from m n l = count-more _ m n l
+
   had-sum : (i from d : ℕ) → had t done i from (from + d) ≡ sum d (λ u. gave (from + u) i)
   unfolding had sum count
   had-sum i from zero = had-early i from (from + 0) (omega arith)
@@ -137,6 +145,17 @@ module _ (t : Table) (r : Ranged t) (done : ℕ → Bool) where
       go : Dec (release (task t i) j < n) → had t done i (release (task t i) j) n ≤ task t i .cost
       go (yes p) = more (n - release (task t i) j - 1) (omega arith)
       go (no p) = omega (arith, had-early i (release (task t i) j) n (omega arith))
+
+  -- Up to the next release of its task, a job is finished as its slots and reports say.
+  finished-by : (i j n : ℕ) → n ≤ release (task t i) (suc j)
+      → (had t done i (release (task t i) j) n ≡ task t i .cost) ⊎ ((u : ℕ) × (release (task t i) j < u) × (u ≤ n) × T (reported t done i u)) → Finished t done i j n
+  finished-by i j n l = rw (min-eq-left l) (λ h. h)
+
+  -- What is finished stays so.
+  finished-stays : (i j n m : ℕ) → i < t .count → n ≤ m → Finished t done i j n → Finished t done i j m
+  finished-stays i j n m l h (inl e) =
+      inl (le-antisymm (never-more i j (min m (release (task t i) (suc j))) l (omega arith)) (omega (arith, had-grows i (release (task t i) j) (min n (release (task t i) (suc j))) (min m (release (task t i) (suc j))) (omega arith))))
+  finished-stays i j n m l h (inr (u, a, b, c)) = inr (u, a, omega arith, c)
 
   module _ (budget : ℕ) (pass : verdict t budget ≡ Verdict.Passes) where
     abbrev met : Met (jobs table-system) (dues table-system) (servedOf table-system)
@@ -156,22 +175,24 @@ module _ (t : Table) (r : Ranged t) (done : ℕ → Bool) where
     pub in-time : (i w : ℕ) → i < t .count → Worst t (tieOrder t) i w → (j : ℕ) → Finished t done i j (release (task t i) j + w)
     in-time i w l v j =
         let (p, q) = worst-range table-system (cycleOf t r _ (tie-ranks t)) (light-of-passed t r budget pass) met i l w v in
-        go (streams.on-time (jobs table-system) (dues table-system) _ open' ready gave step-history (constrained table-system) (servedOf table-system) (model-run table-system) met i w l (λ j f d. v .bound j f (finishes-iff table-system i j f l .1 d)) p j (omega (arith, r .each i l .deadline-le)))
+        let k : release (task t i) j + w ≤ release (task t i) (suc j) = omega (arith, r .each i l .deadline-le) in
+        finished-by i j (release (task t i) j + w) k (go (streams.on-time (jobs table-system) (dues table-system) _ open' ready gave step-history (constrained table-system) (servedOf table-system) (model-run table-system) met i w l (λ j f d. v .bound j f (finishes-iff table-system i j f l .1 d)) p j k))
       where
-        go : ((u : ℕ) × (0 < u) × (u < w) × T (reported t done i (release (task t i) j + u))) ⊎ (sum w (λ u. gave (release (task t i) j + u) i) ≡ task t i .cost) → Finished t done i j (release (task t i) j + w)
+        go : ((u : ℕ) × (0 < u) × (u < w) × T (reported t done i (release (task t i) j + u))) ⊎ (sum w (λ u. gave (release (task t i) j + u) i) ≡ task t i .cost)
+            → (had t done i (release (task t i) j) (release (task t i) j + w) ≡ task t i .cost) ⊎ ((u : ℕ) × (release (task t i) j < u) × (u ≤ release (task t i) j + w) × T (reported t done i u))
         go (inl (u, a, b, c)) = inr (release (task t i) j + u, omega arith, omega arith, c)
         go (inr e) = inl (had-sum i (release (task t i) j) w ∙ e)
 
-    -- NO SLOT IS EMPTY WHILE A JOB WAITS: where slot n goes to none, every job released and not yet followed by the next of its task is finished.
-    pub none-waits : (n : ℕ) → ownerAt t done n ≡ taskLimit → (i j : ℕ) → i < t .count → release (task t i) j ≤ n → n < release (task t i) (suc j) → Finished t done i j n
-    none-waits n e i j l a b = go (step-history .slot n)
+    -- Where slot n goes to none, the last released job of each task is finished.
+    last-waits : (n : ℕ) → ownerAt t done n ≡ taskLimit → (i j : ℕ) → i < t .count → release (task t i) j ≤ n → n < release (task t i) (suc j) → Finished t done i j n
+    last-waits n e i j l a b = go (step-history .slot n)
       where
         finished : (d : ℕ) → release (task t i) j + suc d ≡ n → open' n i ≡ 0 → Finished t done i j n
         finished d q z = at (streams.account (jobs table-system) (dues table-system) _ open' ready gave step-history (constrained table-system) (servedOf table-system) (model-run table-system) met i j d l (omega arith))
           where
             at : ((u : ℕ) × (0 < u) × (u ≤ d) × T (reported t done i (release (task t i) j + u))) ⊎ (sum (suc d) (λ u. gave (release (task t i) j + u) i) + open' (release (task t i) j + suc d) i ≡ task t i .cost) → Finished t done i j n
-            at (inl (u, x, y, c)) = inr (release (task t i) j + u, omega arith, omega arith, c)
-            at (inr x) = inl (rw (← q) (omega (arith, had-sum i (release (task t i) j) (suc d), ap (λ (m : ℕ). open' m i) q)))
+            at (inl (u, x, y, c)) = finished-by i j n (omega arith) (inr (release (task t i) j + u, omega arith, omega arith, c))
+            at (inr x) = finished-by i j n (omega arith) (inl (rw (← q) (omega (arith, had-sum i (release (task t i) j) (suc d), ap (λ (m : ℕ). open' m i) q))))
 
         idle : ready n i ≡ 0 → Finished t done i j n
         idle z = elim (ℕ-discrete (release (task t i) j) n) [
@@ -187,7 +208,7 @@ module _ (t : Table) (r : Ranged t) (done : ℕ → Bool) where
 
             closed : release (task t i) j ≢ n → (ready n i ≡ open' n i) ⊎ ((ready n i ≡ 0) × (T (reported t done i n) ⊎ ((j : ℕ) × (dueOf table-system i j ≡ n)))) → Finished t done i j n
             closed q (inl x) = finished (n - release (task t i) j - 1) (omega arith) (omega arith)
-            closed q (inr (x, inl c)) = inr (n, omega arith, omega arith, c)
+            closed q (inr (x, inl c)) = finished-by i j n (omega arith) (inr (n, omega arith, omega arith, c))
             closed q (inr (x, inr (k, c))) = finished (n - release (task t i) j - 1) (omega arith) (omega (arith, nothing-left i k l, ap (λ (m : ℕ). open' m i) c))
 
         go : ((i : ℕ) → i < t .count → ready n i ≡ 0) ⊎ ((k : ℕ) × (k < t .count) × (0 < ready n k) × ((i : ℕ) → i < t .count → 0 < ready n i → openKey (jobs table-system) (suc n) k ≤ openKey (jobs table-system) (suc n) i) × (gave n k ≡ 1) × ((i : ℕ) → i < t .count → i ≢ k → gave n i ≡ 0)) → Finished t done i j n
@@ -196,3 +217,26 @@ module _ (t : Table) (r : Ranged t) (done : ℕ → Bool) where
           where
             one : (k : ℕ) → gave n k ≡ 1 → ownerAt t done n ≡ k
             one k g = elim (ℕ-discrete (ownerAt t done n) k) [ yes q ↦ q | no q ↦ absurd (let z : gave n k ≡ 0 = rw (ne-eqb (ownerAt t done n) k q) in omega arith) ]
+
+    -- NO SLOT IS EMPTY WHILE A JOB WAITS: where slot n goes to none, every job released by then is finished.
+    pub none-waits : (n : ℕ) → ownerAt t done n ≡ taskLimit → (i j : ℕ) → i < t .count → release (task t i) j ≤ n → Finished t done i j n
+    none-waits n e i j l a = elim (decLt n (release (task t i) (suc j))) [
+      | yes b ↦ last-waits n e i j l a b
+      | no b ↦ earlier b (worsts-exist t r budget pass)
+    ]
+      where
+        earlier : ¬ (n < release (task t i) (suc j)) → (w : List ℕ) × Worsts t w → Finished t done i j n
+        earlier b (w, v) =
+            let (p, q) = worst-range table-system (cycleOf t r _ (tie-ranks t)) (light-of-passed t r budget pass) met i l (getD w i 0) (v .worst i l) in
+            finished-stays i j (release (task t i) j + getD w i 0) n l (omega (arith, r .each i l .deadline-le)) (in-time i (getD w i 0) l (v .worst i l) j)
+
+    -- In the words of the answer: the set of tasks closed late is empty, none were, and the lowest is none.
+    pub none-told : (n : ℕ) → (turn t (stateAt t done n) (done n) .late ≡ 0) × (turn t (stateAt t done n) (done n) .closed ≡ 0) × (turn t (stateAt t done n) (done n) .lowest ≡ taskLimit)
+    unfolding turn count
+    none-told n =
+        let late = isLate t (stateAt t done n) (done n) in
+        let none : NoneFrom late 0 taskLimit = λ i a b. none-closed n i in (
+          bits-past late 0 taskLimit (omega arith) none ∙ sym (bits-none late),
+          count-past late 0 taskLimit (omega arith) none,
+          first-none late 0 taskLimit none,
+        )

@@ -2,7 +2,7 @@
 use mathlib.Core.Path.{_≡_}
 use mathlib.Core.Logic.{_⊎_}
 use mathlib.Core.Bool.{Bool, _&&_}
-use Prim.Native.Nat.{ℕ, zero, suc, _≤_, _<_}
+use Prim.Native.Nat.{ℕ, zero, suc, min, _≤_, _<_}
 use lib.Dec.{T, leb, eqb}
 use Rattle.model.specs.Values.{Table}
 use Rattle.model.specs.Notation.{count}
@@ -27,6 +27,9 @@ module _ (t : Table) (done : ℕ → Bool) where
   unfoldable pub had : ℕ → ℕ → ℕ → ℕ
   had i from to = count (λ n. leb from n && eqb (ownerAt n) i) to
 
-  -- Job j of task i is finished by n: it had its whole cost, or was reported done after its release.
+  -- Job j of task i is finished by n: before its task's next release it had its whole cost, or was reported done.
   abbrev pub Finished : ℕ → ℕ → ℕ → Type 0
-  Finished i j n = (had i (release (task t i) j) n ≡ task t i .cost) ⊎ ((u : ℕ) × (release (task t i) j < u) × (u ≤ n) × T (reported i u))
+  Finished i j n =
+      let from = release (task t i) j in
+      let to = min n (release (task t i) (suc j)) in
+      (had i from to ≡ task t i .cost) ⊎ ((u : ℕ) × (from < u) × (u ≤ to) × T (reported i u))
