@@ -54,6 +54,25 @@ module _ (t : Table) (r : Ranged t) where
   pub passes-iff : (budget : ℕ) → horizon t ≤ budget → (verdict t budget ≡ Verdict.Passes) ↔ Feasible t
   passes-iff budget b = (λ e. feasible-iff t r .1 (never-of-passed budget e .1), λ h. passed-of-never budget b (feasible-iff t r .0 h))
 
+  -- OVERLOAD AND LATE mean that no schedule is good, whatever the budget was.
+  pub overload-infeasible : (budget : ℕ) → verdict t budget ≡ Verdict.Overload → Feasible t → ⊥
+  overload-infeasible budget e h = go (verdict t budget) (settledBy t budget) (the-case t budget) e
+    where
+      go : (v : Verdict) (n : ℕ) → Case t budget v n → v ≡ Verdict.Overload → ⊥
+      go v n (overload g) e = let (to, w) = overload-late t r g in let (from, x) = late-at-iff t to .0 w in feasible-iff t r .0 h from to x
+      go v n (undecided g b) e = let z : _≡_ {A = ℕ} 0 1 = cc in absurd (omega arith)
+      go v n (late g b l) e = let z : _≡_ {A = ℕ} 0 1 = cc in absurd (omega arith)
+      go v n (passed g b l) e = let z : _≡_ {A = ℕ} 0 1 = cc in absurd (omega arith)
+
+  pub late-infeasible : (budget from to asked : ℕ) → verdict t budget ≡ Verdict.Late from to asked → Feasible t → ⊥
+  late-infeasible budget from to asked e h = go (verdict t budget) (settledBy t budget) (the-case t budget) e
+    where
+      go : (v : Verdict) (n : ℕ) → Case t budget v n → v ≡ Verdict.Late from to asked → ⊥
+      go v n (overload g) e = let z : _≡_ {A = ℕ} 0 1 = cc in absurd (omega arith)
+      go v n (undecided g b) e = let z : _≡_ {A = ℕ} 0 1 = cc in absurd (omega arith)
+      go v n (late g b l) e = let (start, x) = late-at-iff t (needed t) .0 l in feasible-iff t r .0 h start (needed t) x
+      go v n (passed g b l) e = let z : _≡_ {A = ℕ} 0 1 = cc in absurd (omega arith)
+
   -- Every task of a passed table has a worst response.
   module _ (budget : ℕ) (pass : verdict t budget ≡ Verdict.Passes) where
     pub light-of-passed : Light (systemOf t r _ (tie-ranks t)) (cycleOf t r _ (tie-ranks t))
@@ -110,18 +129,3 @@ judged-unique t budget a b (Judgement.WellFormed m) e f = answers-unique t budge
 pub permitted-unique : (t : Table) (budget : ℕ) (a b : Answer) → Permitted t budget a → Permitted t budget b → a ≡ b
 unfolding Permitted
 permitted-unique t budget a b = judged-unique t budget a b (judged t)
-
--- And there is one.
-answers-exist : (t : Table) → Ranged t → (budget : ℕ) (m : Measure) (v : Verdict) → verdict t budget ≡ v → (a : Answer) × Answers t budget m a v
-answers-exist t r budget m Verdict.Passes e = let (w, p) = worsts-exist t r budget e in (_, (w, p, refl))
-answers-exist t r budget m Verdict.Overload e = (_, refl)
-answers-exist t r budget m (Verdict.Late x y z) e = (_, refl)
-answers-exist t r budget m Verdict.Undecided e = (_, refl)
-
-judged-exists : (t : Table) (budget : ℕ) (j : Judgement) → judged t ≡ j → (a : Answer) × Judged t budget a j
-judged-exists t budget (Judgement.Refused r) e = (_, refl)
-judged-exists t budget (Judgement.WellFormed m) e = answers-exist t (well-formed t m e .ranged) budget m (verdict t budget) refl
-
-pub permitted-exists : (t : Table) (budget : ℕ) → (a : Answer) × Permitted t budget a
-unfolding Permitted
-permitted-exists t budget = judged-exists t budget (judged t) refl

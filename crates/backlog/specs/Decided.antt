@@ -1,4 +1,4 @@
--- DEMAND 2: what the model's verdict means for schedules, for ever.
+-- THE CRITERION in the model's words: good schedules, late deadlines, the run's misses, horizon and overload.
 use mathlib.Core.Logic.{_↔_}
 use Prim.Native.Nat.{ℕ, suc, _-_, _*_, _≤_, _<_}
 use native.Mathlib.Decide.{decLe}
@@ -52,7 +52,7 @@ module _ (S : System) where
   abbrev pub Missed : ℕ → Type 0
   Missed u = (i : ℕ) × (j : ℕ) × (i < size S) × (dueOf S i j ≤ u) × (given (run (S .table) (S .rank)) i j 0 u < costOf S i)
 
-  -- EVERY INSTANT: the run has missed a deadline by u exactly if some interval that ends at u asks too much.
+  -- EVERY INSTANT: at u the run has a job due by u and unfinished, exactly if some interval that ends at u asks too much.
   pub missed-iff : (u : ℕ) → Missed u ↔ T (lateAt (S .table) u)
   missed-iff u = (
     λ h. let (i, j, l, d, g) = h in over-iff u .1 (late-iff-over (jobs S) (dues S) (servedOf S) (model-run S) u .0 (i, j, l, d, unserved i j l g)),

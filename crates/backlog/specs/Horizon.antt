@@ -1,4 +1,4 @@
--- HORIZON: without overload, a deadline that is ever missed is missed by the start and two rounds. OVERLOAD: with it, one is missed.
+-- HORIZON: without overload, if any deadline is ever missed then one is by the start and two rounds. OVERLOAD: with it, one is missed.
 use mathlib.Core.Path.{_≡_, sym, ap, subst}
 use Prim.Native.Nat.{ℕ, suc, _+_, _-_, _*_, _≤_, _<_, min}
 use native.Mathlib.Nat.{sub-add-cancel, mul-le-mul-left, mul-le-mul-right}

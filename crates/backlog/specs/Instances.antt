@@ -1,14 +1,22 @@
 -- No theorem here is empty: what they ask for is met by tables of document 01.
 use mathlib.Core.Path.{_≡_, refl}
 use mathlib.Core.List.{List}
-use Prim.Native.Nat.{ℕ, _-_, _<_}
-use lib.Dec.{lit≤, lit<}
-use Rattle.model.specs.Notation.{sum, product, largest, count, first, last, Least}
+use mathlib.Core.Bool.{Bool}
+use Prim.Native.Nat.{ℕ, suc, _+_, _-_, _≤_, _<_}
+use native.Mathlib.Omega.{arith}
+use lib.ListN.{getD}
+use lib.Dec.{lit≤, lit<, eqb}
+use Rattle.model.specs.Notation.{sum, product, largest, count, first, last, fill, Least}
 use Rattle.model.specs.declared.Verdict.{Verdict}
-use Rattle.model.specs.Tasks.{taskFault, firstFaulty, round, load, horizon, judged}
+use Rattle.model.specs.declared.Given.{Given}
+use Rattle.model.specs.Limits.{taskLimit}
+use Rattle.model.specs.Tasks.{task, release, taskFault, firstFaulty, round, load, horizon, judged}
 use Rattle.model.specs.Demand.{jobsIn, demand, lateAt}
+use Rattle.model.specs.Run.{choose}
 use Rattle.model.specs.Verdict.{needed, lateStart, verdict, Worsts}
-use Rattle.model.specs.Examples.{table-b, table-d, table-g, table-i}
+use Rattle.model.specs.Dispatcher.{Stepped, startOf, ownerNow, after, turn, stepped}
+use Rattle.model.specs.History.{stateAt, ownerAt, had, Finished}
+use Rattle.model.specs.Examples.{table-b, table-c, table-d, table-g, table-i}
 use Rattle.wellformed.specs.Ranges.{Ranged}
 use Rattle.wellformed.specs.WellFormed.{well-formed}
 use Rattle.backlog.specs.Streams.{released}
@@ -19,9 +27,11 @@ use Rattle.backlog.specs.Shift.{Light}
 use Rattle.backlog.specs.History.{none-late}
 use Rattle.backlog.specs.RunHistory.{constrained, run-history}
 use Rattle.backlog.specs.TableSystem.{tie-ranks, systemOf, cycleOf}
-use Rattle.backlog.specs.Decided.{Feasible, Missed, first-missed, overload-late, late-at-iff, feasible-iff}
-use Rattle.backlog.specs.Verdicts.{Late, none-before}
-use Rattle.backlog.specs.Answers.{passes-iff, light-of-passed, met-of-passed, worsts-exist}
+use Rattle.backlog.specs.Decided.{Feasible, Missed, first-missed, late-soon, overload-late, late-at-iff, feasible-iff}
+use Rattle.backlog.specs.Verdicts.{Late, none-before, longer, undecided-iff}
+use Rattle.backlog.specs.Answers.{passes-iff, late-infeasible, light-of-passed, met-of-passed, worsts-exist}
+use Rattle.backlog.specs.Stepping.{never-refused}
+use Rattle.backlog.specs.StepHistory.{never-more, in-time, none-waits}
 
 -- Table b keeps its ranges and passes, so some schedule of it is good, and its tasks have worst responses.
 b-ranged : Ranged table-b
@@ -84,3 +94,47 @@ i-overload = overload-late table-i i-ranged (lit< tt)
 
 i-infeasible : Feasible table-i → ⊥
 i-infeasible h = let (to, w) = i-overload in let (from, x) = late-at-iff table-i to .0 w in feasible-iff table-i i-ranged .0 h from to x
+
+-- Table g with its first job reported done after one slot: every law of demand 3 has something to speak of.
+reports : ℕ → Bool
+reports n = eqb n 1
+
+g-in-time : (j : ℕ) → (w : ℕ) × Finished table-g reports 0 j (release (task table-g 0) j + w)
+g-in-time j = let (w, v) = worsts-exist table-g g-ranged 8 g-passes in (getD w 0 0, in-time table-g g-ranged reports 8 g-passes 0 (getD w 0 0) (lit< tt) (v .worst 0 (lit< tt)) j)
+
+g-idle : ownerAt table-g reports 3 ≡ taskLimit
+unfolding reports stateAt startOf after ownerNow choose fill
+g-idle = refl
+
+g-none-waits : Finished table-g reports 1 0 3
+g-none-waits = none-waits table-g g-ranged reports 8 g-passes 3 g-idle 1 0 (lit< tt) (lit≤ tt)
+
+g-never-more : had table-g reports 0 0 4 ≤ 2
+g-never-more = never-more table-g g-ranged reports 0 0 4 (lit< tt) (lit≤ tt)
+
+g-never-refused : (n : ℕ) → _≡_ {A = Stepped} (stepped table-g (stateAt table-g reports n) (reports n)) (record { given = Given.Slot (turn table-g (stateAt table-g reports n) (reports n)); state = stateAt table-g reports (suc n) })
+unfolding judged firstFaulty taskFault first round product load horizon largest sum count
+g-never-refused = never-refused table-g g-ranged reports (record { round = 4; load = 4; horizon = 8 }) refl
+
+-- Table c: late at 15, within its horizon of 38, and so with any longer budget; undecided below.
+c-ranged : Ranged table-c
+unfolding judged firstFaulty taskFault first round product load horizon largest sum count
+c-ranged = well-formed table-c (record { round = 15; load = 12; horizon = 38 }) refl .ranged
+
+c-late-soon : (u : ℕ) × (u ≤ horizon table-c) × Late table-c u
+unfolding first round product load sum count demand jobsIn lateAt
+c-late-soon = late-soon table-c c-ranged (lit≤ tt) 15 tt
+
+c-late : verdict table-c 15 ≡ Verdict.Late 8 15 8
+unfolding verdict needed lateStart lateAt first last round product load horizon largest sum count demand jobsIn
+c-late = refl
+
+c-longer : verdict table-c 1000 ≡ verdict table-c 15
+c-longer = longer table-c 15 1000 (lit≤ tt) (λ e. let z : _≡_ {A = ℕ} 0 1 = cc c-late in absurd (omega arith)) .0
+
+c-infeasible : Feasible table-c → ⊥
+c-infeasible = late-infeasible table-c c-ranged 15 8 15 8 c-late
+
+b-undecided : (load table-b ≤ round table-b) × (37 < needed table-b)
+unfolding verdict needed lateStart lateAt first last round product load horizon largest sum count demand jobsIn
+b-undecided = undecided-iff table-b 37 .0 refl

@@ -25,4 +25,5 @@ pub mod Stepping
 pub mod StepHistory
 pub mod Walk
 pub mod WalkWorst
+pub mod Computed
 pub mod Instances

@@ -1,16 +1,15 @@
 -- THE WALK: with no done reports and no late deadline before, the dispatcher does as the run does, and sees the first late deadline.
-use mathlib.Core.Path.{_≡_, refl, sym, ap, _∙_}
-use mathlib.Core.Logic.{_⊎_, inl, inr, _≢_, _↔_}
-use mathlib.Core.Bool.{Bool, true, false, cond, _&&_}
+use mathlib.Core.Path.{_≡_, sym, ap, _∙_}
+use mathlib.Core.Logic.{_⊎_, inl, inr, _↔_}
+use mathlib.Core.Bool.{Bool, false, cond}
 use Prim.Native.Nat.{ℕ, zero, suc, _+_, _-_, _*_, _/_, _≤_, _<_}
-use native.Mathlib.Nat.{le-refl, le-step, div-eq-of-lt-le, mul-le-mul-left, mul-le-mul-right}
+use native.Mathlib.Nat.{le-refl, le-step, div-eq-of-lt-le}
 use native.Mathlib.Decide.{ℕ-discrete, decLt, decLe}
 use native.Mathlib.Omega.{arith}
 use borrow.Author.Tests.{eq-eqb, ne-eqb}
-use lib.Dec.{T, leb, ltb, eqb, ltb→lt, lt→ltb}
+use lib.Dec.{T, ltb, eqb, ltb→lt, lt→ltb}
 use Rattle.model.specs.declared.Table.{Table}
-use Rattle.model.specs.Limits.{taskLimit}
-use Rattle.model.specs.Tasks.{task, release, due}
+use Rattle.model.specs.Tasks.{task}
 use Rattle.model.specs.Demand.{lateAt}
 use Rattle.model.specs.Schedule.{given}
 use Rattle.model.specs.Run.{tieOrder, owner, run}
@@ -19,9 +18,8 @@ use Rattle.model.specs.History.{stateAt, ownerAt}
 use Rattle.counting.specs.Count.{and-iff, eq→eqb}
 use Rattle.counting.specs.Below.{below, lt-below, below-bound, below-most, grows-mono}
 use Rattle.wellformed.specs.Ranges.{Ranged}
-use Rattle.backlog.specs.Streams as streams
-use Rattle.backlog.specs.Left.{served-le, served-mono}
-use Rattle.backlog.specs.System.{System, releaseOf, dueOf, jobs, dues}
+use Rattle.backlog.specs.Left.{served-mono}
+use Rattle.backlog.specs.System.{System, releaseOf, dueOf, jobs}
 use Rattle.backlog.specs.Choice.{NoLater, Chosen, chosen-same}
 use Rattle.backlog.specs.ModelRun.{servedOf, ready-iff, model-run, owner-served, others-served}
 use Rattle.backlog.specs.ModelRun as run-of
@@ -29,7 +27,7 @@ use Rattle.backlog.specs.RunSchedule.{done-iff}
 use Rattle.backlog.specs.TableSystem.{tie-ranks, systemOf}
 use Rattle.backlog.specs.Decided.{Missed, missed-iff}
 use Rattle.backlog.specs.StepHistory.{step-history}
-use Rattle.backlog.specs.Stepping.{Sound, Fresh, Kept, finds, late-is, ready-le, ready-is, left-after, chosen, sound}
+use Rattle.backlog.specs.Stepping.{Fresh, Kept, finds, late-is, ready-le, ready-is, left-after, chosen, sound}
 
 -- No done report, ever.
 abbrev pub quiet : ℕ → Bool

@@ -1,20 +1,19 @@
 -- What a walk sees: the largest responses of the jobs that finish, and the first empty slot. Up to the horizon these are the model's.
 use mathlib.Core.Path.{_≡_, refl, sym, ap, subst, _∙_}
-use mathlib.Core.Logic.{_⊎_, inl, inr, _≢_}
+use mathlib.Core.Logic.{_⊎_, inl, inr}
 use mathlib.Core.List.{List}
 use mathlib.Core.Bool.{Bool, true, false, cond, _&&_}
-use Prim.Native.Nat.{ℕ, zero, suc, _+_, _-_, _*_, _/_, _≤_, _<_, max}
+use Prim.Native.Nat.{ℕ, zero, suc, _+_, _-_, _*_, _≤_, _<_, max}
 use native.Mathlib.Nat.{le-refl, le-step, mul-le-mul-left, le-of-dvd}
 use native.Mathlib.Decide.{ℕ-discrete, decLt, decLe}
 use native.Mathlib.Omega.{arith}
-use borrow.Author.Tests.{eq-eqb, ne-eqb}
 use lib.Dec.{T, ltb, eqb, ltb→lt, lt→ltb, eqb→eq}
 use lib.ListN.{getD, length, set, replicate, length-replicate, getD-replicate, length-set, List·getD-eq-default}
 use lib.Seq.{getD-set-same, getD-set-other}
 use Rattle.model.specs.declared.Table.{Table}
 use Rattle.model.specs.Notation.{first, largest}
 use Rattle.model.specs.Limits.{taskLimit}
-use Rattle.model.specs.Tasks.{task, release, horizon, load, round}
+use Rattle.model.specs.Tasks.{task, horizon, round}
 use Rattle.model.specs.Run.{tieOrder, owner, Finishes, Worst, firstEmpty}
 use Rattle.model.specs.Verdict.{Worsts}
 use Rattle.model.specs.Dispatcher.{State, waitOf, leftOf, waitReleased}
@@ -33,7 +32,7 @@ use Rattle.backlog.specs.RunSchedule.{finishes-iff}
 use Rattle.backlog.specs.Shift.{Light}
 use Rattle.backlog.specs.Worst.{ends, worst-is}
 use Rattle.backlog.specs.TableSystem.{tie-ranks, systemOf, cycleOf, horizon-is}
-use Rattle.backlog.specs.Stepping.{ready-le, ready-is, left-after, chosen, sound}
+use Rattle.backlog.specs.Stepping.{ready-le, ready-is, chosen, sound}
 use Rattle.backlog.specs.Walk.{quiet, Clear, Agrees, ready, agrees, ready-agrees, owner-agrees}
 
 -- Slot n finishes the job that it is given to.
@@ -226,7 +225,7 @@ module _ (t : Table) (r : Ranged t) where
               let h : f ≤ horizon t = omega (arith, horizon-is t r _ (tie-ranks t), r .each i l .deadline-le) in
               absurd (omega (arith, s .bound 0 f (finishes-iff S i 0 f l .0 d) h))
 
-  -- THE FIRST EMPTY SLOT by a walk: before the first late deadline the dispatcher's empty slots are the run's.
+  -- THE FIRST EMPTY SLOT by a walk: with no late deadline before the horizon the dispatcher's empty slots are the run's.
   pub walk-empty : Clear t (horizon t) → first (λ u. eqb (owner-at u) taskLimit) 0 (horizon t) ≡ firstEmpty t (tieOrder t)
   unfolding firstEmpty
   walk-empty c = first-eq _ _ 0 (horizon t) (λ u a b. ap (λ (k : ℕ). eqb k taskLimit) (owner-agrees t r u (agrees t r u (λ v m. c v (omega arith))) (c u (omega arith))))

@@ -37,8 +37,6 @@ use native.Mathlib.Nat.{
 }
 use lib.Dec.{T, ltb, eqb, ltb→lt, lt→ltb, eqb→eq}
 use Rattle.model.specs.Notation.{product, count, every, first}
-use Rattle.model.specs.declared.Table.{Table}
-use Rattle.model.specs.Tasks.{task, round}
 use Rattle.counting.specs.Count.{and-iff, every-iff}
 use Rattle.counting.specs.Search.{first-unique}
 
@@ -224,8 +222,3 @@ first-multiple n f pos =
     first-unique (isMultiple n f) 0 (product n f) (lcmAll n f) (omega arith) (omega (arith, lcmAll-le-product n f pos))
     (λ h a b t. let (c, d) = multiple-iff n f h .0 t in omega (arith, le-of-dvd c d))
     (λ l. multiple-iff n f (lcmAll n f) .1 (lcmAll-pos n f pos, dvd-refl (lcmAll n f)))
-
--- So the model's round of a table is the least common multiple of its periods.
-pub round-is : (t : Table) → ((i : ℕ) → i < t .count → 0 < task t i .period) → round t ≡ lcmAll (t .count) (λ i. task t i .period)
-unfolding round
-round-is t = first-multiple (t .count) (λ i. task t i .period)

@@ -4,7 +4,7 @@ use mathlib.Core.List.{List, [], _∷_, _++_, map}
 use mathlib.Core.Bool.{Bool, true, false}
 use Prim.Native.Nat.{ℕ, zero, suc, _-_, _/_, _%_}
 use lib.ListN.{replicate}
-use Rattle.model.specs.Values.{Task, Table, Judgement, Verdict, Outcome, Empty, Admission, Given}
+use Rattle.model.specs.Values.{Task, Table, Judgement, Verdict, Outcome, Empty, Record, Admission, Given}
 use Rattle.model.specs.Notation.{sum, product, largest, count, first, last, bits, fill, text, digits, decimal}
 use Rattle.model.specs.Limits.{taskLimit, longestFile}
 use Rattle.model.specs.Tasks.{taskFault, firstFaulty, round, load, horizon, refuse, judged}
@@ -12,9 +12,9 @@ use Rattle.model.specs.Demand.{jobsIn, demand, asksTooMuch, lateAt}
 use Rattle.model.specs.Schedule.{given}
 use Rattle.model.specs.Run.{tieOrder, choose, ownerOf, served, owner, run, firstEmpty}
 use Rattle.model.specs.Verdict.{needed, lateStart, verdict, settledBy, emptyIn, brief}
-use Rattle.model.specs.TableFile.{recordAt, tableOf, readFrom, formOf, loadedFrom}
-use Rattle.model.specs.Dispatcher.{State, firstStrange, startOf, ownerNow, after, turn, stepped}
-use Rattle.model.specs.Report.{worstLines, reportOf, refusalLine}
+use Rattle.model.specs.TableFile.{found, recordAt, tableOf, readFrom, formOf, loadedFrom}
+use Rattle.model.specs.Dispatcher.{State, firstStrange, startOf, started, ownerNow, after, turn, stepped}
+use Rattle.model.specs.Report.{worstLines, reportOf, refused, written, Checked, refusalLine}
 
 -- A task as document 01 writes it, and its tables.
 abbrev pub of : ℕ → ℕ → ℕ → ℕ → Task
@@ -56,7 +56,7 @@ table-k = tableOf (of 0 1 1 4 ∷ of 1 1 1 4 ∷ of 1 1 1 4 ∷ [])
 
 -- ---- tables
 
--- The numbers 1 to 7 with their places: no task, seventeen tasks, then T, D, C and O of task 1, each alone and before a later fault; H.
+-- The numbers 1 to 6 with their places: no task, seventeen tasks, then T, D, C and O of task 1, each alone and before a later fault.
 faulty : Task → Judgement
 faulty k = judged (tableOf (of 0 1 1 1 ∷ k ∷ []))
 
@@ -66,6 +66,11 @@ refusals :
     × (map faulty (of 0 0 0 0 ∷ of 0 1 1 60001 ∷ of 0 1 0 5 ∷ of 60001 1 6 5 ∷ of 0 0 1 5 ∷ of 60001 5 4 5 ∷ of 60001 1 1 5 ∷ []) ≡ refuse 3 1 ∷ refuse 3 1 ∷ refuse 4 1 ∷ refuse 4 1 ∷ refuse 5 1 ∷ refuse 5 1 ∷ refuse 6 1 ∷ [])
 unfolding faulty judged firstFaulty taskFault first
 refusals = (refl, refl, refl)
+
+-- Task by task: what is wrong with task 0 comes before what is wrong with task 1.
+task-by-task : judged (tableOf (of 60001 1 1 5 ∷ of 0 0 0 0 ∷ [])) ≡ refuse 6 0
+unfolding judged firstFaulty taskFault first
+task-by-task = refl
 
 -- The ends of the ranges are inside them.
 inside-ranges : map taskFault (of 0 1 1 1 ∷ of 60000 60000 60000 60000 ∷ []) ≡ 0 ∷ 0 ∷ []
@@ -108,6 +113,11 @@ largest-start :
 unfolding verdict needed lateStart lateAt first last round product load horizon largest sum count demand jobsIn
 largest-start = (refl, refl)
 
+-- Undecided settles the budget, and overload nothing.
+settled-short : (settledBy table-b 37 ≡ 37) × (settledBy table-c 0 ≡ 0) × (settledBy table-i 5 ≡ 0)
+unfolding settledBy needed lateAt first round product load horizon largest sum count demand jobsIn
+settled-short = (refl, refl, refl)
+
 -- The closed formula of the source documents would name 0 to 3 on h: it invents a job of task 0 before its first release at 4.
 no-job-before-the-first : (jobsIn (of 4 1 1 2) 0 3 ≡ 0) × (asksTooMuch table-h 0 3 ≡ false)
 unfolding demand jobsIn sum count
@@ -119,9 +129,9 @@ unfolding jobsIn count
 rounding = (refl, refl)
 
 -- Table i keeps every deadline within its horizon of 12.
-overload-is-not-late : needed table-i ≡ 12
+overload-is-not-late : (needed table-i ≡ 12) × (lateAt table-i 12 ≡ false)
 unfolding needed lateAt first round product load horizon largest sum count demand jobsIn
-overload-is-not-late = refl
+overload-is-not-late = (refl, refl)
 
 -- ---- the run
 
@@ -190,7 +200,7 @@ file-refusals = refl
 
 -- ---- the dispatcher
 
--- The owners of some steps from a start, with these done reports; and where they end.
+-- The owners of some steps from a start, with these done reports.
 steps : Table → State → List Bool → List ℕ
 steps t d [] = []
 steps t d (done ∷ more) = turn t d done .owner ∷ steps t (after t d done) more
@@ -202,6 +212,21 @@ dispatched :
     × (turn table-f (after table-f (startOf table-f) false) false ≡ record { owner = 16; late = 2; closed = 1; lowest = 1 })
 unfolding steps startOf after turn ownerNow choose fill bits sum count first
 dispatched = (refl, refl, refl)
+
+-- Two jobs closed at once; none closed is the lowest number 16. The waits start as the offsets.
+abbrev both-late : State
+both-late = record { wait = 1 ∷ 1 ∷ replicate 14 0; left = 1 ∷ 1 ∷ replicate 14 0; last = 16 }
+
+closings : (turn table-f both-late false ≡ record { owner = 16; late = 3; closed = 2; lowest = 0 }) × (turn table-g (startOf table-g) true ≡ record { owner = 0; late = 0; closed = 0; lowest = 16 })
+unfolding turn startOf ownerNow choose fill bits sum count first
+closings = (refl, refl)
+
+starts :
+    (started table-b ≡ record { admission = Admission.Admitted; state = record { wait = 8 ∷ replicate 15 0; left = replicate 16 0; last = 16 } })
+    × (started (tableOf []) ≡ record { admission = at 1 0; state = record { wait = replicate 16 0; left = replicate 16 0; last = 0 } })
+    × (stepped table-g (startOf table-g) false .given ≡ Given.Slot (record { owner = 0; late = 0; closed = 0; lowest = 16 }))
+unfolding started startOf stepped turn ownerNow choose fill bits firstStrange judged firstFaulty taskFault first round product load horizon largest sum count
+starts = (refl, refl, refl)
 
 -- Refusal 8 and its places, on a task with O 0, C 2, D 3, T 4 and one with O 9: a wait above O and T; too many slots left;
 -- an open job that waits less than T - D, or more than T - 1; a last-run number that is no task.
@@ -238,6 +263,39 @@ report-c :
     ≡ text "tasks 2\nload 12/15\nhorizon 38\nverdict late\nsettled 15\ninterval 8 15 demand 8\n"
 unfolding reportOf text decimal digits
 report-c = refl
+
+-- Overload and undecided have neither; with no empty slot the last line is `empty none`.
+report-i :
+    reportOf 2 (brief (Outcome.Tested Verdict.Overload) (record { round = 5; load = 6; horizon = 12 }) 0) Verdict.Overload
+    ≡ text "tasks 2\nload 6/5\nhorizon 12\nverdict overload\nsettled 0\n"
+unfolding reportOf text decimal digits
+report-i = refl
+
+report-undecided :
+    reportOf 2 (brief (Outcome.Tested Verdict.Undecided) (record { round = 15; load = 11; horizon = 38 }) 37) Verdict.Undecided
+    ≡ text "tasks 2\nload 11/15\nhorizon 38\nverdict undecided\nsettled 37\n"
+unfolding reportOf text decimal digits
+report-undecided = refl
+
+report-a :
+    reportOf 1 (record { outcome = Outcome.Tested Verdict.Passes; measure = record { round = 1; load = 1; horizon = 2 }; settled = 2; worst = 1 ∷ replicate 15 0; empty = Empty.Nowhere }) Verdict.Passes
+    ≡ text "tasks 1\nload 1/1\nhorizon 2\nverdict passes\nsettled 2\nworst 0 1\nempty none\n"
+unfolding reportOf worstLines text decimal digits
+report-a = refl
+
+-- The exported call: a short buffer is 30 at its length; a refusal is 65,536 · number + place and writes nowhere; bytes behind a report stay.
+exported :
+    (Checked [] (7 ∷ []) (record { number = 1966081; buffer = 7 ∷ [] }))
+    × (refused (record { number = 21; place = 9 }) (7 ∷ []) ≡ record { number = 1376265; buffer = 7 ∷ [] })
+    × (written (5 ∷ 6 ∷ []) (1 ∷ 2 ∷ 3 ∷ []) ≡ record { number = 2; buffer = 5 ∷ 6 ∷ 3 ∷ [] })
+exported = (refl, refl, refl)
+
+-- A budget of more than four bytes, and numbers of three and four.
+wide-numbers :
+    (recordAt (1 ∷ 1 ∷ 2 ∷ 3 ∷ 4 ∷ 5 ∷ 6 ∷ 7 ∷ 8 ∷ []) 0 ≡ found (Record.Budget 578437695752307201))
+    × (recordAt (2 ∷ 1 ∷ 0 ∷ 0 ∷ 0 ∷ 0 ∷ 1 ∷ 0 ∷ 0 ∷ 0 ∷ 0 ∷ 1 ∷ 0 ∷ 0 ∷ 0 ∷ 0 ∷ 1 ∷ []) 0 ≡ found (Record.OneTask (of 1 256 65536 16777216)))
+unfolding recordAt
+wide-numbers = (refl, refl)
 
 refusal-line : refusalLine (record { number = 21; place = 9 }) ≡ text "refused 21 at 9\n"
 unfolding text decimal digits

@@ -1,4 +1,4 @@
--- The limits of document 01, each once.
+-- The limits and kinds of document 01, each once.
 use Prim.Native.Nat.{ℕ, _+_, _*_}
 
 -- Tasks in a table. The same number stands for no task.
@@ -16,6 +16,16 @@ roundLimit = 1000000000
 -- The bytes of a report buffer.
 abbrev pub reportBytes : ℕ
 reportBytes = 512
+
+-- The kinds of the records of a table file.
+abbrev pub budgetKind : ℕ
+budgetKind = 1
+
+abbrev pub taskKind : ℕ
+taskKind = 2
+
+abbrev pub endKind : ℕ
+endKind = 3
 
 -- The bytes of a record: its kind, and the body of that kind. The longest legal file: a budget, every task, the end.
 abbrev pub budgetBytes : ℕ

@@ -79,6 +79,18 @@ CheckedBuffer file buffer e false = CheckedFile buffer (loadedFrom file) e (load
 abbrev pub Checked : List ℕ → List ℕ → Exported → Type 0
 Checked file buffer e = CheckedBuffer file buffer e (ltb (length buffer) reportBytes)
 
--- What the program prints: the report, or one line.
+-- What the program prints: the report, or one line that names the refusal.
 abbrev pub refusalLine : Refusal → List ℕ
 refusalLine r = line (text "refused " ++ decimal (r .number) ++ text " at " ++ decimal (r .place))
+
+abbrev pub printOf : ℕ → Answer → Outcome → List ℕ
+printOf n a (Outcome.Refused r) = refusalLine r
+printOf n a (Outcome.Tested v) = reportOf n a v
+
+-- The one permitted output of the program on any input.
+abbrev pub PrintedFile : Loaded → List ℕ → Admission → Type 0
+PrintedFile l out (Admission.Refused r) = out ≡ refusalLine r
+PrintedFile l out Admission.Admitted = (a : Answer) × Permitted (l .table) (l .budget) a × (out ≡ printOf (l .table .count) a (a .outcome))
+
+abbrev pub Printed : List ℕ → List ℕ → Type 0
+Printed input out = PrintedFile (loadedFrom input) out (loadedFrom input .admission)

@@ -5,7 +5,7 @@ use Prim.Native.Nat.{ℕ, zero, suc, _+_, _-_, _*_}
 use lib.Dec.{ltb, leb, eqb}
 use lib.ListN.{getD, length, replicate}
 use Rattle.model.specs.Values.{Task, Table, Judgement, Record, Admission, Loaded}
-use Rattle.model.specs.Limits.{taskLimit, budgetBytes, taskBytes, endBytes}
+use Rattle.model.specs.Limits.{taskLimit, budgetKind, taskKind, endKind, budgetBytes, taskBytes, endBytes}
 use Rattle.model.specs.Tasks.{noTask, judged}
 
 -- Four bytes, and eight, from a place on: numbers, the lowest byte first.
@@ -28,9 +28,9 @@ pub data Found : Type 0 where
 unfoldable pub recordAt : List ℕ → ℕ → Found
 recordAt s at =
     cond (leb (length s) at) nothing
-    (cond (eqb (getD s at 0) 1) (found (Record.Budget (eight s (at + 1))))
-    (cond (eqb (getD s at 0) 2) (found (Record.OneTask (taskIn s (at + 1))))
-    (cond (eqb (getD s at 0) 3) (found Record.End) unknown)))
+    (cond (eqb (getD s at 0) budgetKind) (found (Record.Budget (eight s (at + 1))))
+    (cond (eqb (getD s at 0) taskKind) (found (Record.OneTask (taskIn s (at + 1))))
+    (cond (eqb (getD s at 0) endKind) (found Record.End) unknown)))
 
 -- A table of these tasks.
 abbrev pub tableOf : List Task → Table

@@ -1,6 +1,7 @@
 -- The values of src/lib.rt by their names, and document 01's number and values for each case of an answer.
 use mathlib.Core.List.{List, [], _∷_}
 use Prim.Native.Nat.{ℕ}
+use Rattle.model.specs.Limits.{budgetKind, taskKind, endKind}
 pub use Rattle.model.specs.declared.Task.{Task}
 pub use Rattle.model.specs.declared.Table.{Table}
 pub use Rattle.model.specs.declared.Refusal.{Refusal}
@@ -23,9 +24,9 @@ pub record Said : Type 0 where
 
 -- A record of a file: its kind, and the numbers of its body in their order.
 abbrev pub recordSaid : Record → Said
-recordSaid (Record.Budget b) = record { number = 1; values = b ∷ [] }
-recordSaid (Record.OneTask k) = record { number = 2; values = k .offset ∷ k .cost ∷ k .deadline ∷ k .period ∷ [] }
-recordSaid Record.End = record { number = 3; values = [] }
+recordSaid (Record.Budget b) = record { number = budgetKind; values = b ∷ [] }
+recordSaid (Record.OneTask k) = record { number = taskKind; values = k .offset ∷ k .cost ∷ k .deadline ∷ k .period ∷ [] }
+recordSaid Record.End = record { number = endKind; values = [] }
 
 -- A verdict: its number in document 01's order, and the interval and demand of a late one.
 abbrev pub verdictSaid : Verdict → Said
@@ -37,3 +38,21 @@ verdictSaid Verdict.Passes = record { number = 4; values = [] }
 -- A refusal: its number and its place.
 abbrev pub refusalSaid : Refusal → Said
 refusalSaid r = record { number = r .number; values = r .place ∷ [] }
+
+-- The answer of the test: a refusal, or a verdict; of a table's judge: a refusal, or 0 with H, load and horizon.
+abbrev pub outcomeSaid : Outcome → Said
+outcomeSaid (Outcome.Refused r) = refusalSaid r
+outcomeSaid (Outcome.Tested v) = verdictSaid v
+
+abbrev pub judgementSaid : Judgement → Said
+judgementSaid (Judgement.Refused r) = refusalSaid r
+judgementSaid (Judgement.WellFormed m) = record { number = 0; values = m .round ∷ m .load ∷ m .horizon ∷ [] }
+
+-- Of a file or a start: a refusal, or 0. Of a step: a refusal, or 0 with the owner, the late set, its count and its lowest task.
+abbrev pub admissionSaid : Admission → Said
+admissionSaid (Admission.Refused r) = refusalSaid r
+admissionSaid Admission.Admitted = record { number = 0; values = [] }
+
+abbrev pub givenSaid : Given → Said
+givenSaid (Given.Refused r) = refusalSaid r
+givenSaid (Given.Slot s) = record { number = 0; values = s .owner ∷ s .late ∷ s .closed ∷ s .lowest ∷ [] }

@@ -6,7 +6,7 @@ use native.Mathlib.Omega.{arith}
 use Rattle.model.specs.declared.Table.{Table}
 use Rattle.model.specs.Limits.{slotLimit, roundLimit}
 use Rattle.model.specs.Tasks.{task, round}
-use Rattle.counting.specs.Divisors.{lcmAll, lcmAll-mono, lcmAll-pos, divides-lcmAll, round-is}
+use Rattle.counting.specs.Divisors.{lcmAll, lcmAll-mono, lcmAll-pos, divides-lcmAll, first-multiple}
 use Rattle.wellformed.specs.Ranges.{Ranged}
 
 -- r is H where H keeps its limit, and is above the limit where H is.
@@ -27,9 +27,10 @@ module _ (t : Table) (ranged : Ranged t) where
   periods-pos : (i : ℕ) → i < t .count → 0 < period t i
   periods-pos i l = ranged .each i l .period-pos
 
-  -- H is the least common multiple that the code finds.
+  -- H is the least common multiple of the periods.
   pub round-lcm : round t ≡ lcmAll (t .count) (period t)
-  round-lcm = round-is t periods-pos
+  unfolding round
+  round-lcm = first-multiple (t .count) (period t) periods-pos
 
   -- H is not 0.
   pub round-pos : 0 < round t

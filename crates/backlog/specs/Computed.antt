@@ -1,0 +1,46 @@
+-- THE PERMITTED ANSWER, COMPUTED: by a walk to the horizon. So the answers of given tables are found by computing.
+use mathlib.Core.Path.{_≡_, refl}
+use Prim.Native.Nat.{ℕ}
+use native.Mathlib.Omega.{arith}
+use Rattle.model.specs.declared.Table.{Table}
+use Rattle.model.specs.declared.Measure.{Measure}
+use Rattle.model.specs.declared.Judgement.{Judgement}
+use Rattle.model.specs.declared.Verdict.{Verdict}
+use Rattle.model.specs.declared.Outcome.{Outcome}
+use Rattle.model.specs.declared.Answer.{Answer}
+use Rattle.model.specs.Tasks.{horizon, judged}
+use Rattle.model.specs.Verdict.{verdict, settledBy, emptyIn, brief, Answers, Judged, Permitted}
+use Rattle.wellformed.specs.WellFormed.{well-formed}
+use Rattle.wellformed.specs.Ranges.{Ranged}
+use Rattle.backlog.specs.Decided.{late-at-iff}
+use Rattle.backlog.specs.Answers.{never-of-passed, light-of-passed, met-of-passed}
+use Rattle.backlog.specs.WalkWorst.{worstBy, walk-worsts}
+
+-- The answer by its verdict, and by the judgement of the table.
+abbrev pub answerBy : Table → ℕ → Measure → Verdict → Answer
+answerBy t budget m Verdict.Passes = record { outcome = Outcome.Tested Verdict.Passes; measure = m; settled = settledBy t budget; worst = worstBy t (horizon t); empty = emptyIn t }
+answerBy t budget m Verdict.Overload = brief (Outcome.Tested Verdict.Overload) m (settledBy t budget)
+answerBy t budget m (Verdict.Late from to asked) = brief (Outcome.Tested (Verdict.Late from to asked)) m (settledBy t budget)
+answerBy t budget m Verdict.Undecided = brief (Outcome.Tested Verdict.Undecided) m (settledBy t budget)
+
+abbrev pub answerJudged : Table → ℕ → Judgement → Answer
+answerJudged t budget (Judgement.Refused r) = brief (Outcome.Refused r) (record { round = 0; load = 0; horizon = 0 }) 0
+answerJudged t budget (Judgement.WellFormed m) = answerBy t budget m (verdict t budget)
+
+unfoldable pub answerOf : Table → ℕ → Answer
+answerOf t budget = answerJudged t budget (judged t)
+
+answers : (t : Table) → Ranged t → (budget : ℕ) (m : Measure) (v : Verdict) → verdict t budget ≡ v → Answers t budget m (answerBy t budget m v) v
+answers t r budget m Verdict.Passes e =
+    (worstBy t (horizon t), walk-worsts t r (light-of-passed t r budget e) (met-of-passed t r budget e) (λ u l h. let (from, x) = late-at-iff t u .0 h in never-of-passed t r budget e .1 from u x), refl)
+answers t r budget m Verdict.Overload e = refl
+answers t r budget m (Verdict.Late from to asked) e = refl
+answers t r budget m Verdict.Undecided e = refl
+
+judged-answer : (t : Table) (budget : ℕ) (j : Judgement) → judged t ≡ j → Judged t budget (answerJudged t budget j) j
+judged-answer t budget (Judgement.Refused r) e = refl
+judged-answer t budget (Judgement.WellFormed m) e = answers t (well-formed t m e .ranged) budget m (verdict t budget) refl
+
+pub computed : (t : Table) (budget : ℕ) → Permitted t budget (answerOf t budget)
+unfolding Permitted answerOf
+computed t budget = judged-answer t budget (judged t) refl
