@@ -1,0 +1,87 @@
+-- DEMAND 2: the test passes a table exactly when some schedule is good for all time; else overload, or the first late deadline
+-- with its shortest interval; with exact worst responses; a short budget gives undecided and a longer one alters no other verdict.
+-- Of any well-formed table, that is, one that is judged so.
+use mathlib.Core.Path.{_≡_, refl, sym, ap, subst, _∙_}
+use native.Mathlib.Omega.{arith}
+use mathlib.Core.Logic.{_↔_, _≢_}
+use mathlib.Core.List.{List}
+use Prim.Native.Nat.{ℕ, _≤_, _<_}
+use lib.Dec.{T}
+use Rattle.model.specs.declared.Table.{Table}
+use Rattle.model.specs.declared.Measure.{Measure}
+use Rattle.model.specs.declared.Judgement.{Judgement}
+use Rattle.model.specs.declared.Verdict.{Verdict}
+use Rattle.model.specs.declared.Outcome.{Outcome}
+use Rattle.model.specs.declared.Answer.{Answer}
+use Rattle.model.specs.Notation.{Least}
+use Rattle.model.specs.Values.{verdictSaid}
+use Rattle.model.specs.Tasks.{round, load, horizon, judged}
+use Rattle.model.specs.Demand.{demand, asksTooMuch, lateAt}
+use Rattle.model.specs.Schedule.{Schedule, Good}
+use Rattle.model.specs.Verdict.{needed, lateStart, verdict, settledBy, Worsts, Answers, Judged, Permitted}
+use Rattle.wellformed.specs.WellFormed.{well-formed}
+use Rattle.backlog.specs.Decided.{Feasible}
+use Rattle.backlog.specs.Verdicts.{Case, overload, undecided, late, passed, the-case, none-before, start-asks, start-largest, undecided-iff, longer}
+use Rattle.backlog.specs.Answers.{passes-iff, overload-infeasible, late-infeasible}
+
+module _ (t : Table) (m : Measure) (well : judged t ≡ Judgement.WellFormed m) where
+  -- With a budget that reaches the horizon it passes exactly if some schedule is good.
+  pub passes-exactly : (budget : ℕ) → horizon t ≤ budget → (verdict t budget ≡ Verdict.Passes) ↔ ((σ : Schedule) × Good t σ)
+  passes-exactly = passes-iff t (well-formed t m well .ranged)
+
+  -- Overload and late are never said of a table that has a good schedule, whatever the budget.
+  pub overload-rightly : (budget : ℕ) → verdict t budget ≡ Verdict.Overload → (σ : Schedule) → Good t σ → ⊥
+  overload-rightly budget e σ g = overload-infeasible t (well-formed t m well .ranged) budget e (σ, g)
+
+  pub late-rightly : (budget from to asked : ℕ) → verdict t budget ≡ Verdict.Late from to asked → (σ : Schedule) → Good t σ → ⊥
+  late-rightly budget from to asked e σ g = late-infeasible t (well-formed t m well .ranged) budget from to asked e (σ, g)
+
+-- Of any table: undecided exactly below the needed count, where there is no overload.
+pub undecided-exactly : (t : Table) (budget : ℕ) → (verdict t budget ≡ Verdict.Undecided) ↔ ((load t ≤ round t) × (budget < needed t))
+undecided-exactly = undecided-iff
+
+-- A longer budget alters no other verdict, and no settled count.
+pub longer-alters-nothing : (t : Table) (budget more : ℕ) → budget ≤ more → verdict t budget ≢ Verdict.Undecided → (verdict t more ≡ verdict t budget) × (settledBy t more ≡ settledBy t budget)
+longer-alters-nothing = longer
+
+-- A late verdict names the smallest late deadline, the largest start that asks too much up to there, and that interval's demand.
+pub record LateRight (t : Table) (from to asked : ℕ) : Type 0 where
+  pub smallest : Least (λ u. T (lateAt t u)) to
+  pub asks : T (asksTooMuch t from to)
+  pub largest-start : (later : ℕ) → from < later → T (asksTooMuch t later to) → ⊥
+  pub demands : asked ≡ demand t from to
+
+late-case : (t : Table) (budget : ℕ) (v : Verdict) (n from to asked : ℕ) → Case t budget v n → v ≡ Verdict.Late from to asked → LateRight t from to asked × (n ≡ to)
+late-case t budget v n from to asked (overload g) e = let z : _≡_ {A = ℕ} 0 1 = cc in absurd (omega arith)
+late-case t budget v n from to asked (undecided g b) e = let z : _≡_ {A = ℕ} 0 1 = cc in absurd (omega arith)
+late-case t budget v n from to asked (passed g b l) e = let z : _≡_ {A = ℕ} 0 1 = cc in absurd (omega arith)
+late-case t budget v n from to asked (late g b l) e =
+    let f : lateStart t (needed t) ≡ from = cc in
+    let k : needed t ≡ to = cc in
+    let d : demand t (lateStart t (needed t)) (needed t) ≡ asked = cc in (
+      record {
+        smallest = (subst (λ (u : ℕ). T (lateAt t u)) k l, λ u m h. none-before t u (omega arith) h);
+        asks = subst (λ (x : ℕ). T (asksTooMuch t x to)) f (subst (λ (u : ℕ). T (asksTooMuch t (lateStart t (needed t)) u)) k (start-asks t (needed t) l));
+        largest-start = λ later m h. start-largest t (needed t) later (omega arith) (subst (λ (u : ℕ). T (asksTooMuch t later u)) (sym k) h);
+        demands = sym d ∙ rw (f, k);
+      },
+      k,
+    )
+
+pub late-exactly : (t : Table) (budget from to asked : ℕ) → verdict t budget ≡ Verdict.Late from to asked → LateRight t from to asked × (settledBy t budget ≡ to)
+late-exactly t budget from to asked = late-case t budget (verdict t budget) (settledBy t budget) from to asked (the-case t budget)
+
+-- The worst responses of a passing answer are exact, for all jobs for ever.
+answered : (t : Table) (budget : ℕ) (m : Measure) (a : Answer) (v : Verdict) → Answers t budget m a v → a .outcome ≡ Outcome.Tested Verdict.Passes → (v ≡ Verdict.Passes) × Worsts t (a .worst)
+answered t budget m a Verdict.Passes (w, p, e) o = let q : a .worst ≡ w = ap (λ (x : Answer). x .worst) e in (refl, subst (Worsts t) (sym q) p)
+answered t budget m a Verdict.Overload e o = let z : _≡_ {A = ℕ} 0 1 = cc (ap (λ (x : Answer). x .outcome) e) in absurd (omega arith)
+answered t budget m a (Verdict.Late f k d) e o = let z : _≡_ {A = ℕ} 0 1 = cc (ap (λ (x : Answer). x .outcome) e) in absurd (omega arith)
+answered t budget m a Verdict.Undecided e o = let z : _≡_ {A = ℕ} 0 1 = cc (ap (λ (x : Answer). x .outcome) e) in absurd (omega arith)
+
+judged-passed : (t : Table) (budget : ℕ) (a : Answer) (j : Judgement) → Judged t budget a j → a .outcome ≡ Outcome.Tested Verdict.Passes → (verdict t budget ≡ Verdict.Passes) × Worsts t (a .worst)
+judged-passed t budget a (Judgement.Refused r) e o = let z : _≡_ {A = ℕ} 0 1 = cc (ap (λ (x : Answer). x .outcome) e) in absurd (omega arith)
+judged-passed t budget a (Judgement.WellFormed m) h o = answered t budget m a (verdict t budget) h o
+
+pub passed-exactly : (t : Table) (budget : ℕ) (a : Answer) → Permitted t budget a → a .outcome ≡ Outcome.Tested Verdict.Passes → (verdict t budget ≡ Verdict.Passes) × Worsts t (a .worst)
+unfolding Permitted
+passed-exactly t budget a = judged-passed t budget a (judged t)

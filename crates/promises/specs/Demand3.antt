@@ -1,0 +1,53 @@
+-- DEMAND 3: the dispatcher on a passed table, under any pattern of early done reports, finishes every job within its reported
+-- worst response, cuts none off, gives none too much, leaves no slot empty while a job waits.
+use mathlib.Core.Path.{_≡_, refl}
+use mathlib.Core.Bool.{Bool}
+use Prim.Native.Nat.{ℕ, suc, _+_, _≤_, _<_}
+use lib.ListN.{getD}
+use Rattle.model.specs.declared.Table.{Table}
+use Rattle.model.specs.declared.Measure.{Measure}
+use Rattle.model.specs.declared.Judgement.{Judgement}
+use Rattle.model.specs.declared.Verdict.{Verdict}
+use Rattle.model.specs.declared.Outcome.{Outcome}
+use Rattle.model.specs.declared.Admission.{Admission}
+use Rattle.model.specs.declared.Given.{Given}
+use Rattle.model.specs.declared.Answer.{Answer}
+use Rattle.model.specs.Limits.{taskLimit}
+use Rattle.model.specs.Tasks.{task, release, judged}
+use Rattle.model.specs.Verdict.{Permitted}
+use Rattle.model.specs.Dispatcher.{Started, Stepped, startOf, started, turn, stepped}
+use Rattle.model.specs.History.{stateAt, ownerAt, had, Finished}
+use Rattle.wellformed.specs.WellFormed.{well-formed}
+use Rattle.backlog.specs.Stepping as stepping
+use Rattle.backlog.specs.StepHistory as history
+use Rattle.promises.specs.Demand2.{passed-exactly}
+
+-- A history: a start on a well-formed table, and steps with any done reports. `stateAt t done n` is the state after n steps.
+module _ (t : Table) (m : Measure) (well : judged t ≡ Judgement.WellFormed m) (done : ℕ → Bool) where
+  pub starts : _≡_ {A = Started} (started t) (record { admission = Admission.Admitted; state = stateAt t done 0 })
+  unfolding started stateAt
+  starts = rw well refl
+
+  -- No step refuses a state that the dispatcher itself produced, and each hands out the next one. Of any well-formed table.
+  pub never-refused : (n : ℕ) → _≡_ {A = Stepped} (stepped t (stateAt t done n) (done n)) (record { given = Given.Slot (turn t (stateAt t done n) (done n)); state = stateAt t done (suc n) })
+  never-refused = stepping.never-refused t (well-formed t m well .ranged) done m well
+
+  -- No job gets more slots than its cost. Of any well-formed table.
+  pub none-too-much : (i j n : ℕ) → i < t .count → n ≤ release (task t i) (suc j) → had t done i (release (task t i) j) n ≤ task t i .cost
+  none-too-much = history.never-more t (well-formed t m well .ranged) done
+
+  -- On a table that the test passed, with the worst responses that it reported:
+  module _ (budget : ℕ) (a : Answer) (answer : Permitted t budget a) (pass : a .outcome ≡ Outcome.Tested Verdict.Passes) where
+    -- every job is finished within its reported worst response: it had its whole cost, or was reported done;
+    pub all-in-time : (i j : ℕ) → i < t .count → Finished t done i j (release (task t i) j + getD (a .worst) i 0)
+    all-in-time i j l =
+        let (v, w) = passed-exactly t budget a answer pass in
+        history.in-time t (well-formed t m well .ranged) done budget v i (getD (a .worst) i 0) l (w .worst i l) j
+
+    -- no job is closed late: every step says that none was;
+    pub none-cut-off : (n : ℕ) → (turn t (stateAt t done n) (done n) .late ≡ 0) × (turn t (stateAt t done n) (done n) .closed ≡ 0) × (turn t (stateAt t done n) (done n) .lowest ≡ taskLimit)
+    none-cut-off = history.none-told t (well-formed t m well .ranged) done budget (passed-exactly t budget a answer pass .0)
+
+    -- no slot goes to none while a released job is unfinished.
+    pub none-idle : (n : ℕ) → ownerAt t done n ≡ taskLimit → (i j : ℕ) → i < t .count → release (task t i) j ≤ n → Finished t done i j n
+    none-idle = history.none-waits t (well-formed t m well .ranged) done budget (passed-exactly t budget a answer pass .0)

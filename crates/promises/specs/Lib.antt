@@ -1,0 +1,5 @@
+-- What is promised, demand by demand.
+pub mod Demand1
+pub mod Demand2
+pub mod Demand3
+-- Tables
