@@ -1,0 +1,89 @@
+-- Document 01's tables a to j, and the budgets that it names: one statement over a list of them, by one computed test and a law.
+use mathlib.Core.Path.{_≡_, refl, subst}
+use mathlib.Core.List.{List, [], _∷_, map}
+use Prim.Native.Nat.{ℕ}
+use lib.ListN.{replicate}
+use Rattle.model.specs.declared.Table.{Table}
+use Rattle.model.specs.declared.Measure.{Measure}
+use Rattle.model.specs.declared.Verdict.{Verdict}
+use Rattle.model.specs.declared.Outcome.{Outcome}
+use Rattle.model.specs.declared.Empty.{Empty}
+use Rattle.model.specs.declared.Answer.{Answer}
+use Rattle.model.specs.Values.{Said, outcomeSaid}
+use Rattle.model.specs.Notation.{sum, product, largest, count, first, last, fill}
+use Rattle.model.specs.Tasks.{taskFault, firstFaulty, round, load, horizon, judged}
+use Rattle.model.specs.Demand.{jobsIn, demand, lateAt}
+use Rattle.model.specs.Run.{choose, ownerOf, served, owner, firstEmpty}
+use Rattle.model.specs.Verdict.{needed, lateStart, verdict, settledBy, brief, Permitted}
+use Rattle.model.specs.Dispatcher.{startOf, ownerNow, after}
+use Rattle.model.specs.History.{stateAt}
+use Rattle.model.specs.Examples.{table-a, table-b, table-c, table-d, table-e, table-f, table-g, table-h, table-i, table-j}
+use Rattle.backlog.specs.WalkWorst.{worstBy}
+use Rattle.backlog.specs.Computed.{answerOf, computed}
+
+-- A table, a budget, and the answer that document 01 gives.
+pub record Row : Type 0 where
+  pub table : Table
+  pub budget : ℕ
+  pub answer : Answer
+
+abbrev measure : ℕ → ℕ → ℕ → Measure
+measure round load horizon = record { round = round; load = load; horizon = horizon }
+
+abbrev passes : Measure → List ℕ → Empty → Answer
+passes m worst empty = record { outcome = Outcome.Tested Verdict.Passes; measure = m; settled = m .horizon; worst = worst; empty = empty }
+
+abbrev told : Verdict → Measure → ℕ → Answer
+told v m settled = brief (Outcome.Tested v) m settled
+
+abbrev row : Table → ℕ → Answer → Row
+row t budget a = record { table = t; budget = budget; answer = a }
+
+abbrev pub rows : List Row
+rows =
+    row table-a 1000 (passes (measure 1 1 2) (1 ∷ replicate 15 0) Empty.Nowhere)
+    ∷ row table-b 1000 (passes (measure 15 11 38) (7 ∷ 2 ∷ replicate 14 0) (Empty.Slot 2))
+    ∷ row table-c 1000 (told (Verdict.Late 8 15 8) (measure 15 12 38) 15)
+    ∷ row table-d 1000 (told (Verdict.Late 0 7 9) (measure 15 11 30) 7)
+    ∷ row table-e 1000 (passes (measure 2 2 5) (1 ∷ 1 ∷ replicate 14 0) Empty.Nowhere)
+    ∷ row table-f 1000 (told (Verdict.Late 0 1 2) (measure 2 2 4) 1)
+    ∷ row table-g 1000 (passes (measure 4 4 8) (2 ∷ 4 ∷ replicate 14 0) Empty.Nowhere)
+    ∷ row table-h 1000 (told (Verdict.Late 4 7 4) (measure 4 4 12) 7)
+    ∷ row table-i 1000 (told Verdict.Overload (measure 5 6 12) 0)
+    ∷ row table-j 1000 (passes (measure 2 1 8) (1 ∷ replicate 15 0) (Empty.Slot 0))
+    ∷ row table-b 37 (told Verdict.Undecided (measure 15 11 38) 37)
+    ∷ row table-b 38 (passes (measure 15 11 38) (7 ∷ 2 ∷ replicate 14 0) (Empty.Slot 2))
+    ∷ row table-c 14 (told Verdict.Undecided (measure 15 12 38) 14)
+    ∷ row table-c 15 (told (Verdict.Late 8 15 8) (measure 15 12 38) 15)
+    ∷ []
+
+-- Every row's answer is the one permitted.
+abbrev pub AllPermitted : List Row → Type 0
+AllPermitted [] = Unit {0}
+AllPermitted (r ∷ rs) = Permitted (r .table) (r .budget) (r .answer) × AllPermitted rs
+
+-- The law: it is enough that the computed answers are the given ones.
+all-permitted : (rs : List Row) → map (λ r. answerOf (r .table) (r .budget)) rs ≡ map (λ r. r .answer) rs → AllPermitted rs
+all-permitted [] e = tt
+all-permitted (r ∷ rs) e =
+    let h : answerOf (r .table) (r .budget) ≡ r .answer = cc in
+    let k : map (λ r. answerOf (r .table) (r .budget)) rs ≡ map (λ r. r .answer) rs = cc in
+    (subst (Permitted (r .table) (r .budget)) h (computed (r .table) (r .budget)), all-permitted rs k)
+
+-- The test, computed.
+rows-computed : map (λ r. answerOf (r .table) (r .budget)) rows ≡ map (λ r. r .answer) rows
+unfolding answerOf judged firstFaulty taskFault first last round product load horizon largest sum count verdict settledBy needed lateStart lateAt demand jobsIn worstBy stateAt startOf after ownerNow choose fill firstEmpty owner ownerOf served
+rows-computed = refl
+
+pub tables-answered : AllPermitted rows
+tables-answered = all-permitted rows rows-computed
+
+-- In document 01's numbers: 4 passes, 3 late with its interval and demand, 2 undecided, 1 overload.
+abbrev said : ℕ → List ℕ → Said
+said n vs = record { number = n; values = vs }
+
+pub tables-said :
+    map (λ r. outcomeSaid (r .answer .outcome)) rows
+    ≡ said 4 [] ∷ said 4 [] ∷ said 3 (8 ∷ 15 ∷ 8 ∷ []) ∷ said 3 (0 ∷ 7 ∷ 9 ∷ []) ∷ said 4 [] ∷ said 3 (0 ∷ 1 ∷ 2 ∷ []) ∷ said 4 [] ∷ said 3 (4 ∷ 7 ∷ 4 ∷ []) ∷ said 1 [] ∷ said 4 []
+    ∷ said 2 [] ∷ said 4 [] ∷ said 2 [] ∷ said 3 (8 ∷ 15 ∷ 8 ∷ []) ∷ []
+tables-said = refl
