@@ -9,10 +9,9 @@ ghost use Rattle.model.specs.Run.{tieOrder};
 ghost use Rattle.slots.specs.Columns.{columnsOf};
 ghost use Rattle.slots.specs.Slot.{closed, isLate, isMember, closedAll, Released, chosen, given, passed, Served};
 use model::Table;
+use table::TASK_LIMIT;
 
-// Tasks in a table. As a task's number it stands for no task.
-pub const TASK_LIMIT: usize = 16;
-
+// Where a task is named, this is none.
 pub const NO_TASK: u32 = TASK_LIMIT as u32;
 
 // A number for each task.
@@ -61,7 +60,8 @@ pub fn rank_of(t: Table, i: usize) -> u32
     i as u32
 }
 
-fn less(x: u32, y: u32) -> u32
+// The difference, or 0.
+pub fn less(x: u32, y: u32) -> u32
     ensures { λ r. ⌜ r ≡ x - y ⌝ }
 {
     if x < y { 0 } else { x - y }
