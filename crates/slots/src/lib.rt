@@ -1,13 +1,14 @@
 // One slot, over two numbers for each task: its wait, the slots until its next release, and the slots left to its open job.
 ghost use mathlib.Core.Path.{_≡_};
-ghost use mathlib.Core.Bool.{cond, _&&_, _||_};
+ghost use mathlib.Core.Bool.{cond, _&&_};
 ghost use Prim.Native.Nat.{_+_, _-_, _*_, _^_, _≤_, _<_};
 ghost use lib.Dec.{ltb, eqb};
 ghost use Rattle.model.specs.Limits.{taskLimit};
 ghost use Rattle.model.specs.Notation.{bit, bits};
 ghost use Rattle.model.specs.Run.{tieOrder};
 ghost use Rattle.slots.specs.Columns.{columnsOf};
-ghost use Rattle.slots.specs.Slot.{closed, isLate, isMember, closedAll, Released, chosen, given, passed, Served};
+ghost use Rattle.slots.specs.Choice.{ranks, keyOf};
+ghost use Rattle.slots.specs.Slot.{closed, isLate, isMember, closedAll, Released, chosen, given, passed, Ranked, Served};
 use model::Table;
 use table::TASK_LIMIT;
 
@@ -17,8 +18,11 @@ pub const NO_TASK: u32 = TASK_LIMIT as u32;
 // A number for each task.
 pub type Numbers = [u32; TASK_LIMIT];
 
-// A rank is below this, so that a deadline and a rank are compared as one number.
-const RANKS: u64 = 4294967296;
+// Ranks are below this, so that a deadline and a rank are compared as one number.
+const RANKS: u64 = 0x8000_0000;
+
+// What a task that is not open is compared by.
+const NO_KEY: u64 = 0xffff_ffff_ffff_ffff;
 
 // What a slot reads of a table, a list for each number. The slack is T - D: the wait of a job at its deadline.
 pub struct Columns {
@@ -146,14 +150,14 @@ fn at_release(wait: u32, new: u32, old: u32) -> u32
 
 // The open task that comes first by its slots to the deadline and then its rank, or no task.
 pub fn choose(wait: &Numbers, left: &Numbers, slack: &Numbers, rank: &Numbers, n: usize) -> u32
-    requires { ⌜ n ≤ taskLimit ⌝ }
+    requires { ⌜ (n ≤ taskLimit) × Ranked n (now rank) ⌝ }
     ensures { λ r. ⌜ r ≡ chosen (now (wait .entry)) (now (left .entry)) (now (slack .entry)) (now (rank .entry)) n ⌝ }
 {
     let mut owner = NO_TASK;
-    let mut least: u64 = 0;
+    let mut least = NO_KEY;
     for i in 0..n {
-        let key = key_of(less(wait[i], slack[i]), rank[i]);
-        if comes_first(left[i], owner, key, least) {
+        let key = key_of(left[i], less(wait[i], slack[i]), rank[i]);
+        if key < least {
             least = key;
             owner = i as u32;
         }
@@ -161,16 +165,15 @@ pub fn choose(wait: &Numbers, left: &Numbers, slack: &Numbers, rank: &Numbers, n
     owner
 }
 
-fn key_of(due: u32, rank: u32) -> u64
-    ensures { λ r. ⌜ (r ≡ due * 2 ^ 32 + rank) × (rank < 2 ^ 32) ⌝ }
+fn key_of(left: u32, due: u32, rank: u32) -> u64
+    requires { ⌜ rank < ranks ⌝ }
+    ensures { λ r. ⌜ (r ≡ keyOf (ltb 0 left) due rank) × (due < 2 ^ 32) ⌝ }
 {
-    due as u64 * RANKS + rank as u64
-}
-
-fn comes_first(left: u32, owner: u32, key: u64, least: u64) -> bool
-    ensures { λ r. ⌜ r ≡ (ltb 0 left && (eqb owner taskLimit || ltb key least)) ⌝ }
-{
-    0 < left && (owner == NO_TASK || key < least)
+    if 0 < left {
+        due as u64 * RANKS + rank as u64
+    } else {
+        NO_KEY
+    }
 }
 
 // The task has one slot fewer left.
@@ -203,7 +206,7 @@ pub fn serve(
     rank: &Numbers,
     n: usize,
 ) -> u32
-    requires { ⌜ n ≤ taskLimit ⌝ }
+    requires { ⌜ (n ≤ taskLimit) × Ranked n (now rank) ⌝ }
     ensures { λ r. ⌜ Served (now (wait .entry)) (now (left .entry)) (now (period .entry)) (now (cost .entry)) (now (slack .entry)) (now (rank .entry)) n (now (wait .exit)) (now (left .exit)) r ⌝ }
 {
     release(wait, left, period, cost, n);

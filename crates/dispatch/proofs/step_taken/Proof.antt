@@ -1,6 +1,7 @@
 -- The four rules, one after the other.
 use borrow.Author.Needs.{needs}
 use Rattle.counting.specs.Bits.{bits-lt}
+use Rattle.slots.specs.Laws.{ranked}
 use Rattle.dispatch.specs.State.{stateOf}
 use Rattle.dispatch.specs.Step.{Whole, taken-is}
 use Rattle.dispatch.proofs.step_taken.Statement.{statement}
@@ -26,7 +27,10 @@ close-all-requires : tie.Need-close-all-requires
 close-all-requires c κs = search needs
 
 serve-requires : tie.Need-serve-requires
-serve-requires c κs = search needs
+serve-requires c κs =
+    let done = c .before .before .before .before .before .before .before .before .before .before .before .before in
+    let unpacking = done .before .before .before .before .before .before .before .before .before in
+    (search needs, ranked (unpacking .before .args .t) (unpacking .before .pre .few) (unpacking .unpack .ensures))
 
 turn-of-requires : tie.Need-turn-of-requires
 turn-of-requires c κs = rw (c .before .before .before .before .before .before .before .before .before .late-set .ensures) (bits-lt _ _)
