@@ -1,12 +1,11 @@
 -- A step by what the slot's rules make of the lists.
-use mathlib.Core.Path.{_≡_, refl, ap, _∙_}
-use mathlib.Core.Logic.{_⊎_, inl}
+use mathlib.Core.Path.{_≡_, refl, sym, ap, _∙_}
 use mathlib.Core.List.{List}
-use mathlib.Core.Bool.{Bool, true, false, cond, _&&_}
+use mathlib.Core.Bool.{Bool, true, false, cond}
 use Prim.Native.Nat.{ℕ, _-_, _<_}
 use native.Mathlib.Decide.{decLt}
 use native.Mathlib.Omega.{arith}
-use borrow.Author.Tests.{le-ltb, ne-eqb}
+use borrow.Author.Tests.{le-ltb}
 use lib.Count.{ones, trailingZeros}
 use lib.Dec.{ltb, eqb}
 use lib.ListN.{length}
@@ -17,8 +16,8 @@ use Rattle.model.specs.Limits.{taskLimit}
 use Rattle.model.specs.Notation.{bits, fill}
 use Rattle.model.specs.Tasks.{task}
 use Rattle.model.specs.Run.{tieOrder}
-use Rattle.model.specs.Dispatcher.{State, Stepped, waitOf, leftOf, firstStrange, lastStrange, leftDone, isLate, leftLate, leftReleased, ownerNow, after, turn, refuse}
-use Rattle.counting.specs.Fill.{fill-length, fill-eq, fill-again}
+use Rattle.model.specs.Dispatcher.{State, Stepped, waitOf, firstStrange, lastStrange, leftDone, isLate, leftLate, leftReleased, ownerNow, after, turn, refuse}
+use Rattle.counting.specs.Fill.{fill-length, fill-eq, fill-same, fill-again}
 use Rattle.counting.specs.Bits.{bits-eq, ones-bits, trailing-bits}
 use Rattle.slots.specs.declared.Columns.{Columns}
 use Rattle.slots.specs.Columns.{columnsOf}
@@ -47,16 +46,12 @@ pub record Whole (d : State) : Type 0 where
 
 module _ (t : Table) (d : State) (done : Bool) (belongs : Belongs t d) (whole : Whole d) where
   -- Rule 1.
-  done-fill : {left : List ℕ} → left ≡ closed (d .left) (cond done (d .last) taskLimit) → left ≡ fill (t .count) (leftDone t d done) (d .left)
-  done-fill e = e ∙ closed-fill (t .count) (d .left) _ (belongs .few) (range done) ∙ fill-eq (t .count) _ _ (d .left) (same done)
+  done-fill : {left : List ℕ} → left ≡ cond done (closed (d .left) (d .last)) (d .left) → left ≡ fill (t .count) (leftDone t d done) (d .left)
+  done-fill e = e ∙ go done
     where
-      range : (b : Bool) → (cond b (d .last) taskLimit ≡ taskLimit) ⊎ (cond b (d .last) taskLimit < t .count)
-      range true = belongs .ran
-      range false = inl refl
-
-      same : (b : Bool) (i : ℕ) → i < t .count → cond (eqb (cond b (d .last) taskLimit) i) 0 (leftOf d i) ≡ cond (b && eqb (d .last) i) 0 (leftOf d i)
-      same true i l = refl
-      same false i l = rw (ne-eqb taskLimit i (λ e. omega (arith, belongs .few)))
+      go : (b : Bool) → cond b (closed (d .left) (d .last)) (d .left) ≡ fill (t .count) (leftDone t d b) (d .left)
+      go true = closed-fill (t .count) (d .left) (d .last) (belongs .few) (belongs .ran)
+      go false = sym (fill-same (t .count) (d .left) 0)
 
   filled-has : (f : ℕ → ℕ) {left : List ℕ} → left ≡ fill (t .count) f (d .left) → Has (t .count) left f
   filled-has f e i l = rw e (fill-has (t .count) f (d .left) (omega (arith, belongs .few, whole .lefts)) i l)
@@ -100,7 +95,7 @@ module _ (t : Table) (d : State) (done : Bool) (belongs : Belongs t d) (whole : 
   -- All four, from the lists that the code makes.
   pub taken-is :
       {columns : Columns} {left left₂ wait′ left′ : List ℕ} {late owner : ℕ} {answer : Turn} → columns ≡ columnsOf t
-      → left ≡ closed (d .left) (cond done (d .last) taskLimit)
+      → left ≡ cond done (closed (d .left) (d .last)) (d .left)
       → late ≡ bits (isLateIn (d .wait) left (columns .slack) (t .count)) taskLimit
       → left₂ ≡ closedAll left late (t .count)
       → Served (d .wait) left₂ (columns .period) (columns .cost) (columns .slack) (columns .rank) (t .count) wait′ left′ owner

@@ -7,6 +7,7 @@ ghost use Rattle.model.specs.Limits.{taskLimit};
 ghost use Rattle.model.specs.Tasks.{task};
 ghost use Rattle.model.specs.Dispatcher.{firstStrange, refuse, started, stepped};
 ghost use Rattle.slots.specs.Columns.{column};
+ghost use Rattle.slots.specs.Slot.{closed};
 ghost use Rattle.dispatch.specs.State.{stateOf, startedOf, steppedOf};
 ghost use Rattle.dispatch.specs.Strange.{strangeAt, Belongs};
 ghost use Rattle.dispatch.specs.Step.{taken, stepWellFormed, turnOf};
@@ -172,26 +173,30 @@ fn step_taken(d: Dispatcher, t: Table, done: bool) -> Stepped
     let slack = columns.slack;
     let rank = columns.rank;
     let mut wait = d.wait;
-    let mut left = d.left;
-    slots::close(&mut left, reported(d.last, done));
-    let late = slots::late_set(&wait, &left, &slack, n);
-    slots::close_all(&mut left, late, n);
-    let owner = slots::serve(&mut wait, &mut left, &period, &cost, &slack, &rank, n);
+    let left = d.left;
+    let mut open = after_report(left, d.last, done);
+    let late = slots::late_set(&wait, &open, &slack, n);
+    slots::close_all(&mut open, late, n);
+    let owner = slots::serve(&mut wait, &mut open, &period, &cost, &slack, &rank, n);
     Stepped {
         given: Given::Slot(turn_of(owner, late)),
         next: Dispatcher {
             wait,
-            left,
+            left: open,
             last: owner,
         },
     }
 }
 
-// The task whose job is reported done, or none.
-fn reported(last: u32, done: bool) -> u32
-    ensures { λ r. ⌜ r ≡ cond done last taskLimit ⌝ }
+// A done report closes the open job of the task that ran last.
+fn after_report(left: Numbers, last: u32, done: bool) -> Numbers
+    ensures { λ r. ⌜ r ≡ cond done (closed left last) left ⌝ }
 {
-    if done { last } else { NO_TASK }
+    let mut open = left;
+    if done {
+        slots::close(&mut open, last);
+    }
+    open
 }
 
 fn turn_of(owner: u32, late: u32) -> Turn

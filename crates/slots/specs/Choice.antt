@@ -14,7 +14,7 @@ use Rattle.model.specs.Run.{Order, precedes, choose}
 
 -- Ranks are below this, so that a deadline and a rank are compared as one number.
 abbrev pub ranks : ℕ
-ranks = 2 ^ 31
+ranks = 2 ^ 16
 
 -- What a task that is not open is compared by: it is above every such number of an open one.
 abbrev pub noKey : ℕ

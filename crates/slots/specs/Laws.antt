@@ -16,8 +16,7 @@ use Rattle.model.specs.Run.{Order, tieOrder, choose}
 use Rattle.counting.specs.Count.{and-iff}
 use Rattle.counting.specs.Fill.{at-end, fill-passed, fill-eq, fill-same, fill-again, fill-set}
 use Rattle.counting.specs.Bits.{bits-at, bits-past}
-use Rattle.slots.specs.Slot.{at, isLate, isMember, closed, waitReleased, leftReleased, waitsReleased, leftsReleased, chosen, given, passed, Ranked, Served}
-use Rattle.slots.specs.declared.Columns.{Columns}
+use Rattle.slots.specs.Slot.{at, isLate, isMember, closed, waitReleased, leftReleased, waitsReleased, leftsReleased, chosen, given, passed, Served}
 use Rattle.slots.specs.Columns.{columnsOf}
 use Rattle.slots.specs.Choice.{choose-range, choose-eq}
 
@@ -131,10 +130,6 @@ module _ (t : Table) (few : t .count ≤ taskLimit) where
   rank-has : Has (t .count) (columnsOf t .rank) (tieOrder t)
   unfolding columnsOf
   rank-has = fill-has (t .count) _ (replicate taskLimit 0) few
-
-  -- A table's ranks are small enough to choose by.
-  pub ranked : {columns : Columns} → columns ≡ columnsOf t → Ranked (t .count) (columns .rank)
-  ranked e i l = rw (e, rank-has i l) (omega arith)
 
   -- A slot of the table's tasks.
   pub table-slotted :

@@ -2,13 +2,12 @@
 use mathlib.Core.Path.{_≡_}
 use mathlib.Core.List.{List}
 use mathlib.Core.Bool.{Bool, cond, _&&_}
-use Prim.Native.Nat.{ℕ, _-_, _/_, _%_, _^_, _<_}
+use Prim.Native.Nat.{ℕ, _-_, _/_, _%_, _^_}
 use lib.Dec.{ltb, eqb}
 use lib.ListN.{getD, set}
 use Rattle.model.specs.Limits.{taskLimit}
 use Rattle.model.specs.Notation.{fill}
 use Rattle.model.specs.Run.{choose}
-use Rattle.slots.specs.Choice.{ranks}
 
 -- The number that a list has for task i.
 abbrev pub at : List ℕ → ℕ → ℕ
@@ -57,10 +56,6 @@ given left task = cond (ltb task taskLimit) (set left task (at left task - 1)) l
 -- Every wait goes down by one.
 unfoldable pub passed : List ℕ → ℕ → List ℕ
 passed wait n = fill n (λ i. at wait i - 1) wait
-
--- The ranks of the n tasks are small enough to choose by.
-abbrev pub Ranked : ℕ → List ℕ → Type 0
-Ranked n rank = (i : ℕ) → i < n → at rank i < ranks
 
 -- A slot whose late jobs are closed: its owner, and the lists after it.
 pub record Served (wait left period cost slack rank : List ℕ) (n : ℕ) (wait′ left′ : List ℕ) (owner : ℕ) : Type 0 where

@@ -8,7 +8,7 @@ ghost use Rattle.model.specs.Notation.{bit, bits};
 ghost use Rattle.model.specs.Run.{tieOrder};
 ghost use Rattle.slots.specs.Columns.{columnsOf};
 ghost use Rattle.slots.specs.Choice.{ranks, keyOf};
-ghost use Rattle.slots.specs.Slot.{closed, isLate, isMember, closedAll, Released, chosen, given, passed, Ranked, Served};
+ghost use Rattle.slots.specs.Slot.{closed, isLate, isMember, closedAll, Released, chosen, given, passed, Served};
 use model::Table;
 use table::TASK_LIMIT;
 
@@ -18,8 +18,11 @@ pub const NO_TASK: u32 = TASK_LIMIT as u32;
 // A number for each task.
 pub type Numbers = [u32; TASK_LIMIT];
 
+// A rank for each task.
+pub type Ranks = [u16; TASK_LIMIT];
+
 // Ranks are below this, so that a deadline and a rank are compared as one number.
-const RANKS: u64 = 0x8000_0000;
+const RANKS: u64 = 0x1_0000;
 
 // What a task that is not open is compared by.
 const NO_KEY: u64 = 0xffff_ffff_ffff_ffff;
@@ -29,7 +32,7 @@ pub struct Columns {
     pub period: Numbers,
     pub cost: Numbers,
     pub slack: Numbers,
-    pub rank: Numbers,
+    pub rank: Ranks,
 }
 
 pub fn unpack(t: Table) -> Columns
@@ -40,7 +43,7 @@ pub fn unpack(t: Table) -> Columns
     let mut period = [0u32; TASK_LIMIT];
     let mut cost = [0u32; TASK_LIMIT];
     let mut slack = [0u32; TASK_LIMIT];
-    let mut rank = [0u32; TASK_LIMIT];
+    let mut rank = [0u16; TASK_LIMIT];
     for i in 0..n {
         let task = t.tasks[i];
         period[i] = task.period;
@@ -57,11 +60,11 @@ pub fn unpack(t: Table) -> Columns
 }
 
 // Of two tasks that tie, the one of lower rank goes first.
-pub fn rank_of(t: Table, i: usize) -> u32
+pub fn rank_of(t: Table, i: usize) -> u16
     requires { ⌜ i < taskLimit ⌝ }
     ensures { λ r. ⌜ r ≡ tieOrder t i ⌝ }
 {
-    i as u32
+    i as u16
 }
 
 // The difference, or 0.
@@ -149,8 +152,8 @@ fn at_release(wait: u32, new: u32, old: u32) -> u32
 }
 
 // The open task that comes first by its slots to the deadline and then its rank, or no task.
-pub fn choose(wait: &Numbers, left: &Numbers, slack: &Numbers, rank: &Numbers, n: usize) -> u32
-    requires { ⌜ (n ≤ taskLimit) × Ranked n (now rank) ⌝ }
+pub fn choose(wait: &Numbers, left: &Numbers, slack: &Numbers, rank: &Ranks, n: usize) -> u32
+    requires { ⌜ n ≤ taskLimit ⌝ }
     ensures { λ r. ⌜ r ≡ chosen (now (wait .entry)) (now (left .entry)) (now (slack .entry)) (now (rank .entry)) n ⌝ }
 {
     let mut owner = NO_TASK;
@@ -165,9 +168,8 @@ pub fn choose(wait: &Numbers, left: &Numbers, slack: &Numbers, rank: &Numbers, n
     owner
 }
 
-fn key_of(left: u32, due: u32, rank: u32) -> u64
-    requires { ⌜ rank < ranks ⌝ }
-    ensures { λ r. ⌜ (r ≡ keyOf (ltb 0 left) due rank) × (due < 2 ^ 32) ⌝ }
+fn key_of(left: u32, due: u32, rank: u16) -> u64
+    ensures { λ r. ⌜ (r ≡ keyOf (ltb 0 left) due rank) × (due < 2 ^ 32) × (rank < ranks) ⌝ }
 {
     if 0 < left {
         due as u64 * RANKS + rank as u64
@@ -203,10 +205,10 @@ pub fn serve(
     period: &Numbers,
     cost: &Numbers,
     slack: &Numbers,
-    rank: &Numbers,
+    rank: &Ranks,
     n: usize,
 ) -> u32
-    requires { ⌜ (n ≤ taskLimit) × Ranked n (now rank) ⌝ }
+    requires { ⌜ n ≤ taskLimit ⌝ }
     ensures { λ r. ⌜ Served (now (wait .entry)) (now (left .entry)) (now (period .entry)) (now (cost .entry)) (now (slack .entry)) (now (rank .entry)) n (now (wait .exit)) (now (left .exit)) r ⌝ }
 {
     release(wait, left, period, cost, n);

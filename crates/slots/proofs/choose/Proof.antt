@@ -9,10 +9,6 @@ use Rattle.slots.specs.Choice.{Best, best-none, best-turn}
 use Rattle.slots.specs.Slot.{at, chosen}
 use Rattle.slots.proofs.choose.Statement.{statement}
 use Rattle.slots.proofs.choose.Tie as tie
-use Rattle.slots.proofs.choose.Reads as reads
-use Rattle.slots.proofs.choose.Lts as lts
-use Rattle.slots.proofs.key_of.Reads as key-of-reads
-use Rattle.slots.proofs.less.Reads as less-reads
 
 abbrev Inv-loop : tie.InvT-loop
 Inv-loop wait left slack rank n owner₀ least₀ i₀ owner least i = (i ≤ n) × Best (λ k. ltb 0 (at left k)) (λ k. at wait k - at slack k) (at rank) i owner least
@@ -20,73 +16,57 @@ Inv-loop wait left slack rank n owner₀ least₀ i₀ owner least i = (i ≤ n)
 abbrev μ-loop : tie.MeasureT-loop
 μ-loop wait left slack rank n owner₀ least₀ i₀ owner least i = n - i
 
--- src/lib.rt:158:5
 loop-holds : tie.Need-loop-holds Inv-loop μ-loop
 loop-holds c = (omega arith, best-none _ _ _)
 
--- src/lib.rt:159:26
 mul-key-of : tie.Need-mul-key-of Inv-loop μ-loop
 mul-key-of c = search needs
 
--- src/lib.rt:159:26
 element-copy-out-key-of : tie.Need-element-copy-out-key-of Inv-loop μ-loop
 element-copy-out-key-of c = search needs
 
--- src/lib.rt:159:40
 mul-less : tie.Need-mul-less Inv-loop μ-loop
 mul-less c = search needs
 
--- src/lib.rt:159:40
 element-copy-out-less : tie.Need-element-copy-out-less Inv-loop μ-loop
 element-copy-out-less c = search needs
 
--- src/lib.rt:159:49
 mul-less-2 : tie.Need-mul-less-2 Inv-loop μ-loop
 mul-less-2 c = search needs
 
--- src/lib.rt:159:49
 element-copy-out-less-2 : tie.Need-element-copy-out-less-2 Inv-loop μ-loop
 element-copy-out-less-2 c = search needs
 
--- src/lib.rt:159:35
 less-requires : tie.Need-less-requires Inv-loop μ-loop
 less-requires c κs = search needs
 
--- src/lib.rt:159:60
 mul-key-of-2 : tie.Need-mul-key-of-2 Inv-loop μ-loop
 mul-key-of-2 c = search needs
 
--- src/lib.rt:159:60
 element-copy-out-key-of-2 : tie.Need-element-copy-out-key-of-2 Inv-loop μ-loop
 element-copy-out-key-of-2 c = search needs
 
--- src/lib.rt:159:13
 key-of-requires : tie.Need-key-of-requires Inv-loop μ-loop
-key-of-requires c κs = c .before .before .before .before .before .before .before .pre .1 _ (omega arith)
+key-of-requires c κs = search needs
 
--- src/lib.rt:162:21
 cast-owner : tie.Need-cast-owner Inv-loop μ-loop
 cast-owner c = search needs
 
--- src/lib.rt:158:9
 add-i : tie.Need-add-i Inv-loop μ-loop
 add-i c = search needs
 
--- src/lib.rt:158:5
 loop-less : tie.Need-loop-less Inv-loop μ-loop
 loop-less c = search needs
 
--- src/lib.rt:158:5
 loop-again : tie.Need-loop-again Inv-loop μ-loop
 loop-again c = let k = c .before in
     let sub = k .before .before .less .ensures in
     let a = k .before .before .before .before .before .before .before in
     let turn =
     best-turn _ _ _ (a .loop .i) {key = k .key-of .result} (omega arith) (a .loop .inv .1) (rw (k .key-of .ensures .0, sub))
-    (record { due = rw sub at (k .key-of .ensures .1); low = a .before .pre .1 (a .loop .i) (omega arith) }) in
+    (record { due = rw sub at (k .key-of .ensures .1); low = k .key-of .ensures .2 }) in
     (omega arith, ⊎-elim (λ w. rw (w .1, w .2) (turn .0 (w .0 .taken))) (λ w. rw (w .1, w .2) (turn .1 (w .0 .left))) (c .if1 .came))
 
--- src/lib.rt:152:1
 returns : tie.Need-returns Inv-loop μ-loop
 unfolding chosen
 returns c = let e : c .before .loop .i ≡ c .before .before .args .n = omega arith in

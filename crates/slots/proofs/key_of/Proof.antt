@@ -3,24 +3,18 @@ use borrow.Author.Tests.{lt-ltb, le-ltb}
 use borrow.Author.Needs.{needs}
 use Rattle.slots.proofs.key_of.Statement.{statement}
 use Rattle.slots.proofs.key_of.Tie as tie
-use Rattle.slots.proofs.key_of.Reads as reads
-use Rattle.slots.proofs.key_of.Lts as lts
 
--- src/lib.rt:173:9
 mul-result : tie.Need-mul-result
 mul-result c = search needs
 
--- src/lib.rt:173:9
 add-result : tie.Need-add-result
 add-result c = search needs
 
--- src/lib.rt:168:1
 returns : tie.Need-returns
-returns c = (simp (lt-ltb _ _ (c .if1 .taken)), search needs)
+returns c = (simp (lt-ltb _ _ (c .if1 .taken)), search needs, search needs)
 
--- src/lib.rt:168:1
 returns-2 : tie.Need-returns-2
-returns-2 c = (simp (le-ltb _ _ (c .if1 .left)), search needs)
+returns-2 c = (simp (le-ltb _ _ (c .if1 .left)), search needs, search needs)
 
 pub key-of-spec : {M : Type 1} → statement M
 key-of-spec = tie.close (tie.spec mul-result add-result returns returns-2)
