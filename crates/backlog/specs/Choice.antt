@@ -1,5 +1,5 @@
 -- What the model's choice finds: the open task that comes before the others, or that none is open.
-use mathlib.Core.Path.{_≡_, refl, sym, subst}
+use mathlib.Core.Path.{_≡_, refl, sym, subst, _∙_}
 use mathlib.Core.Logic.{_⊎_, inl, inr, _≢_}
 use mathlib.Core.Bool.{Bool, true, false, cond, _&&_, _||_}
 use Prim.Native.Nat.{ℕ, zero, suc, _≤_, _<_}
@@ -66,3 +66,21 @@ module _ (open? : ℕ → Bool) (deadline : ℕ → ℕ) (rank : Order) where
   unfolding choose
   choose-is zero l = inl (record { none = refl; shut = λ i m. absurd (omega arith) })
   choose-is (suc n) l = more n (choose open? deadline rank n) l _ _ _ refl refl refl (choose-is n (omega arith))
+
+-- Two choices among the same open tasks, by deadlines that order these alike, are one, if the order tells the tasks apart.
+pub chosen-same : (open? open?′ : ℕ → Bool) (deadline deadline′ : ℕ → ℕ) (rank : Order) (n c c′ : ℕ)
+    → ((i k : ℕ) → i < n → k < n → rank i ≡ rank k → i ≡ k)
+    → ((i : ℕ) → i < n → T (open? i) → T (open?′ i)) → ((i : ℕ) → i < n → T (open?′ i) → T (open? i))
+    → ((i k : ℕ) → i < n → k < n → T (open? i) → T (open? k) → NoLater deadline′ rank i k → NoLater deadline rank i k)
+    → Chosen open? deadline rank n c → Chosen open?′ deadline′ rank n c′ → c ≡ c′
+chosen-same o o′ d d′ rank n c c′ apart to back order (inl x) (inl y) = x .none ∙ sym (y .none)
+chosen-same o o′ d d′ rank n c c′ apart to back order (inl x) (inr y) = absurd (x .shut c′ (y .bound) (back c′ (y .bound) (y .opened)))
+chosen-same o o′ d d′ rank n c c′ apart to back order (inr x) (inl y) = absurd (y .shut c (x .bound) (to c (x .bound) (x .opened)))
+chosen-same o o′ d d′ rank n c c′ apart to back order (inr x) (inr y) =
+    both (x .ahead c′ (y .bound) (back c′ (y .bound) (y .opened))) (order c′ c (y .bound) (x .bound) (back c′ (y .bound) (y .opened)) (x .opened) (y .ahead c (x .bound) (to c (x .bound) (x .opened))))
+  where
+    both : NoLater d rank c c′ → NoLater d rank c′ c → c ≡ c′
+    both (inl a) (inl b) = absurd (omega arith)
+    both (inl a) (inr b) = absurd (omega (arith, b .0))
+    both (inr a) (inl b) = absurd (omega (arith, a .0))
+    both (inr a) (inr b) = apart c c′ (x .bound) (y .bound) (omega (arith, a .1, b .1))

@@ -23,4 +23,6 @@ pub mod Verdicts
 pub mod Answers
 pub mod Stepping
 pub mod StepHistory
+pub mod Walk
+pub mod WalkWorst
 pub mod Instances

@@ -26,7 +26,7 @@ module _ (S : System) where
   served-length (suc t) = simp length-set (served-length t)
 
   -- A task is ready exactly if some of its released work is not served.
-  ready-iff : (i t s : ℕ) → i < size S → T (leb (releaseOf S i (s / costOf S i)) t) ↔ (s < released (jobs S) (suc t) i)
+  pub ready-iff : (i t s : ℕ) → i < size S → T (leb (releaseOf S i (s / costOf S i)) t) ↔ (s < released (jobs S) (suc t) i)
   ready-iff i t s l = (
     λ h. omega (arith, div-lt-iff-lt-mul (S .cost-pos i l) .0 (law .1 (omega tests))),
     λ h. omega (tests, law .0 (div-lt-iff-lt-mul (S .cost-pos i l) .1 (omega arith))),

@@ -55,6 +55,7 @@ module _ (t : Table) (r : Ranged t) (done : ℕ → Bool) where
   -- What step n finds of task i once done and late jobs are closed and jobs are released.
   pub record Fresh (n i j : ℕ) : Type 0 where
     pub now : releaseOf S i j ≡ n
+    pub earlier : released i n ≡ j
     pub passed : released i (suc n) ≡ suc j
     pub wait : waitReleased t (before n) (done n) i ≡ task t i .period
     pub left : leftReleased t (before n) (done n) i ≡ task t i .cost
@@ -73,7 +74,7 @@ module _ (t : Table) (r : Ranged t) (done : ℕ → Bool) where
       go : Releases (jobs S) i n → ((j : ℕ) × Fresh n i j) ⊎ Kept n i
       go (inl (j, e, b, c)) =
           let z : waitOf (before n) i ≡ 0 = omega (arith, s .next i l, ap (releaseOf S i) b) in
-          inl (j, record { now = e; passed = c; wait = rw (eq-eqb (waitOf (before n) i) 0 z); left = rw (eq-eqb (waitOf (before n) i) 0 z) })
+          inl (j, record { now = e; earlier = b; passed = c; wait = rw (eq-eqb (waitOf (before n) i) 0 z); left = rw (eq-eqb (waitOf (before n) i) 0 z) })
       go (inr (none, c)) =
           let w : waitOf (before n) i ≢ 0 = λ z. none (released i n) (omega (arith, s .next i l)) in
           inr (record { none = none; passed = c; waited = omega arith; wait = rw (ne-eqb (waitOf (before n) i) 0 w); left = rw (ne-eqb (waitOf (before n) i) 0 w) (closing (isLate t (before n) (done n) i) refl (done n && eqb (before n .last) i) refl) })
@@ -85,10 +86,10 @@ module _ (t : Table) (r : Ranged t) (done : ℕ → Bool) where
           closing false e false f = inl (rw (e, f) refl, rw f refl, λ h. rw e at h)
 
   -- A job closed as late is at its deadline, and has slots left.
-  pub late-is : (n i : ℕ) → Sound n → i < t .count → T (isLate t (before n) (done n) i) → (0 < leftOf (before n) i) × ((j : ℕ) × (dueOf S i j ≡ n))
+  pub late-is : (n i : ℕ) → Sound n → i < t .count → T (isLate t (before n) (done n) i) → (0 < leftOf (before n) i) × ((j : ℕ) × (dueOf S i j ≡ n) × (released i n ≡ suc j))
   late-is n i s l h = go (done n && eqb (before n .last) i) refl
     where
-      go : (b : Bool) → (done n && eqb (before n .last) i) ≡ b → (0 < leftOf (before n) i) × ((j : ℕ) × (dueOf S i j ≡ n))
+      go : (b : Bool) → (done n && eqb (before n .last) i) ≡ b → (0 < leftOf (before n) i) × ((j : ℕ) × (dueOf S i j ≡ n) × (released i n ≡ suc j))
       go true e = let x : T (ltb 0 (leftDone t (before n) (done n) i)) = (simp and-iff at h) .1 .0 in absurd (rw e at x)
       go false e =
           let x : T (ltb 0 (leftDone t (before n) (done n) i)) = (simp and-iff at h) .1 .0 in
@@ -97,7 +98,7 @@ module _ (t : Table) (r : Ranged t) (done : ℕ → Bool) where
           let some : 0 < leftOf (before n) i = ltb→lt 0 (leftOf (before n) i) y in
           let (j, b, d) = s .current i l some in
           let w : waitOf (before n) i ≡ task t i .period - task t i .deadline = eqb→eq _ _ z in
-          (some, (j, omega (arith, s .next i l, ap (releaseOf S i) b, r .each i l .deadline-le)))
+          (some, (j, omega (arith, s .next i l, ap (releaseOf S i) b, r .each i l .deadline-le), b))
 
   -- A wait of one slot and more.
   next-wait : (n i : ℕ) → Sound n → i < t .count → (waitReleased t (before n) (done n) i - 1) + suc n ≡ releaseOf S i (released i (suc n))
@@ -106,7 +107,8 @@ module _ (t : Table) (r : Ranged t) (done : ℕ → Bool) where
     | inr k ↦ omega (arith, k .wait, k .waited, s .next i l, ap (releaseOf S i) (k .passed))
   ]
 
-  ready-le : (n i : ℕ) → Sound n → i < t .count → leftReleased t (before n) (done n) i ≤ task t i .cost
+  -- No job is left more than its cost.
+  pub ready-le : (n i : ℕ) → Sound n → i < t .count → leftReleased t (before n) (done n) i ≤ task t i .cost
   ready-le n i s l = go (finds n i s l)
     where
       go : ((j : ℕ) × Fresh n i j) ⊎ Kept n i → leftReleased t (before n) (done n) i ≤ task t i .cost
@@ -137,7 +139,7 @@ module _ (t : Table) (r : Ranged t) (done : ℕ → Bool) where
   given n i = omega arith
 
   module _ (n : ℕ) (s : Sound n) where
-    wait-after : (i : ℕ) → i < t .count → waitOf (before (suc n)) i ≡ waitReleased t (before n) (done n) i - 1
+    pub wait-after : (i : ℕ) → i < t .count → waitOf (before (suc n)) i ≡ waitReleased t (before n) (done n) i - 1
     unfolding stateAt after
     wait-after i l = fill-passed (t .count) (λ i. waitReleased t (before n) (done n) i - 1) (before n .wait) i 0 l (omega (arith, s .waits, r .few))
 

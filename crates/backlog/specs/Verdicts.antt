@@ -12,6 +12,7 @@ use Rattle.model.specs.declared.Verdict.{Verdict}
 use Rattle.model.specs.Tasks.{round, load, horizon}
 use Rattle.model.specs.Demand.{demand, asksTooMuch, lateAt}
 use Rattle.model.specs.Verdict.{needed, lateStart, verdict, settledBy}
+use Rattle.counting.specs.Count.{is-true, is-false, decT}
 use Rattle.counting.specs.Search.{first-le, first-before, first-passes, first-unique, last-behind, last-passes, last-is}
 use Rattle.backlog.specs.Decided.{too-much-iff, late-at-iff}
 
@@ -21,19 +22,6 @@ lateVerdict t to = Verdict.Late (lateStart t to) to (demand t (lateStart t to) t
 
 abbrev pub Late : Table → ℕ → Type 0
 Late t to = T (lateAt t to)
-
--- A test that holds, or does not.
-so : (b : Bool) → Dec (T b)
-so true = yes tt
-so false = no (λ x. x)
-
-yes-true : (b : Bool) → T b → b ≡ true
-yes-true true x = refl
-yes-true false x = absurd x
-
-no-false : (b : Bool) → (T b → ⊥) → b ≡ false
-no-false true x = absurd (x tt)
-no-false false x = refl
 
 module _ (t : Table) where
   -- The needed count is at most the horizon, no deadline before it is late, and if it is below the horizon it is late itself.
@@ -90,11 +78,11 @@ module _ (t : Table) where
 
       pub is-late : needed t ≤ budget → Late t (needed t) → (verdict t budget ≡ lateVerdict t (needed t)) × (settledBy t budget ≡ needed t)
       unfolding verdict settledBy
-      is-late h w = rw (le-ltb (round t) (load t) light, le-ltb budget (needed t) h, yes-true (lateAt t (needed t)) w) (refl, refl)
+      is-late h w = rw (le-ltb (round t) (load t) light, le-ltb budget (needed t) h, is-true (lateAt t (needed t)) w) (refl, refl)
 
       pub is-passed : needed t ≤ budget → (Late t (needed t) → ⊥) → (verdict t budget ≡ Verdict.Passes) × (settledBy t budget ≡ needed t)
       unfolding verdict settledBy
-      is-passed h w = rw (le-ltb (round t) (load t) light, le-ltb budget (needed t) h, no-false (lateAt t (needed t)) w) (refl, refl)
+      is-passed h w = rw (le-ltb (round t) (load t) light, le-ltb budget (needed t) h, is-false (lateAt t (needed t)) w) (refl, refl)
 
     -- One of them holds, and says the verdict and the settled count.
     pub data Case : Verdict → ℕ → Type 0 where
@@ -104,7 +92,7 @@ module _ (t : Table) where
       passed : load t ≤ round t → needed t ≤ budget → (Late t (needed t) → ⊥) → Case Verdict.Passes (needed t)
 
     pub the-case : Case (verdict t budget) (settledBy t budget)
-    the-case = go (decLt (round t) (load t)) (decLt budget (needed t)) (so (lateAt t (needed t)))
+    the-case = go (decLt (round t) (load t)) (decLt budget (needed t)) (decT (lateAt t (needed t)))
       where
         go : Dec (round t < load t) → Dec (budget < needed t) → Dec (Late t (needed t)) → Case (verdict t budget) (settledBy t budget)
         go (yes h) b l = rw (is-overload h .0, is-overload h .1) (overload h)

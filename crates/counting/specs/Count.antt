@@ -16,6 +16,20 @@ pub and-iff : (a b : Bool) → T (a && b) ↔ (T a × T b)
 and-iff true b = (λ t. (tt, t), λ h. h .1)
 and-iff false b = (λ t. absurd t, λ h. h .0)
 
+-- A test that holds is true, and one that does not is false.
+pub is-true : (b : Bool) → T b → b ≡ true
+is-true true x = refl
+is-true false x = absurd x
+
+pub is-false : (b : Bool) → (T b → ⊥) → b ≡ false
+is-false true x = absurd (x tt)
+is-false false x = refl
+
+-- It holds, or it does not.
+pub decT : (b : Bool) → Dec (T b)
+decT true = yes tt
+decT false = no (λ x. x)
+
 -- Equal numbers pass the test for it.
 pub eq→eqb : (m n : ℕ) → m ≡ n → T (eqb m n)
 eq→eqb m n e = rw e (eqb-refl n)

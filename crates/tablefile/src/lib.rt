@@ -1,20 +1,20 @@
 // A table file, read record by record where it lies.
 use model::Admission;
+use model::Judgement;
 use model::Loaded;
 use model::Record;
 use model::Refusal;
 use model::Table;
 use model::Task;
+use table::TASK_LIMIT;
 ghost use mathlib.Core.Path.{_≡_};
 ghost use mathlib.Core.List.{[]};
 ghost use Prim.Native.Nat.{_+_, _<_, _≤_};
 ghost use lib.ListN.{length};
 ghost use Rattle.model.specs.Limits.{taskLimit, longestFile};
-ghost use Rattle.model.specs.TableFile.{four, eight, taskIn, tableOf, refuse, formOf};
+ghost use Rattle.model.specs.TableFile.{four, eight, taskIn, tableOf, refuse, formOf, loadedFrom};
 ghost use Rattle.tablefile.specs.Reading.{budgetBody, taskBody, refused, budgetReading, taskReading, endReading, readingAt};
 ghost use Rattle.tablefile.specs.Built.{withTask};
-
-const TASK_LIMIT: usize = 16;
 
 const BUDGET: u8 = 1;
 
@@ -201,7 +201,7 @@ fn refused_file(why: Refusal) -> Loaded
     }
 }
 
-pub fn form_of(file: &[u8]) -> Loaded
+fn form_of(file: &[u8]) -> Loaded
     ensures { λ r. ⌜ r ≡ formOf (now (file .entry)) ⌝ }
 {
     let mut budget: u64 = 0;
@@ -230,5 +230,19 @@ pub fn form_of(file: &[u8]) -> Loaded
                 }
             },
         }
+    }
+}
+
+pub fn load(file: &[u8]) -> Loaded
+    ensures { λ r. ⌜ r ≡ loadedFrom (now (file .entry)) ⌝ }
+{
+    let form = form_of(file);
+    let admission = form.admission;
+    match admission {
+        Admission::Refused(_) => form,
+        Admission::Admitted => match table::judge(form.table) {
+            Judgement::Refused(why) => refused_file(why),
+            Judgement::WellFormed(_) => form,
+        },
     }
 }

@@ -1,0 +1,184 @@
+-- THE WALK: with no done reports and no late deadline before, the dispatcher does as the run does, and sees the first late deadline.
+use mathlib.Core.Path.{_≡_, refl, sym, ap, _∙_}
+use mathlib.Core.Logic.{_⊎_, inl, inr, _≢_, _↔_}
+use mathlib.Core.Bool.{Bool, true, false, cond, _&&_}
+use Prim.Native.Nat.{ℕ, zero, suc, _+_, _-_, _*_, _/_, _≤_, _<_}
+use native.Mathlib.Nat.{le-refl, le-step, div-eq-of-lt-le, mul-le-mul-left, mul-le-mul-right}
+use native.Mathlib.Decide.{ℕ-discrete, decLt, decLe}
+use native.Mathlib.Omega.{arith}
+use borrow.Author.Tests.{eq-eqb, ne-eqb}
+use lib.Dec.{T, leb, ltb, eqb, ltb→lt, lt→ltb}
+use Rattle.model.specs.declared.Table.{Table}
+use Rattle.model.specs.Limits.{taskLimit}
+use Rattle.model.specs.Tasks.{task, release, due}
+use Rattle.model.specs.Demand.{lateAt}
+use Rattle.model.specs.Schedule.{given}
+use Rattle.model.specs.Run.{tieOrder, owner, run}
+use Rattle.model.specs.Dispatcher.{State, waitOf, leftOf, isLate, waitReleased, leftReleased}
+use Rattle.model.specs.History.{stateAt, ownerAt}
+use Rattle.counting.specs.Count.{and-iff, eq→eqb}
+use Rattle.counting.specs.Below.{below, lt-below, below-bound, below-most, grows-mono}
+use Rattle.wellformed.specs.Ranges.{Ranged}
+use Rattle.backlog.specs.Streams as streams
+use Rattle.backlog.specs.Left.{served-le, served-mono}
+use Rattle.backlog.specs.System.{System, releaseOf, dueOf, jobs, dues}
+use Rattle.backlog.specs.Choice.{NoLater, Chosen, chosen-same}
+use Rattle.backlog.specs.ModelRun.{servedOf, ready-iff, model-run, owner-served, others-served}
+use Rattle.backlog.specs.ModelRun as run-of
+use Rattle.backlog.specs.RunSchedule.{done-iff}
+use Rattle.backlog.specs.TableSystem.{tie-ranks, systemOf}
+use Rattle.backlog.specs.Decided.{Missed, missed-iff}
+use Rattle.backlog.specs.StepHistory.{step-history}
+use Rattle.backlog.specs.Stepping.{Sound, Fresh, Kept, finds, late-is, ready-le, ready-is, left-after, chosen, sound}
+
+-- No done report, ever.
+abbrev pub quiet : ℕ → Bool
+quiet n = false
+
+-- No deadline before n is late.
+abbrev pub Clear : Table → ℕ → Type 0
+Clear t n = (u : ℕ) → u < n → T (lateAt t u) → ⊥
+
+module _ (t : Table) (r : Ranged t) where
+  abbrev S : System
+  S = systemOf t r (tieOrder t) (tie-ranks t)
+
+  abbrev st : ℕ → State
+  st n = stateAt t quiet n
+
+  abbrev rel : ℕ → ℕ → ℕ
+  rel i n = below (releaseOf S i) n
+
+  abbrev pub ready : ℕ → ℕ → ℕ
+  ready n i = leftReleased t (st n) false i
+
+  -- What is left in the dispatcher and what the run has served make all that was released.
+  abbrev pub Agrees : ℕ → Type 0
+  Agrees n = (i : ℕ) → i < t .count → leftOf (st n) i + servedOf S n i ≡ task t i .cost * rel i n
+
+  -- A job closed as late means a late deadline.
+  late-missed : (n : ℕ) → Agrees n → (i : ℕ) → i < t .count → T (isLate t (st n) false i) → T (lateAt t n)
+  late-missed n a i l h =
+      let (p, (j, e, b)) = late-is t r quiet n i (sound t r quiet n) l h in
+      missed-iff S n .0 (i, j, l, omega arith, unfinished j b p)
+    where
+      unfinished : (j : ℕ) → rel i n ≡ suc j → 0 < leftOf (st n) i → given (run t (tieOrder t)) i j 0 n < task t i .cost
+      unfinished j b p = elim (decLe (task t i .cost) (given (run t (tieOrder t)) i j 0 n)) [
+        | yes x ↦ absurd (omega (arith, done-iff S i j n l .0 x, a i l, ap (λ (y : ℕ). task t i .cost * y) b))
+        | no x ↦ omega arith
+      ]
+
+  -- An open job at its deadline is closed as late.
+  late-test : (i n : ℕ) → i < t .count → 0 < leftOf (st n) i → waitOf (st n) i ≡ task t i .period - task t i .deadline → T (isLate t (st n) false i)
+  late-test i n l p e = simp and-iff (lt→ltb i (t .count) l, (lt→ltb 0 (leftOf (st n) i) p, eq→eqb (waitOf (st n) i) (task t i .period - task t i .deadline) e))
+
+  -- So after the releases of slot n, too.
+  pub ready-agrees : (n : ℕ) → Agrees n → (T (lateAt t n) → ⊥) → (i : ℕ) → i < t .count → ready n i + servedOf S n i ≡ task t i .cost * rel i (suc n)
+  ready-agrees n a never i l = go (finds t r quiet n i (sound t r quiet n) l)
+    where
+      kept : Kept t r quiet n i → ready n i + servedOf S n i ≡ task t i .cost * rel i (suc n)
+      kept k = elim (k .left) [
+        | inl e ↦ omega (arith, e .0, a i l, ap (λ (y : ℕ). task t i .cost * y) (k .passed))
+        | inr e ↦ elim (e .1) [ inl x ↦ absurd x | inr x ↦ absurd (never (late-missed n a i l x)) ]
+      ]
+
+      fresh : (j : ℕ) → Fresh t r quiet n i j → ready n i + servedOf S n i ≡ task t i .cost * rel i (suc n)
+      fresh j f = at (decLt 0 (leftOf (st n) i))
+        where
+          at : Dec (0 < leftOf (st n) i) → ready n i + servedOf S n i ≡ task t i .cost * rel i (suc n)
+          at (no p) = omega (arith, f .left, a i l, ap (λ (y : ℕ). task t i .cost * y) (f .earlier), ap (λ (y : ℕ). task t i .cost * y) (f .passed))
+          at (yes p) =
+              let (k, b, d) = sound t r quiet n .current i l p in
+              let e : releaseOf S i (suc k) ≡ n = ap (releaseOf S i) (sym b ∙ f .earlier) ∙ f .now in
+              let w : waitOf (st n) i + n ≡ releaseOf S i (suc k) = sound t r quiet n .next i l ∙ ap (releaseOf S i) b in
+              absurd (never (late-missed n a i l (late-test i n l p (omega (arith, r .each i l .deadline-le)))))
+
+      go : ((j : ℕ) × Fresh t r quiet n i j) ⊎ Kept t r quiet n i → ready n i + servedOf S n i ≡ task t i .cost * rel i (suc n)
+      go (inl (j, f)) = fresh j f
+      go (inr k) = kept k
+
+  -- A task that may be served is at its last released job, with the deadline that its wait says.
+  at-job : (n : ℕ) → Agrees n → (T (lateAt t n) → ⊥) → (i : ℕ) → i < t .count → 0 < ready n i
+      → dueOf S i (servedOf S n i / task t i .cost) ≡ n + (waitReleased t (st n) false i - (task t i .period - task t i .deadline))
+  at-job n a never i l p =
+      let (j, b, e, d) = ready-is t r quiet n i (sound t r quiet n) l p in
+      let q : servedOf S n i / task t i .cost ≡ j = div-eq-of-lt-le (task t i .cost) (omega (arith, ready-agrees n a never i l, ready-le t r quiet n i (sound t r quiet n) l, ap (λ (y : ℕ). task t i .cost * y) b)) (omega (arith, ready-agrees n a never i l, ap (λ (y : ℕ). task t i .cost * y) b)) in
+      ap (dueOf S i) q ∙ e
+
+  -- The dispatcher gives the slot to the task that the run gives it to.
+  pub owner-agrees : (n : ℕ) → Agrees n → (T (lateAt t n) → ⊥) → ownerAt t quiet n ≡ owner t (tieOrder t) n
+  owner-agrees n a never =
+      chosen-same (λ i. ltb 0 (ready n i)) _ (λ i. waitReleased t (st n) false i - (task t i .period - task t i .deadline)) (λ i. dueOf S i (servedOf S n i / task t i .cost)) (tieOrder t) (t .count) (ownerAt t quiet n) (owner t (tieOrder t) n)
+      (S .rank-apart)
+      (λ i l p. ready-iff S i n (servedOf S n i) l .1 (omega (arith, ready-agrees n a never i l, ltb→lt 0 (ready n i) p)))
+      (λ i l p. lt→ltb 0 (ready n i) (omega (arith, ready-agrees n a never i l, ready-iff S i n (servedOf S n i) l .0 p)))
+      (λ i k l m p q x. alike i k (at-job n a never i l (ltb→lt 0 (ready n i) p)) (at-job n a never k m (ltb→lt 0 (ready n k) q)) x)
+      (chosen t r quiet n (sound t r quiet n))
+      (run-of.chosen S n)
+    where
+      alike : (i k : ℕ) → dueOf S i (servedOf S n i / task t i .cost) ≡ n + (waitReleased t (st n) false i - (task t i .period - task t i .deadline))
+          → dueOf S k (servedOf S n k / task t k .cost) ≡ n + (waitReleased t (st n) false k - (task t k .period - task t k .deadline))
+          → NoLater (λ i. dueOf S i (servedOf S n i / task t i .cost)) (tieOrder t) i k
+          → NoLater (λ i. waitReleased t (st n) false i - (task t i .period - task t i .deadline)) (tieOrder t) i k
+      alike i k e f (inl x) = inl (omega arith)
+      alike i k e f (inr (x, o)) = inr (omega arith, o)
+
+  -- AGREEMENT, as long as no deadline is late.
+  pub agrees : (n : ℕ) → Clear t n → Agrees n
+  agrees zero c i l =
+      let e : rel i 0 ≡ 0 = omega (arith, below-bound (releaseOf S i) ((jobs S) .rel-grows i l) 0) in
+      rw e (omega (arith, step-history t r quiet .start i l, (model-run S) .start i l))
+  agrees (suc n) c i l = step (agrees n (λ u m. c u (le-step m))) (c n (le-refl (suc n)))
+    where
+      step : Agrees n → (T (lateAt t n) → ⊥) → leftOf (st (suc n)) i + servedOf S (suc n) i ≡ task t i .cost * rel i (suc n)
+      step a never = at (ℕ-discrete (ownerAt t quiet n) i) (owner-agrees n a never)
+        where
+          left-now : leftOf (st (suc n)) i ≡ ready n i - cond (eqb (ownerAt t quiet n) i) 1 0
+          left-now = left-after t r quiet n (sound t r quiet n) i l
+
+          at : Dec (ownerAt t quiet n ≡ i) → ownerAt t quiet n ≡ owner t (tieOrder t) n → leftOf (st (suc n)) i + servedOf S (suc n) i ≡ task t i .cost * rel i (suc n)
+          at (no e) q = rw (left-now, ne-eqb (ownerAt t quiet n) i e, others-served S n i (λ x. e (q ∙ sym x))) (omega (arith, ready-agrees n a never i l))
+          at (yes e) q =
+              let o : owner t (tieOrder t) n ≡ i = sym q ∙ e in
+              let p : 0 < ready n i = serves (chosen t r quiet n (sound t r quiet n)) e in
+              let one : servedOf S (suc n) i ≡ servedOf S n i + 1 = rw o at (owner-served S n (omega arith)) in
+              rw (left-now, eq-eqb (ownerAt t quiet n) i e, one) (omega (arith, ready-agrees n a never i l))
+            where
+              serves : Chosen (λ k. ltb 0 (ready n k)) (λ k. waitReleased t (st n) false k - (task t k .period - task t k .deadline)) (tieOrder t) (t .count) (ownerAt t quiet n) → ownerAt t quiet n ≡ i → 0 < ready n i
+              serves (inl x) e = absurd (omega (arith, x .none, r .few))
+              serves (inr x) e = let y : T (ltb 0 (ready n i)) = rw e at (x .opened) in ltb→lt 0 (ready n i) y
+
+  -- THE FIRST LATE DEADLINE: with none before n, some open job is at its deadline at n exactly if n is late.
+  pub late-iff : (n : ℕ) → Clear t n → ((i : ℕ) × (i < t .count) × T (isLate t (st n) false i)) ↔ T (lateAt t n)
+  late-iff n c = (λ (i, l, h). late-missed n (agrees n c) i l h, λ h. seen (missed-iff S n .1 h))
+    where
+      seen : Missed S n → (i : ℕ) × (i < t .count) × T (isLate t (st n) false i)
+      seen (i, j, l, d, g) = (i, l, late-test i n l some at-end)
+        where
+          served-less : servedOf S n i < task t i .cost * suc j
+          served-less = elim (decLe (task t i .cost * suc j) (servedOf S n i)) [ yes p ↦ absurd (omega (arith, done-iff S i j n l .1 p)) | no p ↦ omega arith ]
+
+          behind : (u : ℕ) → u ≤ n → given (run t (tieOrder t)) i j 0 u < task t i .cost
+          behind u m = elim (decLe (task t i .cost) (given (run t (tieOrder t)) i j 0 u)) [ yes p ↦ absurd (omega (arith, done-iff S i j u l .0 p, served-mono (jobs S) (servedOf S) (model-run S) i l u n m, served-less)) | no p ↦ omega arith ]
+
+          -- Its deadline is n: missed before, it would have been late before.
+          now : dueOf S i j ≡ n
+          now = elim (decLt (dueOf S i j) n) [ yes p ↦ absurd (c (dueOf S i j) p (missed-iff S (dueOf S i j) .0 (i, j, l, le-refl _, behind (dueOf S i j) d))) | no p ↦ omega arith ]
+
+          -- So it is the last one released.
+          last : rel i n ≡ suc j
+          last =
+              omega (
+                arith,
+                lt-below (releaseOf S i) ((jobs S) .rel-grows i l) n j .1 (omega (arith, now, r .each i l .deadline-pos)),
+                below-most (releaseOf S i) ((jobs S) .rel-grows i l) n (suc j) (λ k h. elim (decLt k (suc j)) [
+                  | yes p ↦ p
+                  | no p ↦ absurd (omega (arith, now, r .each i l .deadline-le, grows-mono (releaseOf S i) ((jobs S) .rel-grows i l) (suc j) k (omega arith)))
+                ]),
+              )
+
+          some : 0 < leftOf (st n) i
+          some = omega (arith, agrees n c i l, served-less, ap (λ (y : ℕ). task t i .cost * y) last)
+
+          at-end : waitOf (st n) i ≡ task t i .period - task t i .deadline
+          at-end = omega (arith, sound t r quiet n .next i l, ap (releaseOf S i) last, now, r .each i l .deadline-le)

@@ -1,0 +1,29 @@
+-- By cases on what was found and where the walk ended.
+use native.Mathlib.Omega.{arith}
+use borrow.Author.Tests.{lt-ltb, le-ltb, eq-eqb, ne-eqb}
+use borrow.Author.Needs.{needs}
+use Rattle.exact.proofs.conclude.Statement.{statement}
+use Rattle.exact.proofs.conclude.Tie as tie
+
+brief-requires : tie.Need-brief-requires
+brief-requires c κs = search needs
+
+returns : tie.Need-returns
+returns c = let s = c .before .before .args in rw (lt-ltb 0 (s .asked) (omega arith)) (c .brief .ensures)
+
+brief-requires-2 : tie.Need-brief-requires-2
+brief-requires-2 c κs = search needs
+
+returns-2 : tie.Need-returns-2
+returns-2 c = let s = c .before .before .before .before .args in rw (le-ltb 0 (s .asked) (omega arith), lt-ltb (s .at) (s .m .horizon) (omega arith)) (c .brief2 .ensures)
+
+slot-or-nowhere-requires : tie.Need-slot-or-nowhere-requires
+slot-or-nowhere-requires c κs = search needs
+
+returns-3 : tie.Need-returns-3
+returns-3 c = let s = c .before .before .before .before .args in rw (le-ltb 0 (s .asked) (omega arith), le-ltb (s .at) (s .m .horizon) (omega arith)) (cc)
+
+pub conclude-spec : {M : Type 1} → statement M
+conclude-spec =
+    tie.close
+    (tie.spec brief-requires returns brief-requires-2 returns-2 slot-or-nowhere-requires returns-3)

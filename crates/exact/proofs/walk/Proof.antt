@@ -1,0 +1,174 @@
+-- Before each slot the walk holds what the dispatcher would without done reports; at a late deadline no start from `from` on asks too much.
+use mathlib.Core.Logic.{inl, inr}
+use mathlib.Core.Path.{_≡_, refl, sym, ap, _∙_}
+use Prim.Native.Nat.{ℕ, _≤_, _<_, _+_, _-_}
+use native.Mathlib.Decide.{decLe}
+use native.Mathlib.Omega.{arith}
+use lib.Dec.{T}
+use lib.ListN.{length, getD, set}
+use borrow.Author.Needs.{needs}
+use Rattle.model.specs.Demand.{demand, asksTooMuch}
+use Rattle.wellformed.specs.WellFormed.{WellFormed, well-formed}
+use Rattle.backlog.specs.Decided.{late-at-iff, too-much-iff}
+use Rattle.slots.specs.declared.Columns.{Columns}
+use Rattle.exact.specs.Walking.{Setting, Walking, walking-start, one-found, none-found, walk-slot, permitted-quiet, permitted-late}
+use Rattle.exact.proofs.walk.Statement.{statement}
+use Rattle.exact.proofs.walk.Tie as tie
+
+abbrev Inv-loop : tie.InvT-loop
+Inv-loop t m budget n end period cost slack rank wait left worst empty from₀ asked₀ at from asked =
+    (from ≤ at) × ((later : ℕ) → from ≤ later → later < at → T (asksTooMuch t later at) → ⊥)
+
+abbrev μ-loop : tie.MeasureT-loop
+μ-loop t m budget n end period cost slack rank wait left worst empty from₀ asked₀ at from asked = from
+
+abbrev Inv-search : tie.InvT-search
+Inv-search t m budget n end period cost slack rank wait₀ left₀ worst₀ empty₀ from₀ asked₀ at₀ wait left worst empty from asked at =
+    Setting t m budget n end period cost slack rank × (at ≤ end) × (asked ≡ 0) × Walking t at wait left worst empty
+
+abbrev μ-search : tie.MeasureT-search
+μ-search t m budget n end period cost slack rank wait₀ left₀ worst₀ empty₀ from₀ asked₀ at₀ wait left worst empty from asked at =
+    end - at
+
+-- What is known of the table wherever the search stands.
+facts : (c : tie.At-search Inv-loop μ-loop Inv-search μ-search) → let s = c .before .before .before .before .before .before .before .before in WellFormed (s .args .t) (s .args .m)
+facts c = well-formed _ _ (c .before .before .before .before .before .before .before .before .pre .0)
+
+smaller-requires : tie.Need-smaller-requires Inv-loop μ-loop Inv-search μ-search
+smaller-requires c κs = search needs
+
+unpack-requires : tie.Need-unpack-requires Inv-loop μ-loop Inv-search μ-search
+unpack-requires c κs = well-formed _ _ (c .before .pre .0) .ranged .few
+
+offsets-requires : tie.Need-offsets-requires Inv-loop μ-loop Inv-search μ-search
+offsets-requires c κs = well-formed _ _ (c .before .before .before .before .before .before .pre .0) .ranged .few
+
+search-holds : tie.Need-search-holds Inv-loop μ-loop Inv-search μ-search
+search-holds c =
+    let s = c .before .before .before .before .before .before .before in
+    let u = c .before .before .before .before .before .unpack .ensures in (
+      record {
+        end-is = c .before .before .before .before .before .before .smaller .ensures;
+        tasks = refl;
+        periods = ap (λ (x : Columns). x .period) u;
+        costs = ap (λ (x : Columns). x .cost) u;
+        slacks = ap (λ (x : Columns). x .slack) u;
+        ranks = ap (λ (x : Columns). x .rank) u;
+      },
+      omega arith,
+      refl,
+      rw (c .offsets .ensures, well-formed _ _ (s .pre .0) .horizon-is) (walking-start (s .args .t)),
+    )
+
+late-set-requires : tie.Need-late-set-requires Inv-loop μ-loop Inv-search μ-search
+late-set-requires c κs = facts (c .before .before .before) .ranged .few
+
+serve-requires : tie.Need-serve-requires Inv-loop μ-loop Inv-search μ-search
+serve-requires c κs = facts (c .before .before .before .before .before .before .before .before .before .before .before .before) .ranged .few
+
+note-requires : tie.Need-note-requires Inv-loop μ-loop Inv-search μ-search
+note-requires c κs = search needs
+
+first-empty-requires : tie.Need-first-empty-requires Inv-loop μ-loop Inv-search μ-search
+first-empty-requires c κs = search needs
+
+add-at : tie.Need-add-at Inv-loop μ-loop Inv-search μ-search
+add-at c = let a = c .before .before .before .before .before .before .before .before .before .before .before .before .before .before .before .before .before .before .before in let f = facts a in omega (arith, f .horizon-is, f .horizon-le)
+
+search-less : tie.Need-search-less Inv-loop μ-loop Inv-search μ-search
+search-less c = search needs
+
+search-again : tie.Need-search-again Inv-loop μ-loop Inv-search μ-search
+search-again c =
+    let a = c .before .before .before .before .before .before .before .before .before .before .before .before .before .before .before .before .before .before .before in
+    let i = a .search .inv in
+    let f = facts a in
+    (i .0, omega (arith, i .1, c .before .before .before .before .before .before .before .before .before .before .before .before .before .if2 .left), i .2, walk-slot _ (f .ranged) _ (f .horizon-is) (i .0) (i .3) (c .before .before .before .before .before .before .before .before .before .before .before .before .before .before .before .late-set .ensures) (c .before .before .before .before .before .before .before .before .before .before .before .before .before .before .if1 .taken) (c .before .before .before .before .before .before .serve .ensures) (omega (arith, i .0 .end-is, f .horizon-is, i .1, c .before .before .before .before .before .before .before .before .before .before .before .before .before .if2 .left)) (c .before .note .ensures) (c .first-empty .ensures))
+
+-- A late deadline has a start: the search for it does not come to its end.
+found : (c : tie.After-loop Inv-loop μ-loop Inv-search μ-search) → ⊥
+found c =
+    let a = c .before .before .before .before .before .before .before in
+    let i = a .search .inv in
+    let f = facts a in
+    let h = one-found _ (f .ranged) _ (f .horizon-is) (i .0) (i .3) (c .before .before .before .late-set .ensures) (c .before .before .if1 .left) in
+    let (from, x) = late-at-iff _ _ .0 h in
+    c .before .loop .inv .1 from (omega arith) (too-much-iff _ from _ .0 x .0) x
+
+loop-holds : tie.Need-loop-holds Inv-loop μ-loop Inv-search μ-search
+loop-holds c = (omega arith, λ later x y. absurd (omega arith))
+
+search-less-2 : tie.Need-search-less-2 Inv-loop μ-loop Inv-search μ-search
+search-less-2 c = absurd (found c)
+
+search-again-2 : tie.Need-search-again-2 Inv-loop μ-loop Inv-search μ-search
+search-again-2 c = absurd (found c)
+
+sub-from : tie.Need-sub-from Inv-loop μ-loop Inv-search μ-search
+sub-from c = search needs
+
+demand-requires : tie.Need-demand-requires Inv-loop μ-loop Inv-search μ-search
+demand-requires c κs = let a = c .before .before .before .before .before .before .before in let f = facts a in (f .ranged, (omega arith, omega (arith, f .horizon-is, f .horizon-le, a .search .inv .0 .end-is)))
+
+sub-if3 : tie.Need-sub-if3 Inv-loop μ-loop Inv-search μ-search
+sub-if3 c = search needs
+
+loop-less : tie.Need-loop-less Inv-loop μ-loop Inv-search μ-search
+loop-less c = search needs
+
+loop-again : tie.Need-loop-again Inv-loop μ-loop Inv-search μ-search
+loop-again c =
+    let l = c .before .before .before .loop in
+    let a = c .before .before .before .before .before .before .before .before .before in
+    let t = a .before .before .before .before .before .before .before .before .args .t in (
+      omega (arith, l .inv .0),
+      λ later x y z. elim (decLe (l .from) later) [
+        | yes p ↦ l .inv .1 later p y z
+        | no p ↦ (let e : later ≡ l .from - 1 = omega arith in omega (arith, too-much-iff t later (a .search .at) .0 z .1, c .before .demand .ensures, c .if3 .left, ap (λ (v : ℕ). demand t v (a .search .at)) e))
+      ],
+    )
+
+conclude-requires : tie.Need-conclude-requires Inv-loop μ-loop Inv-search μ-search
+conclude-requires c κs = search needs
+
+returns : tie.Need-returns Inv-loop μ-loop Inv-search μ-search
+returns c =
+    let a = c .before .before .before .before .before .before in
+    let s = a .before .before .before .before .before .before .before .before in
+    let i = a .search .inv in
+    let f = facts a in
+    let set = c .before .before .late-set .ensures in
+    rw (c .conclude .ensures) (elim (c .before .if1 .came) [
+      | inl (if1, if2, from, asked) ↦ rw (asked, i .2) (permitted-quiet (s .args .t) (s .args .m) (s .args .budget) (s .pre .0) (s .pre .1) (i .3) (c .before .if1 .from) (none-found _ (f .ranged) _ (f .horizon-is) (i .0) (i .3) set (if1 .taken)) (if2 .taken ∙ i .0 .end-is))
+      | inr (if1, loop, test, asks, if3, from, asked) ↦ rw (from, asked) (permitted-late (s .args .t) (s .args .m) (s .args .budget) (s .pre .0) (s .pre .1) (i .3) _ _ (omega (arith, i .0 .end-is)) (one-found _ (f .ranged) _ (f .horizon-is) (i .0) (i .3) set (if1 .left)) (omega (arith, loop .inv .0, test .taken)) (asks .ensures) (if3 .taken) (λ later x y. loop .inv .1 later (omega arith) y))
+    ])
+
+pub walk-spec : {M : Type 1} → statement M
+walk-spec =
+    tie.close
+    (tie.spec
+    Inv-loop
+    μ-loop
+    Inv-search
+    μ-search
+    smaller-requires
+    unpack-requires
+    offsets-requires
+    search-holds
+    late-set-requires
+    serve-requires
+    note-requires
+    first-empty-requires
+    add-at
+    search-less
+    search-again
+    loop-holds
+    search-less-2
+    search-again-2
+    sub-from
+    demand-requires
+    sub-if3
+    loop-less
+    loop-again
+    conclude-requires
+    returns)

@@ -1,0 +1,3 @@
+pub mod Closed
+pub mod Walked
+pub mod Walking

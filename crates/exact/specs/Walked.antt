@@ -1,0 +1,38 @@
+-- What the walk has seen before a slot, and what it says at its end.
+use mathlib.Core.Path.{_≡_, refl, sym, ap, _∙_}
+use mathlib.Core.List.{List}
+use mathlib.Core.Bool.{Bool, true, false, cond, _&&_}
+use Prim.Native.Nat.{ℕ, suc, _+_, _-_, _≤_, _<_, max}
+use lib.Dec.{T, ltb, eqb}
+use lib.ListN.{getD, set}
+use Rattle.model.specs.declared.Table.{Table}
+use Rattle.model.specs.declared.Measure.{Measure}
+use Rattle.model.specs.declared.Verdict.{Verdict}
+use Rattle.model.specs.declared.Outcome.{Outcome}
+use Rattle.model.specs.declared.Empty.{Empty}
+use Rattle.model.specs.declared.Answer.{Answer}
+use Rattle.model.specs.Notation.{first}
+use Rattle.model.specs.Limits.{taskLimit}
+use Rattle.model.specs.Tasks.{horizon}
+use Rattle.model.specs.Verdict.{brief}
+use Rattle.model.specs.History.{stateAt, ownerAt}
+use Rattle.backlog.specs.Walk.{quiet, Clear}
+use Rattle.backlog.specs.WalkWorst.{noted, worstBy}
+
+-- The responses after a slot of this owner, with the lists after the slot.
+abbrev pub notedOf : List ℕ → ℕ → List ℕ → List ℕ → List ℕ → List ℕ
+notedOf worst owner period wait left = cond (ltb owner taskLimit && eqb (getD left owner 0) 0) (noted worst owner (getD period owner 0 - getD wait owner 0)) worst
+
+-- The first empty slot after slot n of this owner, where the horizon stands for none.
+abbrev pub emptied : ℕ → ℕ → ℕ → ℕ → ℕ
+emptied empty end owner n = cond (ltb owner taskLimit) empty (cond (ltb empty end) empty n)
+
+abbrev pub emptyOf : ℕ → ℕ → Empty
+emptyOf empty end = cond (ltb empty end) (Empty.Slot empty) Empty.Nowhere
+
+-- What a walk that ended at n says, with an interval from `from` that asks for some slots or else 0.
+abbrev pub concluded : Measure → ℕ → ℕ → ℕ → List ℕ → ℕ → Answer
+concluded m from asked n worst empty =
+    cond (ltb 0 asked) (brief (Outcome.Tested (Verdict.Late from n asked)) m n)
+    (cond (ltb n (m .horizon)) (brief (Outcome.Tested Verdict.Undecided) m n)
+    (record { outcome = Outcome.Tested Verdict.Passes; measure = m; settled = n; worst = worst; empty = emptyOf empty (m .horizon) }))

@@ -1,0 +1,65 @@
+// The parts of a line.
+use libc::STDOUT_FILENO;
+use model::Measure;
+use model::Refusal;
+use model::Table;
+use model::Task;
+use table::TASK_LIMIT;
+
+pub fn words(s: &[u8]) {
+    io::write_all(STDOUT_FILENO, s);
+}
+
+pub fn number(n: u64) {
+    io::print_decimal(STDOUT_FILENO, n);
+}
+
+pub fn small(n: u32) {
+    number(n as u64);
+}
+
+pub fn about(call: &[u8], vector: &[u8]) {
+    words(call);
+    words(b" ");
+    words(vector);
+    words(b": ");
+}
+
+pub fn refused(why: Refusal) {
+    words(b"refused ");
+    small(why.number);
+    words(b" at ");
+    small(why.place);
+}
+
+pub fn measure(m: Measure) {
+    words(b"H ");
+    number(m.round);
+    words(b", load ");
+    number(m.load);
+    words(b"/");
+    number(m.round);
+    words(b", horizon ");
+    number(m.horizon);
+}
+
+pub fn task(k: Task) {
+    words(b"(");
+    small(k.offset);
+    words(b",");
+    small(k.cost);
+    words(b",");
+    small(k.deadline);
+    words(b",");
+    small(k.period);
+    words(b")");
+}
+
+pub fn tasks(t: Table) {
+    for i in 0..TASK_LIMIT {
+        if i < t.count {
+            words(b" ");
+            task(t.tasks[i]);
+        }
+    }
+}
