@@ -4,9 +4,7 @@ ghost use mathlib.Core.Bool.{cond, not, _||_};
 ghost use Prim.Native.Nat.{_-_, _^_, max, _≤_, _<_};
 ghost use lib.Dec.{ltb, eqb};
 ghost use Rattle.model.specs.Limits.{taskLimit};
-ghost use Rattle.model.specs.Tasks.{task};
 ghost use Rattle.model.specs.Dispatcher.{firstStrange, refuse, started, stepped};
-ghost use Rattle.slots.specs.Columns.{column};
 ghost use Rattle.slots.specs.Slot.{closed};
 ghost use Rattle.dispatch.specs.State.{stateOf, startedOf, steppedOf};
 ghost use Rattle.dispatch.specs.Strange.{strangeAt, Belongs};
@@ -56,7 +54,7 @@ impl Dispatcher {
             Judgement::WellFormed(_) => Started {
                 admission: Admission::Admitted,
                 dispatcher: Dispatcher {
-                    wait: offsets(t),
+                    wait: slots::offsets(t),
                     left,
                     last: NO_TASK,
                 },
@@ -73,18 +71,6 @@ impl Dispatcher {
             Judgement::WellFormed(_) => step_well_formed(self, t, done),
         }
     }
-}
-
-fn offsets(t: Table) -> Numbers
-    requires { ⌜ t .count ≤ taskLimit ⌝ }
-    ensures { λ r. ⌜ r ≡ column (t .count) (λ i. task t i .offset) ⌝ }
-{
-    let n = t.count;
-    let mut offset = [0u32; TASK_LIMIT];
-    for i in 0..n {
-        offset[i] = t.tasks[i].offset;
-    }
-    offset
 }
 
 fn refused(d: Dispatcher, refusal: Refusal) -> Stepped

@@ -6,6 +6,7 @@ ghost use lib.Dec.{ltb, eqb};
 ghost use Rattle.model.specs.Limits.{taskLimit};
 ghost use Rattle.model.specs.Notation.{bit, bits};
 ghost use Rattle.model.specs.Run.{tieOrder};
+ghost use Rattle.model.specs.Dispatcher.{startOf};
 ghost use Rattle.slots.specs.Columns.{columnsOf};
 ghost use Rattle.slots.specs.Choice.{ranks, keyOf};
 ghost use Rattle.slots.specs.Slot.{closed, isLate, isMember, closedAll, Released, chosen, given, passed, Served};
@@ -57,6 +58,19 @@ pub fn unpack(t: Table) -> Columns
         slack,
         rank,
     }
+}
+
+// The waits at the start.
+pub fn offsets(t: Table) -> Numbers
+    requires { ⌜ t .count ≤ taskLimit ⌝ }
+    ensures { λ r. ⌜ r ≡ startOf t .wait ⌝ }
+{
+    let n = t.count;
+    let mut wait = [0u32; TASK_LIMIT];
+    for i in 0..n {
+        wait[i] = t.tasks[i].offset;
+    }
+    wait
 }
 
 // Of two tasks that tie, the one of lower rank goes first.
