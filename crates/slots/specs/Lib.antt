@@ -1,5 +1,5 @@
 -- One slot over lists of waits and of slots left.
 pub mod Columns
-pub mod Slot
 pub mod Choice
+pub mod Slot
 pub mod Laws

@@ -1,32 +1,39 @@
 // One slot, over two numbers for each task: its wait, the slots until its next release, and the slots left to its open job.
 ghost use mathlib.Core.Path.{_≡_};
-ghost use mathlib.Core.Bool.{cond, _&&_, _||_};
+ghost use mathlib.Core.Bool.{cond, _&&_};
 ghost use Prim.Native.Nat.{_+_, _-_, _*_, _^_, _≤_, _<_};
 ghost use lib.Dec.{ltb, eqb};
 ghost use Rattle.model.specs.Limits.{taskLimit};
 ghost use Rattle.model.specs.Notation.{bit, bits};
 ghost use Rattle.model.specs.Run.{tieOrder};
+ghost use Rattle.model.specs.Dispatcher.{startOf};
 ghost use Rattle.slots.specs.Columns.{columnsOf};
+ghost use Rattle.slots.specs.Choice.{ranks, keyOf};
 ghost use Rattle.slots.specs.Slot.{closed, isLate, isMember, closedAll, Released, chosen, given, passed, Served};
 use model::Table;
+use table::TASK_LIMIT;
 
-// Tasks in a table. As a task's number it stands for no task.
-pub const TASK_LIMIT: usize = 16;
-
+// Where a task is named, this is none.
 pub const NO_TASK: u32 = TASK_LIMIT as u32;
 
 // A number for each task.
 pub type Numbers = [u32; TASK_LIMIT];
 
-// A rank is below this, so that a deadline and a rank are compared as one number.
-const RANKS: u64 = 4294967296;
+// A rank for each task.
+pub type Ranks = [u16; TASK_LIMIT];
+
+// Ranks are below this, so that a deadline and a rank are compared as one number.
+const RANKS: u64 = 0x1_0000;
+
+// What a task that is not open is compared by.
+const NO_KEY: u64 = 0xffff_ffff_ffff_ffff;
 
 // What a slot reads of a table, a list for each number. The slack is T - D: the wait of a job at its deadline.
 pub struct Columns {
     pub period: Numbers,
     pub cost: Numbers,
     pub slack: Numbers,
-    pub rank: Numbers,
+    pub rank: Ranks,
 }
 
 pub fn unpack(t: Table) -> Columns
@@ -37,7 +44,7 @@ pub fn unpack(t: Table) -> Columns
     let mut period = [0u32; TASK_LIMIT];
     let mut cost = [0u32; TASK_LIMIT];
     let mut slack = [0u32; TASK_LIMIT];
-    let mut rank = [0u32; TASK_LIMIT];
+    let mut rank = [0u16; TASK_LIMIT];
     for i in 0..n {
         let task = t.tasks[i];
         period[i] = task.period;
@@ -53,14 +60,28 @@ pub fn unpack(t: Table) -> Columns
     }
 }
 
+// The waits at the start.
+pub fn offsets(t: Table) -> Numbers
+    requires { ⌜ t .count ≤ taskLimit ⌝ }
+    ensures { λ r. ⌜ r ≡ startOf t .wait ⌝ }
+{
+    let n = t.count;
+    let mut wait = [0u32; TASK_LIMIT];
+    for i in 0..n {
+        wait[i] = t.tasks[i].offset;
+    }
+    wait
+}
+
 // Of two tasks that tie, the one of lower rank goes first.
-pub fn rank_of(t: Table, i: usize) -> u32
+pub fn rank_of(t: Table, i: usize) -> u16
     requires { ⌜ i < taskLimit ⌝ }
     ensures { λ r. ⌜ r ≡ tieOrder t i ⌝ }
 {
-    i as u32
+    i as u16
 }
 
+// The difference, or 0.
 pub fn less(x: u32, y: u32) -> u32
     ensures { λ r. ⌜ r ≡ x - y ⌝ }
 {
@@ -145,15 +166,15 @@ fn at_release(wait: u32, new: u32, old: u32) -> u32
 }
 
 // The open task that comes first by its slots to the deadline and then its rank, or no task.
-pub fn choose(wait: &Numbers, left: &Numbers, slack: &Numbers, rank: &Numbers, n: usize) -> u32
+pub fn choose(wait: &Numbers, left: &Numbers, slack: &Numbers, rank: &Ranks, n: usize) -> u32
     requires { ⌜ n ≤ taskLimit ⌝ }
     ensures { λ r. ⌜ r ≡ chosen (now (wait .entry)) (now (left .entry)) (now (slack .entry)) (now (rank .entry)) n ⌝ }
 {
     let mut owner = NO_TASK;
-    let mut least: u64 = 0;
+    let mut least = NO_KEY;
     for i in 0..n {
-        let key = key_of(less(wait[i], slack[i]), rank[i]);
-        if comes_first(left[i], owner, key, least) {
+        let key = key_of(left[i], less(wait[i], slack[i]), rank[i]);
+        if key < least {
             least = key;
             owner = i as u32;
         }
@@ -161,16 +182,14 @@ pub fn choose(wait: &Numbers, left: &Numbers, slack: &Numbers, rank: &Numbers, n
     owner
 }
 
-fn key_of(due: u32, rank: u32) -> u64
-    ensures { λ r. ⌜ (r ≡ due * 2 ^ 32 + rank) × (rank < 2 ^ 32) ⌝ }
+fn key_of(left: u32, due: u32, rank: u16) -> u64
+    ensures { λ r. ⌜ (r ≡ keyOf (ltb 0 left) due rank) × (due < 2 ^ 32) × (rank < ranks) ⌝ }
 {
-    due as u64 * RANKS + rank as u64
-}
-
-fn comes_first(left: u32, owner: u32, key: u64, least: u64) -> bool
-    ensures { λ r. ⌜ r ≡ (ltb 0 left && (eqb owner taskLimit || ltb key least)) ⌝ }
-{
-    0 < left && (owner == NO_TASK || key < least)
+    if 0 < left {
+        due as u64 * RANKS + rank as u64
+    } else {
+        NO_KEY
+    }
 }
 
 // The task has one slot fewer left.
@@ -200,7 +219,7 @@ pub fn serve(
     period: &Numbers,
     cost: &Numbers,
     slack: &Numbers,
-    rank: &Numbers,
+    rank: &Ranks,
     n: usize,
 ) -> u32
     requires { ⌜ n ≤ taskLimit ⌝ }

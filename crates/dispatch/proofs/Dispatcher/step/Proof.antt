@@ -1,0 +1,42 @@
+-- Refused as the table is, or a step on a well-formed table.
+use mathlib.Core.Path.{sym, _∙_}
+use borrow.Author.Needs.{needs}
+use Rattle.model.specs.Dispatcher.{stepped}
+use Rattle.wellformed.specs.WellFormed.{well-formed}
+use Rattle.dispatch.proofs.Dispatcher.step.Statement.{statement}
+use Rattle.dispatch.proofs.Dispatcher.step.Tie as tie
+
+judge-requires : tie.Need-judge-requires
+judge-requires c κs = search needs
+
+enum-known-refusal : tie.Need-enum-known-refusal
+enum-known-refusal c = search needs
+
+refused-requires : tie.Need-refused-requires
+refused-requires c κs = search needs
+
+enum-told : tie.Need-enum-told
+enum-told c = search needs
+
+step-well-formed-requires : tie.Need-step-well-formed-requires
+step-well-formed-requires c κs = well-formed _ _ (sym (c .before .before .judge .ensures) ∙ c .enum-told .given .1) .ranged .few
+
+returns : tie.Need-returns
+unfolding stepped
+returns c = rw (← c .before .before .before .before .judge .ensures, c .before .before .refusal .given .1) (c .refused .ensures)
+
+returns-2 : tie.Need-returns-2
+unfolding stepped
+returns-2 c = rw (← c .before .before .before .judge .ensures, c .before .enum-told .given .1) (c .step-well-formed .ensures)
+
+pub step-spec : {M : Type 1} → statement M
+step-spec =
+    tie.close
+    (tie.spec
+    judge-requires
+    enum-known-refusal
+    refused-requires
+    enum-told
+    step-well-formed-requires
+    returns
+    returns-2)

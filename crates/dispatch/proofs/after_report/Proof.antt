@@ -1,0 +1,16 @@
+-- With a report, and without.
+use borrow.Author.Needs.{needs}
+use Rattle.dispatch.proofs.after_report.Statement.{statement}
+use Rattle.dispatch.proofs.after_report.Tie as tie
+
+close-requires : tie.Need-close-requires
+close-requires c κs = search needs
+
+returns : tie.Need-returns
+returns c = rw (c .before .before .if1 .taken) (c .close .ensures)
+
+returns-2 : tie.Need-returns-2
+returns-2 c = search needs
+
+pub after-report-spec : {M : Type 1} → statement M
+after-report-spec = tie.close (tie.spec close-requires returns returns-2)

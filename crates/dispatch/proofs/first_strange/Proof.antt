@@ -1,0 +1,89 @@
+-- The loop has passed no task that does not belong.
+use mathlib.Core.Path.{_≡_, sym, _∙_}
+use mathlib.Core.Bool.{true, false}
+use Prim.Native.Nat.{_≤_, _-_}
+use native.Mathlib.Omega.{arith}
+use borrow.Author.Needs.{needs}
+use Rattle.model.specs.Dispatcher.{strange, firstStrange}
+use Rattle.counting.specs.Search.{NoneFrom, none-up, first-is, first-none}
+use Rattle.dispatch.specs.State.{stateOf}
+use Rattle.dispatch.proofs.first_strange.Statement.{statement}
+use Rattle.dispatch.proofs.first_strange.Tie as tie
+
+abbrev Inv-loop : tie.InvT-loop
+Inv-loop d t n i₀ i = (i ≤ n) × NoneFrom (strange t (stateOf d)) 0 i
+
+abbrev μ-loop : tie.MeasureT-loop
+μ-loop d t n i₀ i = n - i
+
+loop-holds : tie.Need-loop-holds Inv-loop μ-loop
+loop-holds c = (omega arith, λ k a b. absurd (omega arith))
+
+mul-is-strange : tie.Need-mul-is-strange Inv-loop μ-loop
+mul-is-strange c = search needs
+
+element-copy-out-is-strange : tie.Need-element-copy-out-is-strange Inv-loop μ-loop
+element-copy-out-is-strange c = search needs
+
+mul-is-strange-2 : tie.Need-mul-is-strange-2 Inv-loop μ-loop
+mul-is-strange-2 c = search needs
+
+element-copy-out-is-strange-2 : tie.Need-element-copy-out-is-strange-2 Inv-loop μ-loop
+element-copy-out-is-strange-2 c = search needs
+
+mul-is-strange-3 : tie.Need-mul-is-strange-3 Inv-loop μ-loop
+mul-is-strange-3 c = search needs
+
+element-copy-out-is-strange-3 : tie.Need-element-copy-out-is-strange-3 Inv-loop μ-loop
+element-copy-out-is-strange-3 c = search needs
+
+is-strange-requires : tie.Need-is-strange-requires Inv-loop μ-loop
+is-strange-requires c κs = search needs
+
+returns : tie.Need-returns Inv-loop μ-loop
+unfolding firstStrange
+returns c = let s = c .before in
+    let a = s .before .before .before .before .before in
+    let p = strange (a .before .args .t2) (stateOf (a .before .args .t1)) in
+    let e : p (a .loop .i) ≡ true = sym (s .is-strange .ensures) ∙ c .if1 .taken in
+    sym (first-is p 0 (a .before .args .t2 .count) (a .loop .i) (omega arith) (omega arith) (rw e tt) (a .loop .inv .1))
+
+add-i : tie.Need-add-i Inv-loop μ-loop
+add-i c = search needs
+
+loop-less : tie.Need-loop-less Inv-loop μ-loop
+loop-less c = search needs
+
+loop-again : tie.Need-loop-again Inv-loop μ-loop
+loop-again c = let s = c .before in
+    let a = s .before .before .before .before .before in
+    let p = strange (a .before .args .t2) (stateOf (a .before .args .t1)) in
+    let e : p (a .loop .i) ≡ false = sym (s .is-strange .ensures) ∙ c .if1 .left in
+    (omega arith, none-up p 0 (a .loop .i) (a .loop .inv .1) (λ h. rw e at h))
+
+returns-2 : tie.Need-returns-2 Inv-loop μ-loop
+unfolding firstStrange
+returns-2 c =
+    let a = c .before in
+    let s = a .before .args in
+    omega (arith, first-none (strange (s .t2) (stateOf (s .t1))) 0 (s .t2 .count) (λ k l m. a .loop .inv .1 k l (omega arith)))
+
+pub first-strange-spec : {M : Type 1} → statement M
+first-strange-spec =
+    tie.close
+    (tie.spec
+    Inv-loop
+    μ-loop
+    loop-holds
+    mul-is-strange
+    element-copy-out-is-strange
+    mul-is-strange-2
+    element-copy-out-is-strange-2
+    mul-is-strange-3
+    element-copy-out-is-strange-3
+    is-strange-requires
+    returns
+    add-i
+    loop-less
+    loop-again
+    returns-2)

@@ -1,0 +1,14 @@
+-- Above the larger of two is above both.
+use borrow.Author.Tests.{lt-ltb, le-ltb}
+use Rattle.dispatch.specs.Strange.{above-both}
+use Rattle.dispatch.proofs.waits_too_long.Statement.{statement}
+use Rattle.dispatch.proofs.waits_too_long.Tie as tie
+
+returns : tie.Need-returns
+returns c = simp (above-both, lt-ltb _ _ (c .before .if1 .taken))
+
+returns-2 : tie.Need-returns-2
+returns-2 c = simp (above-both, le-ltb _ _ (c .if1 .left))
+
+pub waits-too-long-spec : {M : Type 1} → statement M
+waits-too-long-spec = tie.close (tie.spec returns returns-2)

@@ -1,0 +1,108 @@
+-- A step by what the slot's rules make of the lists.
+use mathlib.Core.Path.{_≡_, refl, sym, ap, _∙_}
+use mathlib.Core.List.{List}
+use mathlib.Core.Bool.{Bool, true, false, cond}
+use Prim.Native.Nat.{ℕ, _-_, _<_}
+use native.Mathlib.Decide.{decLt}
+use native.Mathlib.Omega.{arith}
+use borrow.Author.Tests.{le-ltb}
+use lib.Count.{ones, trailingZeros}
+use lib.Dec.{ltb, eqb}
+use lib.ListN.{length}
+use Rattle.model.specs.declared.Table.{Table}
+use Rattle.model.specs.declared.Turn.{Turn}
+use Rattle.model.specs.declared.Given.{Given}
+use Rattle.model.specs.Limits.{taskLimit}
+use Rattle.model.specs.Notation.{bits, fill}
+use Rattle.model.specs.Tasks.{task}
+use Rattle.model.specs.Run.{tieOrder}
+use Rattle.model.specs.Dispatcher.{State, Stepped, waitOf, firstStrange, lastStrange, leftDone, isLate, leftLate, leftReleased, ownerNow, after, turn, refuse}
+use Rattle.counting.specs.Fill.{fill-length, fill-eq, fill-same, fill-again}
+use Rattle.counting.specs.Bits.{bits-eq, ones-bits, trailing-bits}
+use Rattle.slots.specs.declared.Columns.{Columns}
+use Rattle.slots.specs.Columns.{columnsOf}
+use Rattle.slots.specs.Slot.{closed, isLate as isLateIn, closedAll, Served}
+use Rattle.slots.specs.Laws.{Has, fill-has, closed-fill, member-is, slack-has, Slotted, table-slotted}
+use Rattle.dispatch.specs.Strange.{Belongs}
+
+-- A step that nothing refuses.
+abbrev pub taken : Table → State → Bool → Stepped
+taken t d done = record { given = Given.Slot (turn t d done); state = after t d done }
+
+-- A step on a well-formed table: refused by 8, or taken.
+abbrev pub stepWellFormed : Table → State → Bool → Stepped
+stepWellFormed t d done =
+    cond (ltb (firstStrange t d) (t .count)) (refuse 8 (firstStrange t d) d)
+    (cond (lastStrange t d) (refuse 8 taskLimit d) (taken t d done))
+
+-- The answer of a step: how many bits the late set has, and its lowest.
+abbrev pub turnOf : ℕ → ℕ → Turn
+turnOf owner late = record { owner = owner; late = late; closed = ones late; lowest = trailingZeros taskLimit late }
+
+-- The lists have a number for each task that a table can have.
+pub record Whole (d : State) : Type 0 where
+  pub waits : length (d .wait) ≡ taskLimit
+  pub lefts : length (d .left) ≡ taskLimit
+
+module _ (t : Table) (d : State) (done : Bool) (belongs : Belongs t d) (whole : Whole d) where
+  -- Rule 1.
+  done-fill : {left : List ℕ} → left ≡ cond done (closed (d .left) (d .last)) (d .left) → left ≡ fill (t .count) (leftDone t d done) (d .left)
+  done-fill e = e ∙ go done
+    where
+      go : (b : Bool) → cond b (closed (d .left) (d .last)) (d .left) ≡ fill (t .count) (leftDone t d b) (d .left)
+      go true = closed-fill (t .count) (d .left) (d .last) (belongs .few) (belongs .ran)
+      go false = sym (fill-same (t .count) (d .left) 0)
+
+  filled-has : (f : ℕ → ℕ) {left : List ℕ} → left ≡ fill (t .count) f (d .left) → Has (t .count) left f
+  filled-has f e i l = rw e (fill-has (t .count) f (d .left) (omega (arith, belongs .few, whole .lefts)) i l)
+
+  -- Rule 2.
+  late-bits : {left : List ℕ} {late : ℕ} → left ≡ fill (t .count) (leftDone t d done) (d .left) → late ≡ bits (isLateIn (d .wait) left (columnsOf t .slack) (t .count)) taskLimit → late ≡ bits (isLate t d done) taskLimit
+  late-bits {left} e q = q ∙ bits-eq _ _ taskLimit (λ i l. same i (decLt i (t .count)))
+    where
+      same : (i : ℕ) → Dec (i < t .count) → isLateIn (d .wait) left (columnsOf t .slack) (t .count) i ≡ isLate t d done i
+      same i (yes l) = rw (filled-has (leftDone t d done) e i l, slack-has t (belongs .few) i l)
+      same i (no l) = rw (le-ltb i (t .count) (omega arith))
+
+  late-fill : {left left′ : List ℕ} {late : ℕ} → left ≡ fill (t .count) (leftDone t d done) (d .left) → late ≡ bits (isLate t d done) taskLimit → left′ ≡ closedAll left late (t .count) → left′ ≡ fill (t .count) (leftLate t d done) (d .left)
+  unfolding closedAll
+  late-fill e q s =
+      s ∙ ap (fill (t .count) _) e ∙ fill-again (t .count) _ _ (d .left)
+      ∙ fill-eq (t .count) _ _ (d .left) (λ i l. rw (q, member-is (isLate t d done) i (omega (arith, belongs .few)), filled-has (leftDone t d done) e i l))
+
+  -- Rules 3 and 4.
+  module _ {left wait′ left′ : List ℕ} {owner : ℕ} (e : left ≡ fill (t .count) (leftLate t d done) (d .left))
+      (s : Served (d .wait) left (columnsOf t .period) (columnsOf t .cost) (columnsOf t .slack) (columnsOf t .rank) (t .count) wait′ left′ owner) where
+    slot : Slotted (t .count) (waitOf d) (leftLate t d done) (λ i. task t i .period) (λ i. task t i .cost) (λ i. task t i .period - task t i .deadline) (tieOrder t) (d .wait) left wait′ left′ owner
+    slot = table-slotted t (belongs .few) (d .wait) left (waitOf d) (leftLate t d done) (whole .waits) (ap length e ∙ fill-length (t .count) _ (d .left) ∙ whole .lefts) (λ i l. refl) (filled-has (leftLate t d done) e) s
+
+    owner-is : owner ≡ ownerNow t d done
+    unfolding ownerNow
+    owner-is = slot .owned
+
+    lefts-are : left′ ≡ fill (t .count) (λ i. leftReleased t d done i - cond (eqb (ownerNow t d done) i) 1 0) (d .left)
+    lefts-are = rw owner-is at (slot .lefts ∙ ap (fill (t .count) _) e ∙ fill-again (t .count) _ _ (d .left))
+
+    state-is : record { wait = wait′; left = left′; last = owner } ≡ after t d done
+    unfolding after
+    state-is = rw (slot .waits, lefts-are, owner-is)
+
+  -- The answer.
+  turn-is : {owner late : ℕ} → owner ≡ ownerNow t d done → late ≡ bits (isLate t d done) taskLimit → turnOf owner late ≡ turn t d done
+  unfolding turn
+  turn-is e q = rw (e, q, ones-bits, trailing-bits)
+
+  -- All four, from the lists that the code makes.
+  pub taken-is :
+      {columns : Columns} {left left₂ wait′ left′ : List ℕ} {late owner : ℕ} {answer : Turn} → columns ≡ columnsOf t
+      → left ≡ cond done (closed (d .left) (d .last)) (d .left)
+      → late ≡ bits (isLateIn (d .wait) left (columns .slack) (t .count)) taskLimit
+      → left₂ ≡ closedAll left late (t .count)
+      → Served (d .wait) left₂ (columns .period) (columns .cost) (columns .slack) (columns .rank) (t .count) wait′ left′ owner
+      → answer ≡ turnOf owner late
+      → record { given = Given.Slot answer; state = record { wait = wait′; left = left′; last = owner } } ≡ taken t d done
+  taken-is c a b e s w =
+      let first = done-fill a in
+      let late = late-bits first (rw c at b) in
+      let second = late-fill first late e in
+      rw (w, turn-is (owner-is second (rw c at s)) late, state-is second (rw c at s))

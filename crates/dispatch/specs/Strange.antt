@@ -1,0 +1,47 @@
+-- When a state belongs to a table: the model's tests, at the numbers of one task.
+use mathlib.Core.Path.{_≡_, refl}
+use mathlib.Core.Logic.{_⊎_, inl, inr}
+use mathlib.Core.Bool.{Bool, true, false, not, _&&_, _||_}
+use Prim.Native.Nat.{ℕ, _-_, max, _≤_, _<_}
+use native.Mathlib.Decide.{decLt}
+use native.Mathlib.Omega.{arith}
+use borrow.Author.Tests.{lt-ltb, le-ltb, le-leb, lt-leb, ltb-true, eqb-true}
+use lib.Dec.{leb, ltb, eqb}
+use Rattle.model.specs.declared.Task.{Task}
+use Rattle.model.specs.declared.Table.{Table}
+use Rattle.model.specs.Limits.{taskLimit}
+use Rattle.model.specs.Dispatcher.{State}
+
+-- A task with this wait and these slots left does not belong to the table.
+abbrev pub strangeAt : Task → ℕ → ℕ → Bool
+strangeAt k wait left =
+    ltb (max (k .offset) (k .period)) wait
+    || ltb (k .cost) left
+    || (ltb 0 left && (ltb wait (k .period - k .deadline) || ltb (k .period - 1) wait))
+
+-- Above the larger of two is above both.
+pub above-both : (a b x : ℕ) → ltb (max a b) x ≡ (ltb a x && ltb b x)
+above-both a b x = go (decLt a x) (decLt b x)
+  where
+    go : Dec (a < x) → Dec (b < x) → ltb (max a b) x ≡ (ltb a x && ltb b x)
+    go (yes p) (yes q) = rw (lt-ltb (max a b) x (omega arith), lt-ltb a x p, lt-ltb b x q)
+    go (yes p) (no q) = rw (le-ltb (max a b) x (omega arith), lt-ltb a x p, le-ltb b x (omega arith))
+    go (no p) q = rw (le-ltb (max a b) x (omega arith), le-ltb a x (omega arith))
+
+-- The two tests of an order.
+pub at-least : (n x : ℕ) → leb n x ≡ not (ltb x n)
+at-least n x = elim (decLt x n) [ yes p ↦ rw (lt-leb n x p, lt-ltb x n p) | no p ↦ rw (le-leb n x (omega arith), le-ltb x n (omega arith)) ]
+
+-- What a step that nothing refuses may assume.
+pub record Belongs (t : Table) (d : State) : Type 0 where
+  pub few : t .count ≤ taskLimit
+  pub ran : (d .last ≡ taskLimit) ⊎ (d .last < t .count)
+
+-- A last-run number that the model's test lets through.
+pub ran-of : (last n : ℕ) → not (eqb last taskLimit || ltb last n) ≡ false → (last ≡ taskLimit) ⊎ (last < n)
+ran-of last n e = go (eqb last taskLimit) (ltb last n) refl refl e
+  where
+    go : (a b : Bool) → eqb last taskLimit ≡ a → ltb last n ≡ b → not (a || b) ≡ false → (last ≡ taskLimit) ⊎ (last < n)
+    go true b p q e = inl (eqb-true last taskLimit p)
+    go false true p q e = inr (ltb-true last n q)
+    go false false p q e = let z : _≡_ {A = ℕ} 0 1 = cc in absurd (omega arith)

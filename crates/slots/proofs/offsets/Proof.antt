@@ -1,0 +1,61 @@
+-- The loop has the offsets of the tasks that it has passed.
+use mathlib.Core.Path.{_≡_, refl}
+use Prim.Native.Nat.{_≤_, _-_}
+use native.Mathlib.Omega.{arith}
+use borrow.Author.Needs.{needs}
+use Rattle.model.specs.Tasks.{task}
+use Rattle.model.specs.Dispatcher.{startOf}
+use Rattle.counting.specs.Fill.{fill-none, fill-put, fill-done}
+use Rattle.slots.specs.Columns.{column}
+use Rattle.slots.proofs.offsets.Statement.{statement}
+use Rattle.slots.proofs.offsets.Tie as tie
+
+abbrev Inv-loop : tie.InvT-loop
+Inv-loop t n wait₀ i₀ wait i = (i ≤ n) × (wait ≡ column i (λ k. task t k .offset))
+
+abbrev μ-loop : tie.MeasureT-loop
+μ-loop t n wait₀ i₀ wait i = n - i
+
+loop-holds : tie.Need-loop-holds Inv-loop μ-loop
+loop-holds c = (omega arith, fill-none _ _)
+
+mul-wait : tie.Need-mul-wait Inv-loop μ-loop
+mul-wait c = search needs
+
+element-copy-out-wait : tie.Need-element-copy-out-wait Inv-loop μ-loop
+element-copy-out-wait c = search needs
+
+mul-wait-2 : tie.Need-mul-wait-2 Inv-loop μ-loop
+mul-wait-2 c = search needs
+
+array-write-wait : tie.Need-array-write-wait Inv-loop μ-loop
+array-write-wait c = search needs
+
+add-i : tie.Need-add-i Inv-loop μ-loop
+add-i c = search needs
+
+loop-less : tie.Need-loop-less Inv-loop μ-loop
+loop-less c = search needs
+
+loop-again : tie.Need-loop-again Inv-loop μ-loop
+loop-again c = (omega arith, fill-put _ _ _ (c .before .loop .inv .1) refl)
+
+returns : tie.Need-returns Inv-loop μ-loop
+unfolding startOf
+returns c = fill-done _ _ _ _ (c .before .loop .inv .0) (omega arith) (c .before .loop .inv .1)
+
+pub offsets-spec : {M : Type 1} → statement M
+offsets-spec =
+    tie.close
+    (tie.spec
+    Inv-loop
+    μ-loop
+    loop-holds
+    mul-wait
+    element-copy-out-wait
+    mul-wait-2
+    array-write-wait
+    add-i
+    loop-less
+    loop-again
+    returns)
