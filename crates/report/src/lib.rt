@@ -33,14 +33,9 @@ pub fn write_refusal(buffer: &mut [u8], refusal: Refusal) -> usize
     ensures { λ r. ⌜ exported r (now (buffer .exit)) ≡ written (refusalLine refusal) (now (buffer .entry)) ⌝ }
     ensures { λ r. ⌜ r ≤ reportBytes ⌝ }
 {
-    put_pair(
-        buffer,
-        0,
-        b"refused ",
-        refusal.number as u64,
-        b" at ",
-        refusal.place as u64,
-    )
+    let number = refusal.number as u64;
+    let place = refusal.place as u64;
+    put_pair(buffer, 0, b"refused ", number, b" at ", place)
 }
 
 fn put_verdict(buffer: &mut [u8], at: usize, verdict: Verdict) -> usize
