@@ -1,5 +1,5 @@
 -- How many bytes each part of a report takes at most, and that a report takes at most the bytes of a report buffer.
-use mathlib.Core.List.{List}
+use mathlib.Core.List.{List, _++_}
 use Prim.Native.Nat.{ℕ, zero, suc, _+_, _*_, _-_, _^_, _≤_, _<_}
 use native.Mathlib.Omega.{arith}
 use lib.ListN.{length, getD, length-append}
@@ -8,7 +8,7 @@ use Rattle.model.specs.declared.Empty.{Empty}
 use Rattle.model.specs.declared.Verdict.{Verdict}
 use Rattle.model.specs.Limits.{taskLimit, reportBytes}
 use Rattle.model.specs.Notation.{text, decimal}
-use Rattle.model.specs.Report.{verdictWord, worstLines, emptyWord, details, reportOf}
+use Rattle.model.specs.Report.{line, verdictWord, worstLines, emptyWord, details, reportOf}
 use Rattle.report.specs.Decimal.{short}
 
 -- A number of 64 bits.
@@ -60,20 +60,19 @@ pub record Printable (n : ℕ) (a : Answer) (v : Verdict) : Type 0 where
   pub empty : EmptyWide (a .empty)
   pub verdict : VerdictWide v
 
-wide : (x : ℕ) → Wide x → length (decimal x) ≤ numberBytes
+pub wide : (x : ℕ) → Wide x → length (decimal x) ≤ numberBytes
 wide x h = short 19 x (omega arith)
 
-worst-short : (w : List ℕ) (n : ℕ) → n ≤ taskLimit → ((k : ℕ) → k < n → getD w k 0 < 2 ^ 32) → length (worstLines w n) ≤ n * worstBytes
-unfolding worstLines text
-worst-short w zero h f = omega arith
-worst-short w (suc n) h f =
-    simp length-append
-    (omega (
-      arith,
-      worst-short w n (omega arith) (λ k l. f k (omega arith)),
-      short 1 n (omega arith),
-      short 9 (getD w n 0) (omega (arith, f n (omega arith))),
-    ))
+pub worst-short : (k x : ℕ) → k < taskLimit → x < 2 ^ 32 → length (line (text "worst " ++ decimal k ++ text " " ++ decimal x)) ≤ worstBytes
+unfolding text
+worst-short k x h l = simp length-append (omega (arith, short 1 k (omega arith), short 9 x (omega arith)))
+
+lines-short : (w : List ℕ) (n : ℕ) → n ≤ taskLimit → ((k : ℕ) → k < n → getD w k 0 < 2 ^ 32) → length (worstLines w n) ≤ n * worstBytes
+unfolding worstLines
+lines-short w zero h f = omega arith
+lines-short w (suc n) h f =
+    rw length-append
+    (omega (arith, lines-short w n (omega arith) (λ k l. f k (omega arith)), worst-short n (getD w n 0) (omega arith) (f n (omega arith))))
 
 verdict-short : (v : Verdict) → length (verdictWord v) ≤ 9
 unfolding text
@@ -89,7 +88,7 @@ empty-short Empty.Nowhere h = omega arith
 
 details-short : (n : ℕ) (a : Answer) (v : Verdict) → Printable n a v → length (details n a v) ≤ detailsBytes
 unfolding text
-details-short n a Verdict.Passes p = simp length-append (omega (arith, worst-short (a .worst) n (p .tasks) (p .worst), empty-short (a .empty) (p .empty)))
+details-short n a Verdict.Passes p = simp length-append (omega (arith, lines-short (a .worst) n (p .tasks) (p .worst), empty-short (a .empty) (p .empty)))
 details-short n a Verdict.Overload p = omega arith
 details-short n a (Verdict.Late from to asked) p =
     simp length-append (omega (arith, wide from (p .verdict .0), wide to (p .verdict .1), wide asked (p .verdict .2)))

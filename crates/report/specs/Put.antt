@@ -40,6 +40,7 @@ copied {now = now} {at = at} s i h p =
     let n : at + (i + 1) ≡ at + i + 1 = omega arith in
     rw (n, add-one i, take-suc s i 0) (join p (byte (getD s i 0) (at + i) now))
 
+-- A result and what the buffer then holds, as the model has them.
 abbrev pub exported : ℕ → List ℕ → Exported
 exported n l = record { number = n; buffer = l }
 

@@ -1,8 +1,7 @@
 use native.Mathlib.Omega.{arith}
 use borrow.Author.Needs.{needs}
-use lib.ListN.{length-append}
 use Rattle.model.specs.Notation.{text}
-use Rattle.report.specs.Decimal.{short}
+use Rattle.report.specs.Fits.{worst-short}
 use Rattle.report.proofs.put_worst_line.Statement.{statement}
 use Rattle.report.proofs.put_worst_line.Tie as tie
 
@@ -22,15 +21,8 @@ returns : tie.Need-returns
 unfolding text
 returns c =
     let p = c .before .before in
-    let a = p .before .before .before .before .before .args in (
-      p .put-pair .ensures .0,
-      omega (
-        arith,
-        short 1 (a .task) (omega arith),
-        short 9 (a .worst) (omega arith),
-        simp length-append at (p .put-pair .ensures .0 .place),
-      ),
-    )
+    let a = p .before .before .before .before .before .args in
+    (p .put-pair .ensures .0, omega (arith, worst-short (a .task) (a .worst) (omega arith) (omega arith)))
 
 pub put-worst-line-spec : {M : Type 1} → statement M
 put-worst-line-spec =

@@ -56,16 +56,10 @@ returns c =
     let v = s .before .before .before .before .before in
     let h = v .before .before .before .before in
     let l = h .before .before .before .before .before in
-    let t = l .before .before .before .before .before .before in (
-      at-front
-          (join
-          (join
-          (join (join (join (t .put-line .ensures .0) (l .put-pair .ensures .0)) (h .put-line2 .ensures .0)) (v .put-verdict .ensures .0))
-          (s .put-line3 .ensures .0))
-          (d .put-details .ensures .0))
-          (omega (arith, t)),
-      omega (arith, t),
-    )
+    let t = l .before .before .before .before .before .before in
+    let size = join (join (t .put-line .ensures .0) (l .put-pair .ensures .0)) (h .put-line2 .ensures .0) in
+    let all = join (join (join size (v .put-verdict .ensures .0)) (s .put-line3 .ensures .0)) (d .put-details .ensures .0) in
+    (at-front all (omega (arith, t)), omega (arith, t))
 
 pub write-report-spec : {M : Type 1} → statement M
 write-report-spec =
