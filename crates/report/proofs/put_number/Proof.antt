@@ -1,0 +1,27 @@
+use native.Mathlib.Omega.{arith}
+use borrow.Author.Needs.{needs}
+use Rattle.report.specs.Put.{join}
+use Rattle.report.specs.Fits.{wide}
+use Rattle.report.proofs.put_number.Statement.{statement}
+use Rattle.report.proofs.put_number.Tie as tie
+
+put-text-requires : tie.Need-put-text-requires
+put-text-requires c κs = search needs
+
+put-decimal-requires : tie.Need-put-decimal-requires
+put-decimal-requires c κs =
+    let number = c .before .before .before .before .before .before .before .args .number in
+    omega (arith, wide number (omega arith))
+
+same-length : tie.Need-same-length
+same-length c = search needs
+
+returns : tie.Need-returns
+returns c =
+    let d = c .before .before in
+    let t = d .before .before .before .before in
+    let number = t .before .before .before .before .args .number in
+    (join (t .put-text .ensures) (d .put-decimal .ensures), omega (arith, wide number (omega arith)))
+
+pub put-number-spec : {M : Type 1} → statement M
+put-number-spec = tie.close (tie.spec put-text-requires put-decimal-requires same-length returns)

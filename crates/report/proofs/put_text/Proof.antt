@@ -1,0 +1,70 @@
+-- The bytes below `i` are put.
+use mathlib.Core.Path.{_≡_, refl}
+use Prim.Native.Nat.{_≤_, _+_, _-_}
+use native.Mathlib.Nat.{add-zero}
+use native.Mathlib.Omega.{arith}
+use borrow.Author.Needs.{needs}
+use lib.ListN.{length, take, length-set}
+use lib.Seq.{take-length}
+use Rattle.report.specs.Put.{Put, nothing, copied}
+use Rattle.report.proofs.put_text.Statement.{statement}
+use Rattle.report.proofs.put_text.Tie as tie
+
+abbrev Inv-loop : tie.InvT-loop
+Inv-loop buffer₀ at bytes i₀ i-end buffer i =
+    (i-end ≡ length bytes) × (i ≤ i-end) × (length buffer ≡ length buffer₀) × Put (take i bytes) at buffer₀ buffer (at + i)
+
+abbrev μ-loop : tie.MeasureT-loop
+μ-loop buffer₀ at bytes i₀ i-end buffer i = i-end - i
+
+loop-holds : tie.Need-loop-holds Inv-loop μ-loop
+loop-holds c = (refl, omega arith, refl, rw add-zero (nothing (c .args .at) (c .args .buffer .now)))
+
+shared-slice-read-buffer : tie.Need-shared-slice-read-buffer Inv-loop μ-loop
+shared-slice-read-buffer c = search needs
+
+add-buffer : tie.Need-add-buffer Inv-loop μ-loop
+add-buffer c = search needs
+
+slice-write-buffer : tie.Need-slice-write-buffer Inv-loop μ-loop
+slice-write-buffer c = search needs
+
+add-i : tie.Need-add-i Inv-loop μ-loop
+add-i c = search needs
+
+loop-less : tie.Need-loop-less Inv-loop μ-loop
+loop-less c = search needs
+
+loop-again : tie.Need-loop-again Inv-loop μ-loop
+loop-again c =
+    let a = c .before .before in
+    (omega arith, omega arith, simp length-set (omega arith), copied (a .before .args .bytes .now) (a .loop .i) (omega arith) (a .loop .inv .3))
+
+add-result : tie.Need-add-result Inv-loop μ-loop
+add-result c = search needs
+
+same-length : tie.Need-same-length Inv-loop μ-loop
+same-length c = search needs
+
+returns : tie.Need-returns Inv-loop μ-loop
+returns c =
+    let a = c .before in
+    let all : a .loop .i ≡ length (a .before .args .bytes .now) = omega arith in
+    rw (all, take-length) at (a .loop .inv .3)
+
+pub put-text-spec : {M : Type 1} → statement M
+put-text-spec =
+    tie.close
+    (tie.spec
+    Inv-loop
+    μ-loop
+    loop-holds
+    shared-slice-read-buffer
+    add-buffer
+    slice-write-buffer
+    add-i
+    loop-less
+    loop-again
+    add-result
+    same-length
+    returns)

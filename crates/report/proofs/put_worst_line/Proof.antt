@@ -1,0 +1,35 @@
+use native.Mathlib.Omega.{arith}
+use borrow.Author.Needs.{needs}
+use Rattle.model.specs.Notation.{text}
+use Rattle.report.specs.Fits.{worst-short}
+use Rattle.report.proofs.put_worst_line.Statement.{statement}
+use Rattle.report.proofs.put_worst_line.Tie as tie
+
+slice-aggregate-put-pair : tie.Need-slice-aggregate-put-pair
+slice-aggregate-put-pair c = search needs
+
+slice-aggregate-put-pair-2 : tie.Need-slice-aggregate-put-pair-2
+slice-aggregate-put-pair-2 c = search needs
+
+put-pair-requires : tie.Need-put-pair-requires
+put-pair-requires c κs = search needs
+
+same-length : tie.Need-same-length
+same-length c = search needs
+
+returns : tie.Need-returns
+unfolding text
+returns c =
+    let p = c .before .before in
+    let a = p .before .before .before .before .before .args in
+    (p .put-pair .ensures .0, omega (arith, worst-short (a .task) (a .worst) (omega arith) (omega arith)))
+
+pub put-worst-line-spec : {M : Type 1} → statement M
+put-worst-line-spec =
+    tie.close
+    (tie.spec
+    slice-aggregate-put-pair
+    slice-aggregate-put-pair-2
+    put-pair-requires
+    same-length
+    returns)

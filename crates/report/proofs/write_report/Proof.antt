@@ -1,0 +1,80 @@
+use native.Mathlib.Omega.{arith}
+use borrow.Author.Needs.{needs}
+use Rattle.model.specs.Notation.{text}
+use Rattle.model.specs.Report.{reportOf}
+use Rattle.report.specs.Put.{join, at-front}
+use Rattle.report.proofs.write_report.Statement.{statement}
+use Rattle.report.proofs.write_report.Tie as tie
+
+slice-aggregate-put-line : tie.Need-slice-aggregate-put-line
+slice-aggregate-put-line c = search needs
+
+put-line-requires : tie.Need-put-line-requires
+put-line-requires c κs = search needs
+
+slice-aggregate-put-pair : tie.Need-slice-aggregate-put-pair
+slice-aggregate-put-pair c = search needs
+
+slice-aggregate-put-pair-2 : tie.Need-slice-aggregate-put-pair-2
+slice-aggregate-put-pair-2 c = search needs
+
+put-pair-requires : tie.Need-put-pair-requires
+put-pair-requires c κs = search needs
+
+slice-aggregate-put-line-2 : tie.Need-slice-aggregate-put-line-2
+slice-aggregate-put-line-2 c = search needs
+
+put-line-requires-2 : tie.Need-put-line-requires-2
+put-line-requires-2 c κs = search needs
+
+put-verdict-requires : tie.Need-put-verdict-requires
+put-verdict-requires c κs = search needs
+
+slice-aggregate-put-line-3 : tie.Need-slice-aggregate-put-line-3
+slice-aggregate-put-line-3 c = search needs
+
+put-line-requires-3 : tie.Need-put-line-requires-3
+put-line-requires-3 c κs = search needs
+
+put-details-requires : tie.Need-put-details-requires
+put-details-requires c κs =
+    let s = c .before .before .before in
+    let v = s .before .before .before .before .before in
+    let h = v .before .before .before .before in
+    let l = h .before .before .before .before .before in
+    let t = l .before .before .before .before .before .before in
+    omega (arith, t)
+
+same-length : tie.Need-same-length
+same-length c = search needs
+
+returns : tie.Need-returns
+unfolding reportOf text
+returns c =
+    let d = c .before .before in
+    let s = d .before .before .before .before in
+    let v = s .before .before .before .before .before in
+    let h = v .before .before .before .before in
+    let l = h .before .before .before .before .before in
+    let t = l .before .before .before .before .before .before in
+    let size = join (join (t .put-line .ensures .0) (l .put-pair .ensures .0)) (h .put-line2 .ensures .0) in
+    let all = join (join (join size (v .put-verdict .ensures .0)) (s .put-line3 .ensures .0)) (d .put-details .ensures .0) in
+    (at-front all (omega (arith, t)), omega (arith, t))
+
+pub write-report-spec : {M : Type 1} → statement M
+write-report-spec =
+    tie.close
+    (tie.spec
+    slice-aggregate-put-line
+    put-line-requires
+    slice-aggregate-put-pair
+    slice-aggregate-put-pair-2
+    put-pair-requires
+    slice-aggregate-put-line-2
+    put-line-requires-2
+    put-verdict-requires
+    slice-aggregate-put-line-3
+    put-line-requires-3
+    put-details-requires
+    same-length
+    returns)

@@ -1,0 +1,111 @@
+-- How many bytes each part of a report takes at most, and that a report takes at most the bytes of a report buffer.
+use mathlib.Core.List.{List, _++_}
+use Prim.Native.Nat.{ℕ, zero, suc, _+_, _*_, _-_, _^_, _≤_, _<_}
+use native.Mathlib.Omega.{arith}
+use lib.ListN.{length, getD, length-append}
+use Rattle.model.specs.declared.Answer.{Answer}
+use Rattle.model.specs.declared.Empty.{Empty}
+use Rattle.model.specs.declared.Verdict.{Verdict}
+use Rattle.model.specs.Limits.{taskLimit, reportBytes}
+use Rattle.model.specs.Notation.{text, decimal}
+use Rattle.model.specs.Report.{line, verdictWord, worstLines, emptyWord, details, reportOf}
+use Rattle.report.specs.Decimal.{short}
+
+-- A number of 64 bits.
+abbrev pub numberBytes : ℕ
+numberBytes = 20
+
+-- The lines `verdict undecided`, `worst 15 ..` with a number of 32 bits, `empty ..` and `interval .. .. demand ..`.
+abbrev pub verdictBytes : ℕ
+verdictBytes = 18
+
+abbrev pub worstBytes : ℕ
+worstBytes = 20
+
+abbrev pub emptyBytes : ℕ
+emptyBytes = 7 + numberBytes
+
+abbrev pub intervalBytes : ℕ
+intervalBytes = 19 + 3 * numberBytes
+
+-- What is asked for to write a worst line: the writer of a number asks for 20 digits, also where it takes fewer.
+abbrev pub worstRoom : ℕ
+worstRoom = 8 + 2 * numberBytes
+
+-- What follows the settled count: the worst line of the last task asks for most.
+abbrev pub detailsBytes : ℕ
+detailsBytes = (taskLimit - 1) * worstBytes + worstRoom
+
+-- The numbers that are printed are as wide as their types: 64 bits, and 32 for a worst response.
+abbrev pub Wide : ℕ → Type 0
+Wide x = x < 2 ^ 64
+
+abbrev pub EmptyWide : Empty → Type 0
+EmptyWide (Empty.Slot u) = Wide u
+EmptyWide Empty.Nowhere = Unit
+
+abbrev pub VerdictWide : Verdict → Type 0
+VerdictWide (Verdict.Late from to asked) = Wide from × Wide to × Wide asked
+VerdictWide Verdict.Passes = Unit
+VerdictWide Verdict.Overload = Unit
+VerdictWide Verdict.Undecided = Unit
+
+pub record Printable (n : ℕ) (a : Answer) (v : Verdict) : Type 0 where
+  pub tasks : n ≤ taskLimit
+  pub load : Wide (a .measure .load)
+  pub round : Wide (a .measure .round)
+  pub horizon : Wide (a .measure .horizon)
+  pub settled : Wide (a .settled)
+  pub worst : (k : ℕ) → k < n → getD (a .worst) k 0 < 2 ^ 32
+  pub empty : EmptyWide (a .empty)
+  pub verdict : VerdictWide v
+
+pub wide : (x : ℕ) → Wide x → length (decimal x) ≤ numberBytes
+wide x h = short 19 x (omega arith)
+
+pub worst-short : (k x : ℕ) → k < taskLimit → x < 2 ^ 32 → length (line (text "worst " ++ decimal k ++ text " " ++ decimal x)) ≤ worstBytes
+unfolding text
+worst-short k x h l = simp length-append (omega (arith, short 1 k (omega arith), short 9 x (omega arith)))
+
+lines-short : (w : List ℕ) (n : ℕ) → n ≤ taskLimit → ((k : ℕ) → k < n → getD w k 0 < 2 ^ 32) → length (worstLines w n) ≤ n * worstBytes
+unfolding worstLines
+lines-short w zero h f = omega arith
+lines-short w (suc n) h f =
+    rw length-append
+    (omega (arith, lines-short w n (omega arith) (λ k l. f k (omega arith)), worst-short n (getD w n 0) (omega arith) (f n (omega arith))))
+
+verdict-short : (v : Verdict) → length (verdictWord v) ≤ 9
+unfolding text
+verdict-short Verdict.Passes = omega arith
+verdict-short Verdict.Overload = omega arith
+verdict-short (Verdict.Late from to asked) = omega arith
+verdict-short Verdict.Undecided = omega arith
+
+empty-short : (e : Empty) → EmptyWide e → length (emptyWord e) ≤ numberBytes
+unfolding text
+empty-short (Empty.Slot u) h = wide u h
+empty-short Empty.Nowhere h = omega arith
+
+details-short : (n : ℕ) (a : Answer) (v : Verdict) → Printable n a v → length (details n a v) ≤ detailsBytes
+unfolding text
+details-short n a Verdict.Passes p = simp length-append (omega (arith, lines-short (a .worst) n (p .tasks) (p .worst), empty-short (a .empty) (p .empty)))
+details-short n a Verdict.Overload p = omega arith
+details-short n a (Verdict.Late from to asked) p =
+    simp length-append (omega (arith, wide from (p .verdict .0), wide to (p .verdict .1), wide asked (p .verdict .2)))
+details-short n a Verdict.Undecided p = omega arith
+
+-- A report fits a report buffer.
+pub fits : (n : ℕ) (a : Answer) (v : Verdict) → Printable n a v → length (reportOf n a v) ≤ reportBytes
+unfolding reportOf text
+fits n a v p =
+    simp length-append
+    (omega (
+      arith,
+      short 1 n (omega arith),
+      wide (a .measure .load) (p .load),
+      wide (a .measure .round) (p .round),
+      wide (a .measure .horizon) (p .horizon),
+      wide (a .settled) (p .settled),
+      verdict-short v,
+      details-short n a v p,
+    ))
