@@ -37,9 +37,6 @@ offsetOf S i = task (S .table) i .offset
 abbrev pub costOf : System → ℕ → ℕ
 costOf S i = task (S .table) i .cost
 
-abbrev pub deadlineOf : System → ℕ → ℕ
-deadlineOf S i = task (S .table) i .deadline
-
 abbrev pub periodOf : System → ℕ → ℕ
 periodOf S i = task (S .table) i .period
 

@@ -90,10 +90,6 @@ module _ (S : System) (Y : Cycle S) (light : Light S Y) (s : ℕ → ℕ → ℕ
   pub worst-for-ever : (w : ℕ) → ((j f : ℕ) → DoneFirst (jobs S) s i j f → f ≤ horizonOf S Y → f - releaseOf S i j ≤ w) → (j f : ℕ) → DoneFirst (jobs S) s i j f → f - releaseOf S i j ≤ w
   worst-for-ever w h j f d = let (k, g, q, a, b) = worst-seen j f d in omega (arith, h k g q a)
 
-  -- And something is seen.
-  pub first-seen : (f : ℕ) × DoneFirst (jobs S) s i 0 f × (f ≤ Y .start + Y .round)
-  first-seen = let (f, d, a, b) = finishes 0 in (f, d, omega (arith, Y .starts i l, S .deadline-le i l, period-le))
-
 -- The same in the model's words, of its run.
 module _ (S : System) (Y : Cycle S) (light : Light S Y) (met : Met (jobs S) (dues S) (servedOf S)) (i : ℕ) (l : i < size S) where
   abbrev Ends : ℕ → ℕ → Type 0

@@ -59,9 +59,6 @@ module _ (f : ℕ → ℕ) (g : Grows f) where
   pub below-unique : (x k : ℕ) → ((j : ℕ) → (j < k) ↔ (f j < x)) → below f x ≡ k
   below-unique x k h = omega (arith, below-most x k (λ j. h j .1), below-least x k (λ j. h j .0))
 
-  pub below-zero : (x : ℕ) → x ≤ f 0 → below f x ≡ 0
-  below-zero x h = omega (arith, below-most x 0 (λ j l. absurd (omega (arith, grows-mono 0 j zero-le))))
-
   pub below-mono : (x y : ℕ) → x ≤ y → below f x ≤ below f y
   below-mono x y h = below-most x (below f y) (λ j l. lt-below y j .1 (omega arith))
 

@@ -181,10 +181,6 @@ divides-product (suc n) f i l = elim (ℕ-discrete i n) [ yes e ↦ rw e (dvd-mu
 pub lcmAll-product : (n : ℕ) (f : ℕ → ℕ) → lcmAll n f ∣ product n f
 lcmAll-product n f = lcmAll-iff n f (product n f) .1 (divides-product n f)
 
--- Of the common multiples that are not 0 it is the least.
-pub lcmAll-least : (n : ℕ) (f : ℕ → ℕ) (x : ℕ) → 0 < x → ((i : ℕ) → i < n → f i ∣ x) → lcmAll n f ≤ x
-lcmAll-least n f x pos h = le-of-dvd pos (lcmAll-iff n f x .1 h)
-
 -- A product of numbers that are not 0 is not 0.
 product-pos : (n : ℕ) (f : ℕ → ℕ) → ((i : ℕ) → i < n → 0 < f i) → 0 < product n f
 unfolding product

@@ -16,10 +16,6 @@ pub at-end {ℓ} : {A : Type ℓ} (f : ℕ → A) {r : A} (i n : ℕ) → i ≤ 
 at-end f i n a b e = e ∙ ap f (le-antisymm a b)
 
 module _ {A : Type 0} where
-  -- The part `&s[n..]` of a slice.
-  pub part-rest : (n : ℕ) (s : List A) → take (length s - n) (drop n s) ≡ drop n s
-  part-rest n s = take-all (length s - n) (drop n s) (le-of-eq (length-drop n s))
-
   -- A loop's start: no entry is replaced.
   pub fill-none : (f : ℕ → A) (w : List A) → w ≡ fill 0 f w
   unfolding fill
@@ -65,17 +61,6 @@ module _ {A : Type 0} where
   unfolding fill
   fill-eq zero f g w h = refl
   fill-eq (suc n) f g w h = rw (fill-eq n f g w (λ i l. h i (le-step l)), h n (le-refl (suc n)))
-
-  -- Nothing of the old list but its length is left where all of it is filled.
-  pub fill-all : (n : ℕ) (f : ℕ → A) (v w : List A) → length v ≡ length w → length w ≤ n → fill n f v ≡ fill n f w
-  fill-all n f v w a b =
-      ext-getD (f 0) (fill n f v) (fill n f w) (fill-length n f v ∙ a ∙ sym (fill-length n f w))
-      (λ i l. let h : i < length w = omega (arith, fill-length n f v) in fill-passed n f v i (f 0) (omega arith) (omega arith) ∙ sym (fill-passed n f w i (f 0) (omega arith) h))
-
-  -- Turns past the end of the list change nothing.
-  pub fill-over : (n m : ℕ) (f : ℕ → A) (w : List A) → length w ≤ n → n ≤ m → fill m f w ≡ fill n f w
-  unfolding fill
-  fill-over n m f w h = le-ind (λ (k : ℕ). fill k f w ≡ fill n f w) refl (λ k l e. set-out (fill k f w) k (f k) (omega (arith, fill-length k f w)) ∙ e) m
 
   -- A list filled with its own entries is as it was.
   pub fill-same : (n : ℕ) (w : List A) (d : A) → fill n (λ i. getD w i d) w ≡ w

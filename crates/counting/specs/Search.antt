@@ -17,10 +17,6 @@ NoneFrom p n i = (k : ℕ) → n ≤ k → k < i → T (p k) → ⊥
 pub none-up : (p : ℕ → Bool) (n i : ℕ) → NoneFrom p n i → (T (p i) → ⊥) → NoneFrom p n (i + 1)
 none-up p n i all here k a b t = elim (ℕ-discrete k i) [ yes e ↦ here (rw e at t) | no e ↦ all k a (omega arith) t ]
 
--- A turn of a loop that looks downward: i - 1 does not pass either.
-pub none-down : (p : ℕ → Bool) (i n : ℕ) → NoneFrom p i n → (T (p (i - 1)) → ⊥) → NoneFrom p (i - 1) n
-none-down p i n all here k a b t = elim (ℕ-discrete k (i - 1)) [ yes e ↦ here (rw e at t) | no e ↦ all k (omega arith) b t ]
-
 -- What the outcome k of a search among the m numbers from n on has to be.
 record IsFirst (p : ℕ → Bool) (n m k : ℕ) : Type 0 where
   from : n ≤ k
@@ -89,10 +85,6 @@ first-eq p q n m e = go (is-first q n m)
 -- What a search has found, a longer one finds.
 pub first-longer : (p : ℕ → Bool) (n m l : ℕ) → m ≤ l → first p n m < n + m → first p n l ≡ first p n m
 first-longer p n m l a b = first-is p n l (first p n m) (first-from p n m) (omega arith) (first-passes p n m b) (first-before p n m)
-
--- A search that has found none finds none where it goes on over numbers that do not pass.
-pub first-past : (p : ℕ → Bool) (n m l : ℕ) → NoneFrom p (n + m) (n + l) → first p n m ≡ n + m → first p n l ≡ n + l
-first-past p n m l none e = first-none p n l (λ k a b t. elim (decLt k (n + m)) [ yes x ↦ first-before p n m k a (omega arith) t | no x ↦ none k (omega arith) b t ])
 
 -- A search that begins one later is the same search with the numbers one lower.
 pub first-shift : (p : ℕ → Bool) (n m : ℕ) → first p (suc n) m ≡ suc (first (λ k. p (suc k)) n m)

@@ -1,15 +1,12 @@
 // The exact test: a walk slot by slot, and at the first late deadline a search for the largest start.
 ghost use mathlib.Core.Path.{_≡_};
 ghost use Prim.Native.Nat.{_-_, _≤_, _<_, max, min};
-ghost use Rattle.model.specs.Limits.{taskLimit};
-ghost use Rattle.model.specs.Dispatcher.{startOf};
-ghost use Rattle.model.specs.Verdict.{brief as briefly};
-ghost use Rattle.exact.specs.Walked.{notedOf, emptied, emptyOf, concluded};
 ghost use Rattle.model.specs.declared.Judgement.{Judgement};
-ghost use Rattle.model.specs.Tasks.{judged, horizon};
+ghost use Rattle.model.specs.Tasks.{judged};
 ghost use Rattle.model.specs.Demand.{jobsIn, demand};
-ghost use Rattle.model.specs.Verdict.{Permitted};
+ghost use Rattle.model.specs.Verdict.{brief as briefly, Permitted};
 ghost use Rattle.wellformed.specs.Ranges.{InRange, Ranged};
+ghost use Rattle.exact.specs.Walked.{notedOf, emptied, emptyOf, concluded};
 use model::Answer;
 use model::Empty;
 use model::Judgement;
@@ -61,19 +58,6 @@ fn demand(t: Table, from: u64, to: u64) -> u64
         asked = asked + to_u64(task.cost) * jobs_in(task, from, to);
     }
     asked
-}
-
-// The first releases.
-fn offsets(t: Table) -> Numbers
-    requires { ⌜ t .count ≤ taskLimit ⌝ }
-    ensures { λ r. ⌜ r ≡ startOf t .wait ⌝ }
-{
-    let n = t.count;
-    let mut wait = [0u32; TASK_LIMIT];
-    for i in 0..n {
-        wait[i] = t.tasks[i].offset;
-    }
-    wait
 }
 
 fn larger(x: u32, y: u32) -> u32
@@ -170,7 +154,7 @@ fn walk(t: Table, m: Measure, budget: u64) -> Answer
     let cost = columns.cost;
     let slack = columns.slack;
     let rank = columns.rank;
-    let mut wait = offsets(t);
+    let mut wait = slots::offsets(t);
     let mut left = [0u32; TASK_LIMIT];
     let mut worst = [0u32; TASK_LIMIT];
     let mut empty = m.horizon;

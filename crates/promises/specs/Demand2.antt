@@ -3,7 +3,7 @@
 -- Of any well-formed table, that is, one that is judged so.
 use mathlib.Core.Path.{_≡_, refl, sym, ap, subst, _∙_}
 use native.Mathlib.Omega.{arith}
-use mathlib.Core.Logic.{_↔_, _≢_}
+use mathlib.Core.Logic.{_↔_, _⊎_, _≢_}
 use mathlib.Core.List.{List}
 use Prim.Native.Nat.{ℕ, _≤_, _<_}
 use lib.Dec.{T}
@@ -15,13 +15,16 @@ use Rattle.model.specs.declared.Outcome.{Outcome}
 use Rattle.model.specs.declared.Answer.{Answer}
 use Rattle.model.specs.Notation.{Least}
 use Rattle.model.specs.Values.{verdictSaid}
-use Rattle.model.specs.Tasks.{round, load, horizon, judged}
+use Rattle.model.specs.Tasks.{task, release, due, round, load, horizon, judged}
 use Rattle.model.specs.Demand.{demand, asksTooMuch, lateAt}
-use Rattle.model.specs.Schedule.{Schedule, Good}
+use Rattle.model.specs.Schedule.{none, job, Schedule, given, Good}
+use Rattle.model.specs.Run.{tieOrder, run}
 use Rattle.model.specs.Verdict.{needed, lateStart, verdict, settledBy, Worsts, Answers, Judged, Permitted}
 use Rattle.wellformed.specs.WellFormed.{well-formed}
 use Rattle.backlog.specs.Decided.{Feasible}
 use Rattle.backlog.specs.Verdicts.{Case, overload, undecided, late, passed, the-case, none-before, start-asks, start-largest, undecided-iff, longer}
+use Rattle.backlog.specs.RunSchedule.{run-rule}
+use Rattle.backlog.specs.TableSystem.{tie-ranks, systemOf}
 use Rattle.backlog.specs.Answers.{passes-iff, overload-infeasible, late-infeasible}
 
 module _ (t : Table) (m : Measure) (well : judged t ≡ Judgement.WellFormed m) where
@@ -85,3 +88,14 @@ judged-passed t budget a (Judgement.WellFormed m) h o = answered t budget m a (v
 pub passed-exactly : (t : Table) (budget : ℕ) (a : Answer) → Permitted t budget a → a .outcome ≡ Outcome.Tested Verdict.Passes → (verdict t budget ≡ Verdict.Passes) × Worsts t (a .worst)
 unfolding Permitted
 passed-exactly t budget a = judged-passed t budget a (judged t)
+
+-- The run that the responses are taken from is document 01's: each slot goes to the released, unfinished job with the earliest
+-- deadline, ties to the lower task number, and to none only if no such job is there.
+abbrev Waits : Table → ℕ → ℕ → ℕ → Type 0
+Waits t u i j = (i < t .count) × (release (task t i) j ≤ u) × (given (run t (tieOrder t)) i j 0 u < task t i .cost)
+
+pub run-is-the-rule : (t : Table) (m : Measure) → judged t ≡ Judgement.WellFormed m → (u : ℕ) →
+    ((run t (tieOrder t) u ≡ none) × ((i j : ℕ) → Waits t u i j → ⊥))
+    ⊎ ((i : ℕ) × (j : ℕ) × (run t (tieOrder t) u ≡ job i j) × Waits t u i j
+    × ((k n : ℕ) → Waits t u k n → (due (task t i) j < due (task t k) n) ⊎ ((due (task t i) j ≡ due (task t k) n) × (i ≤ k))))
+run-is-the-rule t m well = run-rule (systemOf t (well-formed t m well .ranged) (tieOrder t) (tie-ranks t))

@@ -88,7 +88,3 @@ well-formed t m e =
       offset-le = offset-bound t;
       horizon-le = horizon-bound t r h;
     }
-
--- And what is so is judged so.
-pub judged-so : (t : Table) (m : Measure) → WellFormed t m → judged t ≡ Judgement.WellFormed m
-judged-so t m w = rw (judged-of t (w .ranged) (w .round-le), ← w .round-is, ← w .load-is, ← w .horizon-is)
