@@ -56,7 +56,7 @@ table-k = tableOf (of 0 1 1 4 ∷ of 1 1 1 4 ∷ of 1 1 1 4 ∷ [])
 
 -- ---- tables
 
--- The numbers 1 to 6 with their places: no task, seventeen tasks, then T, D, C and O of task 1, each alone and before a later fault.
+-- The numbers 1 to 6 with their places: no task, rowsOfOne tasks, then T, D, C and O of task 1, each alone and before a later fault.
 faulty : Task → Judgement
 faulty k = judged (tableOf (of 0 1 1 1 ∷ k ∷ []))
 
@@ -167,9 +167,9 @@ rowOf k = 2 ∷ word (k .offset) ++ word (k .cost) ++ word (k .deadline) ++ word
 abbrev file-b : List ℕ
 file-b = budgetOf 1000 ++ rowOf (of 8 5 7 15) ++ rowOf (of 0 2 2 5) ++ (3 ∷ [])
 
-seventeen : ℕ → List ℕ
-seventeen zero = []
-seventeen (suc n) = rowOf (of 0 1 1 1) ++ seventeen n
+rowsOfOne : ℕ → List ℕ
+rowsOfOne zero = []
+rowsOfOne (suc n) = rowOf (of 0 1 1 1) ++ rowsOfOne n
 
 files : (loadedFrom file-b ≡ record { admission = Admission.Admitted; budget = 1000; table = table-b }) × (longestFile ≡ 282)
 unfolding loadedFrom formOf readFrom recordAt judged firstFaulty taskFault first round product load horizon largest sum count
@@ -188,14 +188,14 @@ file-refusals :
     ∷ (9 ∷ []) ∷ (2 ∷ []) ∷ (3 ∷ []) ∷ (1 ∷ 0 ∷ [])
     ∷ budgetOf 0 ∷ (budgetOf 0 ++ (0 ∷ [])) ∷ (budgetOf 0 ++ (1 ∷ [])) ∷ (budgetOf 0 ++ (2 ∷ 0 ∷ []))
     ∷ (budgetOf 0 ++ (3 ∷ 9 ∷ [])) ∷ (budgetOf 0 ++ rowOf (of 0 0 0 0) ++ (3 ∷ 3 ∷ [])) ∷ (budgetOf 0 ++ rowOf (of 0 0 0 0) ++ (3 ∷ []))
-    ∷ (budgetOf 0 ++ (3 ∷ [])) ∷ (budgetOf 0 ++ seventeen 16 ++ (2 ∷ [])) ∷ (budgetOf 0 ++ seventeen 16) ∷ []
+    ∷ (budgetOf 0 ++ (3 ∷ [])) ∷ (budgetOf 0 ++ rowsOfOne 16 ++ (2 ∷ [])) ∷ (budgetOf 0 ++ rowsOfOne 16) ∷ []
     )
     ≡ at 22 0
     ∷ at 21 0 ∷ at 22 0 ∷ at 22 0 ∷ at 20 0
     ∷ at 26 9 ∷ at 21 9 ∷ at 23 9 ∷ at 20 9
     ∷ at 24 10 ∷ at 24 27 ∷ at 3 0
     ∷ at 1 0 ∷ at 25 281 ∷ at 26 281 ∷ []
-unfolding loadedFrom formOf readFrom recordAt judged firstFaulty taskFault first seventeen
+unfolding loadedFrom formOf readFrom recordAt judged firstFaulty taskFault first rowsOfOne
 file-refusals = refl
 
 -- ---- the dispatcher
@@ -213,7 +213,7 @@ dispatched :
 unfolding steps startOf after turn ownerNow choose fill bits sum count first
 dispatched = (refl, refl, refl)
 
--- Two jobs closed at once; none closed is the lowest number 16. The waits start as the offsets.
+-- Two jobs closed at once; where none is closed the lowest number is 16.
 abbrev both-late : State
 both-late = record { wait = 1 ∷ 1 ∷ replicate 14 0; left = 1 ∷ 1 ∷ replicate 14 0; last = 16 }
 
@@ -221,6 +221,7 @@ closings : (turn table-f both-late false ≡ record { owner = 16; late = 3; clos
 unfolding turn startOf ownerNow choose fill bits sum count first
 closings = (refl, refl)
 
+-- A start on a table: the waits are the offsets; a refused start; a step taken.
 starts :
     (started table-b ≡ record { admission = Admission.Admitted; state = record { wait = 8 ∷ replicate 15 0; left = replicate 16 0; last = 16 } })
     × (started (tableOf []) ≡ record { admission = at 1 0; state = record { wait = replicate 16 0; left = replicate 16 0; last = 0 } })

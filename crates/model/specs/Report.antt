@@ -15,7 +15,7 @@ use Rattle.model.specs.Verdict.{Permitted}
 abbrev pub line : List ℕ → List ℕ
 line words = words ++ text "\n"
 
--- The line of the verdict.
+-- The word of the verdict.
 abbrev pub verdictWord : Verdict → List ℕ
 verdictWord Verdict.Passes = text "passes"
 verdictWord Verdict.Overload = text "overload"

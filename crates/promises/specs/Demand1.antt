@@ -1,7 +1,7 @@
 -- DEMAND 1: each bad input is refused by number and place and changes nothing, and every call has one permitted result.
 -- That no call traps or runs on is what being proved means, and is not said again. Each contract is an equation with, or a
 -- permission by, the model's own word, for every input; so the theorems here speak of these words.
-use mathlib.Core.Path.{_≡_, refl, sym, _∙_}
+use mathlib.Core.Path.{_≡_, refl, sym, subst, _∙_}
 use mathlib.Core.List.{List}
 use mathlib.Core.Bool.{Bool, true, false, cond}
 use Prim.Native.Nat.{ℕ, _≤_, _<_}
@@ -20,14 +20,28 @@ use Rattle.model.specs.Limits.{reportBytes}
 use Rattle.model.specs.Tasks.{judged}
 use Rattle.model.specs.Verdict.{brief, Permitted}
 use Rattle.model.specs.TableFile.{loadedFrom}
-use Rattle.model.specs.Dispatcher.{State, Stepped, firstStrange, lastStrange, stepJudged, stepped}
-use Rattle.model.specs.Report.{Exported, exportOf, CheckedFile, CheckedBuffer, Checked}
+use Rattle.model.specs.Dispatcher as model
+use Rattle.model.specs.Dispatcher.{State, firstStrange, lastStrange, stepJudged, started, stepped}
+use Rattle.dispatch.specs.declared.Dispatcher.{Dispatcher}
+use Rattle.dispatch.specs.declared.Started.{Started}
+use Rattle.dispatch.specs.declared.Stepped.{Stepped}
+use Rattle.dispatch.specs.State.{stateOf, startedOf, steppedOf, one-started, one-stepped}
+use Rattle.model.specs.Report.{Exported, refused, CheckedFile, CheckedBuffer, Checked, PrintedFile, Printed}
 use Rattle.backlog.specs.Answers.{permitted-unique}
 use Rattle.backlog.specs.Computed.{answerOf, computed}
 
--- A call whose contract is an equation has one permitted result: judging a table, loading a file, starting, stepping.
-pub one-value : {A : Type 0} (value a b : A) → a ≡ value → b ≡ value → a ≡ b
-one-value value a b e f = e ∙ sym f
+-- Judging a table, loading a file, starting and stepping have one permitted result each, for every input.
+pub one-judgement : (t : Table) (a b : Judgement) → a ≡ judged t → b ≡ judged t → a ≡ b
+one-judgement t a b e f = e ∙ sym f
+
+pub one-loading : (file : List ℕ) (a b : Loaded) → a ≡ loadedFrom file → b ≡ loadedFrom file → a ≡ b
+one-loading file a b e f = e ∙ sym f
+
+pub one-start : (t : Table) (a b : Started) → startedOf a ≡ started t → startedOf b ≡ started t → a ≡ b
+one-start t a b e f = one-started a b (e ∙ sym f)
+
+pub one-step : (t : Table) (d : Dispatcher) (done : Bool) (a b : Stepped) → steppedOf a ≡ stepped t (stateOf d) done → steppedOf b ≡ stepped t (stateOf d) done → a ≡ b
+one-step t d done a b e f = one-stepped a b (e ∙ sym f)
 
 -- The exact test has one permitted answer to every table and budget.
 pub one-answer : (t : Table) (budget : ℕ) (a b : Answer) → Permitted t budget a → Permitted t budget b → a ≡ b
@@ -48,6 +62,22 @@ buffer-once file buffer e f false x y = file-once buffer (loadedFrom file) e f (
 pub one-export : (file buffer : List ℕ) (e f : Exported) → Checked file buffer e → Checked file buffer f → e ≡ f
 one-export file buffer e f = buffer-once file buffer e f (ltb (length buffer) reportBytes)
 
+-- So has the program: one permitted output for every input.
+printed-once : (l : Loaded) (out out′ : List ℕ) (a : Admission) → PrintedFile l out a → PrintedFile l out′ a → out ≡ out′
+printed-once l out out′ (Admission.Refused r) x y = x ∙ sym y
+printed-once l out out′ Admission.Admitted (a, p, x) (b, q, y) = let s : a ≡ b = permitted-unique (l .table) (l .budget) a b p q in x ∙ rw s (sym y)
+
+pub one-print : (input out out′ : List ℕ) → Printed input out → Printed input out′ → out ≡ out′
+one-print input out out′ = printed-once (loadedFrom input) out out′ (loadedFrom input .admission)
+
+-- A refused file leaves the report buffer as it was.
+file-refused : (buffer : List ℕ) (l : Loaded) (e : Exported) (r : Refusal) (a : Admission) → a ≡ Admission.Refused r → CheckedFile buffer l e a → e ≡ refused r buffer
+file-refused buffer l e r (Admission.Refused w) q x = let s : w ≡ r = cc in x ∙ rw s
+file-refused buffer l e r Admission.Admitted q x = let z : _≡_ {A = ℕ} 0 1 = cc in absurd (omega arith)
+
+pub refused-export : (file buffer : List ℕ) (e : Exported) (r : Refusal) → ltb (length buffer) reportBytes ≡ false → loadedFrom file .admission ≡ Admission.Refused r → Checked file buffer e → e ≡ refused r buffer
+refused-export file buffer e r long q x = file-refused buffer (loadedFrom file) e r (loadedFrom file .admission) q (subst (CheckedBuffer file buffer e) long x)
+
 -- A table that is refused is refused by the test with the same number and place, and nothing else is told.
 pub refused-answer : (t : Table) (budget : ℕ) (r : Refusal) → judged t ≡ Judgement.Refused r → Permitted t budget (brief (Outcome.Refused r) (record { round = 0; load = 0; horizon = 0 }) 0)
 unfolding Permitted
@@ -58,7 +88,7 @@ pub refused-step : (t : Table) (d : State) (done : Bool) (r : Refusal) → stepp
 unfolding stepped
 refused-step t d done r = go (judged t)
   where
-    tests : (a b : Bool) (x y : Stepped) (z : Stepped) → x .state ≡ d → y .state ≡ d → (z .given ≡ Given.Refused r → ⊥) → cond a x (cond b y z) .given ≡ Given.Refused r → cond a x (cond b y z) .state ≡ d
+    tests : (a b : Bool) (x y z : model.Stepped) → x .state ≡ d → y .state ≡ d → (z .given ≡ Given.Refused r → ⊥) → cond a x (cond b y z) .given ≡ Given.Refused r → cond a x (cond b y z) .state ≡ d
     tests true b x y z p q n e = p
     tests false true x y z p q n e = q
     tests false false x y z p q n e = absurd (n e)

@@ -14,7 +14,7 @@ use Rattle.model.specs.declared.Verdict.{Verdict}
 use Rattle.model.specs.declared.Outcome.{Outcome}
 use Rattle.model.specs.declared.Answer.{Answer}
 use Rattle.model.specs.Notation.{Least}
-use Rattle.model.specs.Values.{verdictSaid}
+use Rattle.model.specs.Values.{verdictSaid, outcomeSaid}
 use Rattle.model.specs.Tasks.{task, release, due, round, load, horizon, judged}
 use Rattle.model.specs.Demand.{demand, asksTooMuch, lateAt}
 use Rattle.model.specs.Schedule.{none, job, Schedule, given, Good}
@@ -22,7 +22,7 @@ use Rattle.model.specs.Run.{tieOrder, run}
 use Rattle.model.specs.Verdict.{needed, lateStart, verdict, settledBy, Worsts, Answers, Judged, Permitted}
 use Rattle.wellformed.specs.WellFormed.{well-formed}
 use Rattle.backlog.specs.Decided.{Feasible}
-use Rattle.backlog.specs.Verdicts.{Case, overload, undecided, late, passed, the-case, none-before, start-asks, start-largest, undecided-iff, longer}
+use Rattle.backlog.specs.Verdicts.{Case, overload, undecided, late, passed, the-case, none-before, start-asks, start-largest, is-overload, undecided-iff, longer}
 use Rattle.backlog.specs.RunSchedule.{run-rule}
 use Rattle.backlog.specs.TableSystem.{tie-ranks, systemOf}
 use Rattle.backlog.specs.Answers.{passes-iff, overload-infeasible, late-infeasible}
@@ -38,6 +38,16 @@ module _ (t : Table) (m : Measure) (well : judged t ≡ Judgement.WellFormed m) 
 
   pub late-rightly : (budget from to asked : ℕ) → verdict t budget ≡ Verdict.Late from to asked → (σ : Schedule) → Good t σ → ⊥
   late-rightly budget from to asked e σ g = late-infeasible t (well-formed t m well .ranged) budget from to asked e (σ, g)
+
+-- Overload is said exactly if the load is above 1, whatever the budget.
+overload-case : (t : Table) (budget : ℕ) (v : Verdict) (n : ℕ) → Case t budget v n → v ≡ Verdict.Overload → round t < load t
+overload-case t budget v n (overload g) e = g
+overload-case t budget v n (undecided g b) e = let z : _≡_ {A = ℕ} 0 1 = cc in absurd (omega arith)
+overload-case t budget v n (late g b l) e = let z : _≡_ {A = ℕ} 0 1 = cc in absurd (omega arith)
+overload-case t budget v n (passed g b l) e = let z : _≡_ {A = ℕ} 0 1 = cc in absurd (omega arith)
+
+pub overload-exactly : (t : Table) (budget : ℕ) → (verdict t budget ≡ Verdict.Overload) ↔ (round t < load t)
+overload-exactly t budget = (overload-case t budget (verdict t budget) (settledBy t budget) (the-case t budget), λ h. is-overload t budget h .0)
 
 -- Of any table: undecided exactly below the needed count, where there is no overload.
 pub undecided-exactly : (t : Table) (budget : ℕ) → (verdict t budget ≡ Verdict.Undecided) ↔ ((load t ≤ round t) × (budget < needed t))
@@ -73,6 +83,25 @@ late-case t budget v n from to asked (late g b l) e =
 
 pub late-exactly : (t : Table) (budget from to asked : ℕ) → verdict t budget ≡ Verdict.Late from to asked → LateRight t from to asked × (settledBy t budget ≡ to)
 late-exactly t budget from to asked = late-case t budget (verdict t budget) (settledBy t budget) from to asked (the-case t budget)
+
+-- The answer says the verdict, the settled count and the measures, in document 01's numbers too.
+pub record Says (t : Table) (budget : ℕ) (m : Measure) (a : Answer) : Type 0 where
+  pub outcome : a .outcome ≡ Outcome.Tested (verdict t budget)
+  pub said : outcomeSaid (a .outcome) ≡ verdictSaid (verdict t budget)
+  pub settled : a .settled ≡ settledBy t budget
+  pub measures : a .measure ≡ m
+
+says : (t : Table) (budget : ℕ) (m : Measure) (a : Answer) (v : Verdict) → Answers t budget m a v → (a .outcome ≡ Outcome.Tested v) × (a .settled ≡ settledBy t budget) × (a .measure ≡ m)
+says t budget m a Verdict.Passes (w, p, e) = (ap (λ (x : Answer). x .outcome) e, ap (λ (x : Answer). x .settled) e, ap (λ (x : Answer). x .measure) e)
+says t budget m a Verdict.Overload e = (ap (λ (x : Answer). x .outcome) e, ap (λ (x : Answer). x .settled) e, ap (λ (x : Answer). x .measure) e)
+says t budget m a (Verdict.Late f k d) e = (ap (λ (x : Answer). x .outcome) e, ap (λ (x : Answer). x .settled) e, ap (λ (x : Answer). x .measure) e)
+says t budget m a Verdict.Undecided e = (ap (λ (x : Answer). x .outcome) e, ap (λ (x : Answer). x .settled) e, ap (λ (x : Answer). x .measure) e)
+
+pub answer-exactly : (t : Table) (m : Measure) → judged t ≡ Judgement.WellFormed m → (budget : ℕ) (a : Answer) → Permitted t budget a → Says t budget m a
+unfolding Permitted
+answer-exactly t m well budget a h =
+    let (o, s, k) = says t budget m a (verdict t budget) (rw well at h) in
+    record { outcome = o; said = ap outcomeSaid o; settled = s; measures = k }
 
 -- The worst responses of a passing answer are exact, for all jobs for ever.
 answered : (t : Table) (budget : ℕ) (m : Measure) (a : Answer) (v : Verdict) → Answers t budget m a v → a .outcome ≡ Outcome.Tested Verdict.Passes → (v ≡ Verdict.Passes) × Worsts t (a .worst)
