@@ -4,6 +4,7 @@ use model::Measure;
 use model::Refusal;
 use model::Table;
 use model::Task;
+use slots::Numbers;
 use table::TASK_LIMIT;
 
 pub fn words(s: &[u8]) {
@@ -62,4 +63,15 @@ pub fn tasks(t: Table) {
             task(t.tasks[i]);
         }
     }
+}
+
+// Of a number for each task the first three and the last: what follows a table of two tasks is seen.
+pub fn numbers(x: Numbers) {
+    small(x[0]);
+    words(b" ");
+    small(x[1]);
+    words(b" ");
+    small(x[2]);
+    words(b" .. ");
+    small(x[15]);
 }
