@@ -1,0 +1,54 @@
+-- Each return rewrites with what the file turned out to be.
+use borrow.Author.Needs.{needs}
+use Rattle.yolizadwa.specs.Admitted.{few-tasks}
+use Rattle.yolizadwa.proofs.check_file.Statement.{statement}
+use Rattle.yolizadwa.proofs.check_file.Tie as tie
+
+load-requires : tie.Need-load-requires
+load-requires c κs = search needs
+
+enum-known-admission : tie.Need-enum-known-admission
+enum-known-admission c = search needs
+
+refused-requires : tie.Need-refused-requires
+refused-requires c κs = search needs
+
+enum-told : tie.Need-enum-told
+enum-told c = search needs
+
+test-requires : tie.Need-test-requires
+test-requires c κs = search needs
+
+export-answer-requires : tie.Need-export-answer-requires
+export-answer-requires c κs =
+    let told = c .before .before .before in
+    (few-tasks _ (told .before .before .load .ensures) (told .enum-told .given .1), search needs)
+
+returns : tie.Need-returns
+returns c =
+    let known = c .before .before in
+    rw (← known .before .before .load .ensures, known .admission .given .1, c .refused .ensures)
+
+same-length : tie.Need-same-length
+same-length c = search needs
+
+returns-2 : tie.Need-returns-2
+returns-2 c =
+    let e = c .before .before in
+    let t = e .before .before in
+    let told = t .before .before in
+    rw (← told .before .before .load .ensures, told .enum-told .given .1) (_, t .test .ensures, e .export-answer .ensures)
+
+pub check-file-spec : {M : Type 1} → statement M
+check-file-spec =
+    tie.close
+    (tie.spec
+    load-requires
+    enum-known-admission
+    refused-requires
+    enum-told
+    test-requires
+    export-answer-requires
+    returns
+    same-length
+    returns-2)
