@@ -1,0 +1,56 @@
+// The judge: reads a table file from standard input, and prints the report on it or the line that names its refusal.
+ghost use mathlib.Core.Path.{_≡_};
+ghost use Prim.Native.Nat.{_≤_};
+ghost use lib.ListN.{length, take};
+ghost use Rattle.io.specs.Counts.{Counts};
+ghost use Rattle.model.specs.Limits.{taskLimit, reportBytes};
+ghost use Rattle.model.specs.Report.{written, printOf, Printed};
+ghost use Rattle.report.specs.Put.{exported};
+use libc::STDIN_FILENO;
+use libc::STDOUT_FILENO;
+use model::Admission;
+use model::Answer;
+use model::Outcome;
+
+// One byte more than the longest legal file has.
+const INPUT_BYTES: usize = 283;
+
+const REPORT_BYTES: usize = 512;
+
+fn write_outcome(buffer: &mut [u8], tasks: usize, answer: Answer, outcome: Outcome) -> usize
+    requires { ⌜ tasks ≤ taskLimit ⌝ }
+    requires { ⌜ reportBytes ≤ length (now buffer) ⌝ }
+    ensures { λ r. ⌜ exported r (now (buffer .exit)) ≡ written (printOf tasks answer outcome) (now (buffer .entry)) ⌝ }
+    ensures { λ r. ⌜ r ≤ reportBytes ⌝ }
+{
+    match outcome {
+        Outcome::Refused(why) => report::write_refusal(buffer, why),
+        Outcome::Tested(verdict) => report::write_report(buffer, tasks, answer, verdict),
+    }
+}
+
+fn judge(input: &[u8], output: &mut [u8]) -> usize
+    requires { ⌜ reportBytes ≤ length (now output) ⌝ }
+    ensures { λ r. ⌜ Printed (now (input .entry)) (take r (now (output .exit))) ⌝ }
+    ensures { λ r. ⌜ Counts r (now (output .exit)) ⌝ }
+{
+    let loaded = tablefile::load(input);
+    let admission = loaded.admission;
+    match admission {
+        Admission::Refused(why) => report::write_refusal(output, why),
+        Admission::Admitted => {
+            let table = loaded.table;
+            let answer = exact::test(table, loaded.budget);
+            let outcome = answer.outcome;
+            write_outcome(output, table.count, answer, outcome)
+        }
+    }
+}
+
+fn main() {
+    let mut input = [0u8; INPUT_BYTES];
+    let mut output = [0u8; REPORT_BYTES];
+    let read = io::read_full(STDIN_FILENO, &mut input);
+    let printed = judge(&input[..read], &mut output);
+    io::write_all(STDOUT_FILENO, &output[..printed]);
+}
