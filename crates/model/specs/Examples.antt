@@ -56,7 +56,7 @@ table-k = tableOf (of 0 1 1 4 ∷ of 1 1 1 4 ∷ of 1 1 1 4 ∷ [])
 
 -- ---- tables
 
--- The numbers 1 to 6 with their places: no task, rowsOfOne tasks, then T, D, C and O of task 1, each alone and before a later fault.
+-- The numbers 1 to 6 with their places: no task, seventeen tasks, then T, D, C and O of task 1, each alone and before a later fault.
 faulty : Task → Judgement
 faulty k = judged (tableOf (of 0 1 1 1 ∷ k ∷ []))
 

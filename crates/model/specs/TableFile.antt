@@ -59,7 +59,7 @@ unfoldable pub readFrom : List ℕ → ℕ → List Task → ℕ → ℕ → Loa
 readFrom s b ks zero at = readRecord s b ks at (λ k. refuse 25 at) (recordAt s at)
 readFrom s b ks (suc room) at = readRecord s b ks at (λ k. whole s at taskBytes (readFrom s b (ks ++ (k ∷ [])) room (at + taskBytes))) (recordAt s at)
 
--- The first record: a budget, or else refused by 22.
+-- The first record: a budget, whole; a known kind that is none, or no record, is 22.
 abbrev pub readFirst : List ℕ → Found → Loaded
 readFirst s nothing = refuse 22 0
 readFirst s unknown = refuse 21 0

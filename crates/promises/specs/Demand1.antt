@@ -4,7 +4,7 @@
 use mathlib.Core.Path.{_≡_, refl, sym, subst, _∙_}
 use mathlib.Core.List.{List}
 use mathlib.Core.Bool.{Bool, true, false, cond}
-use Prim.Native.Nat.{ℕ, _≤_, _<_}
+use Prim.Native.Nat.{ℕ}
 use native.Mathlib.Omega.{arith}
 use lib.Dec.{ltb}
 use lib.ListN.{length}
@@ -77,6 +77,15 @@ file-refused buffer l e r Admission.Admitted q x = let z : _≡_ {A = ℕ} 0 1 =
 
 pub refused-export : (file buffer : List ℕ) (e : Exported) (r : Refusal) → ltb (length buffer) reportBytes ≡ false → loadedFrom file .admission ≡ Admission.Refused r → Checked file buffer e → e ≡ refused r buffer
 refused-export file buffer e r long q x = file-refused buffer (loadedFrom file) e r (loadedFrom file .admission) q (subst (CheckedBuffer file buffer e) long x)
+
+-- A short buffer is refused by 30 at its length, before the file is looked at, and stays as it was.
+pub short-buffer : (file buffer : List ℕ) (e : Exported) → ltb (length buffer) reportBytes ≡ true → Checked file buffer e → e ≡ refused (record { number = 30; place = length buffer }) buffer
+short-buffer file buffer e short x = subst (CheckedBuffer file buffer e) short x
+
+-- A table that is refused starts no dispatcher.
+pub refused-start : (t : Table) (r : Refusal) → judged t ≡ Judgement.Refused r → started t .admission ≡ Admission.Refused r
+unfolding started
+refused-start t r e = rw e refl
 
 -- A table that is refused is refused by the test with the same number and place, and nothing else is told.
 pub refused-answer : (t : Table) (budget : ℕ) (r : Refusal) → judged t ≡ Judgement.Refused r → Permitted t budget (brief (Outcome.Refused r) (record { round = 0; load = 0; horizon = 0 }) 0)

@@ -1,10 +1,9 @@
 -- DEMAND 2: the test passes a table exactly when some schedule is good for all time; else overload, or the first late deadline
 -- with its shortest interval; with exact worst responses; a short budget gives undecided and a longer one alters no other verdict.
--- Of any well-formed table, that is, one that is judged so.
+-- What asks for a well-formed table says so: `judged t ≡ Judgement.WellFormed m`.
 use mathlib.Core.Path.{_≡_, refl, sym, ap, subst, _∙_}
 use native.Mathlib.Omega.{arith}
 use mathlib.Core.Logic.{_↔_, _⊎_, _≢_}
-use mathlib.Core.List.{List}
 use Prim.Native.Nat.{ℕ, _≤_, _<_}
 use lib.Dec.{T}
 use Rattle.model.specs.declared.Table.{Table}
@@ -19,13 +18,13 @@ use Rattle.model.specs.Tasks.{task, release, due, round, load, horizon, judged}
 use Rattle.model.specs.Demand.{demand, asksTooMuch, lateAt}
 use Rattle.model.specs.Schedule.{none, job, Schedule, given, Good}
 use Rattle.model.specs.Run.{tieOrder, run}
-use Rattle.model.specs.Verdict.{needed, lateStart, verdict, settledBy, Worsts, Answers, Judged, Permitted}
+use Rattle.model.specs.Verdict.{needed, lateStart, verdict, settledBy, emptyIn, Worsts, Answers, Judged, Permitted}
 use Rattle.wellformed.specs.WellFormed.{well-formed}
-use Rattle.backlog.specs.Decided.{Feasible}
-use Rattle.backlog.specs.Verdicts.{Case, overload, undecided, late, passed, the-case, none-before, start-asks, start-largest, is-overload, undecided-iff, longer}
+use Rattle.backlog.specs.Decided.{sufficient}
+use Rattle.backlog.specs.Verdicts.{Case, overload, undecided, late, passed, the-case, needed-le, needed-is, none-before, none-late, is-late, start-asks, start-largest, is-overload, undecided-iff, longer}
 use Rattle.backlog.specs.RunSchedule.{run-rule}
 use Rattle.backlog.specs.TableSystem.{tie-ranks, systemOf}
-use Rattle.backlog.specs.Answers.{passes-iff, overload-infeasible, late-infeasible}
+use Rattle.backlog.specs.Answers.{never-of-passed, passes-iff, overload-infeasible, late-infeasible}
 
 module _ (t : Table) (m : Measure) (well : judged t ≡ Judgement.WellFormed m) where
   -- With a budget that reaches the horizon it passes exactly if some schedule is good.
@@ -38,6 +37,16 @@ module _ (t : Table) (m : Measure) (well : judged t ≡ Judgement.WellFormed m) 
 
   pub late-rightly : (budget from to asked : ℕ) → verdict t budget ≡ Verdict.Late from to asked → (σ : Schedule) → Good t σ → ⊥
   late-rightly budget from to asked e σ g = late-infeasible t (well-formed t m well .ranged) budget from to asked e (σ, g)
+
+  -- The run of a passed table is itself a good schedule, so every job of it finishes, and by its deadline.
+  pub run-is-good : (budget : ℕ) → verdict t budget ≡ Verdict.Passes → Good t (run t (tieOrder t))
+  run-is-good budget e =
+      let r = well-formed t m well .ranged in
+      sufficient (systemOf t r (tieOrder t) (tie-ranks t)) (never-of-passed t r budget e .1)
+
+-- What follows from 0 being 1.
+apart : {A : Type 0} → _≡_ {A = ℕ} 0 1 → A
+apart e = absurd (omega arith)
 
 -- Overload is said exactly if the load is above 1, whatever the budget.
 overload-case : (t : Table) (budget : ℕ) (v : Verdict) (n : ℕ) → Case t budget v n → v ≡ Verdict.Overload → round t < load t
@@ -52,6 +61,20 @@ overload-exactly t budget = (overload-case t budget (verdict t budget) (settledB
 -- Of any table: undecided exactly below the needed count, where there is no overload.
 pub undecided-exactly : (t : Table) (budget : ℕ) → (verdict t budget ≡ Verdict.Undecided) ↔ ((load t ≤ round t) × (budget < needed t))
 undecided-exactly = undecided-iff
+
+-- The needed count is at most the horizon, so a budget that reaches the horizon is never undecided.
+pub needed-within : (t : Table) → needed t ≤ horizon t
+needed-within = needed-le
+
+-- Settled: nothing on overload, the budget where undecided, the horizon where it passes; `late-exactly` says it of a late one.
+settled-case : (t : Table) (budget : ℕ) (v : Verdict) (n : ℕ) → Case t budget v n → (v ≡ Verdict.Overload → n ≡ 0) × (v ≡ Verdict.Undecided → n ≡ budget) × (v ≡ Verdict.Passes → n ≡ horizon t)
+settled-case t budget v n (overload g) = (λ e. refl, λ e. apart (cc), λ e. apart (cc))
+settled-case t budget v n (undecided g b) = (λ e. apart (cc), λ e. refl, λ e. apart (cc))
+settled-case t budget v n (late g b l) = (λ e. apart (cc), λ e. apart (cc), λ e. apart (cc))
+settled-case t budget v n (passed g b l) = (λ e. apart (cc), λ e. apart (cc), λ e. none-late t l .0)
+
+pub settled-exactly : (t : Table) (budget : ℕ) → (verdict t budget ≡ Verdict.Overload → settledBy t budget ≡ 0) × (verdict t budget ≡ Verdict.Undecided → settledBy t budget ≡ budget) × (verdict t budget ≡ Verdict.Passes → settledBy t budget ≡ horizon t)
+settled-exactly t budget = settled-case t budget (verdict t budget) (settledBy t budget) (the-case t budget)
 
 -- A longer budget alters no other verdict, and no settled count.
 pub longer-alters-nothing : (t : Table) (budget more : ℕ) → budget ≤ more → verdict t budget ≢ Verdict.Undecided → (verdict t more ≡ verdict t budget) × (settledBy t more ≡ settledBy t budget)
@@ -84,6 +107,12 @@ late-case t budget v n from to asked (late g b l) e =
 pub late-exactly : (t : Table) (budget from to asked : ℕ) → verdict t budget ≡ Verdict.Late from to asked → LateRight t from to asked × (settledBy t budget ≡ to)
 late-exactly t budget from to asked = late-case t budget (verdict t budget) (settledBy t budget) from to asked (the-case t budget)
 
+-- And it is said wherever there is one within the horizon and the budget, and no overload.
+pub late-said : (t : Table) (budget to : ℕ) → load t ≤ round t → Least (λ u. T (lateAt t u)) to → to ≤ horizon t → to ≤ budget → verdict t budget ≡ Verdict.Late (lateStart t to) to (demand t (lateStart t to) to)
+late-said t budget to light (l, before) h b =
+    let e : needed t ≡ to = needed-is t to h before (λ x. l) in
+    is-late t budget light (omega arith) (rw e l) .0 ∙ rw e
+
 -- The answer says the verdict, the settled count and the measures, in document 01's numbers too.
 pub record Says (t : Table) (budget : ℕ) (m : Measure) (a : Answer) : Type 0 where
   pub outcome : a .outcome ≡ Outcome.Tested (verdict t budget)
@@ -103,18 +132,18 @@ answer-exactly t m well budget a h =
     let (o, s, k) = says t budget m a (verdict t budget) (rw well at h) in
     record { outcome = o; said = ap outcomeSaid o; settled = s; measures = k }
 
--- The worst responses of a passing answer are exact, for all jobs for ever.
-answered : (t : Table) (budget : ℕ) (m : Measure) (a : Answer) (v : Verdict) → Answers t budget m a v → a .outcome ≡ Outcome.Tested Verdict.Passes → (v ≡ Verdict.Passes) × Worsts t (a .worst)
-answered t budget m a Verdict.Passes (w, p, e) o = let q : a .worst ≡ w = ap (λ (x : Answer). x .worst) e in (refl, subst (Worsts t) (sym q) p)
+-- The worst responses of a passing answer are exact, for all jobs for ever, and its first empty slot is the run's.
+answered : (t : Table) (budget : ℕ) (m : Measure) (a : Answer) (v : Verdict) → Answers t budget m a v → a .outcome ≡ Outcome.Tested Verdict.Passes → (v ≡ Verdict.Passes) × Worsts t (a .worst) × (a .empty ≡ emptyIn t)
+answered t budget m a Verdict.Passes (w, p, e) o = let q : a .worst ≡ w = ap (λ (x : Answer). x .worst) e in (refl, subst (Worsts t) (sym q) p, ap (λ (x : Answer). x .empty) e)
 answered t budget m a Verdict.Overload e o = let z : _≡_ {A = ℕ} 0 1 = cc (ap (λ (x : Answer). x .outcome) e) in absurd (omega arith)
 answered t budget m a (Verdict.Late f k d) e o = let z : _≡_ {A = ℕ} 0 1 = cc (ap (λ (x : Answer). x .outcome) e) in absurd (omega arith)
 answered t budget m a Verdict.Undecided e o = let z : _≡_ {A = ℕ} 0 1 = cc (ap (λ (x : Answer). x .outcome) e) in absurd (omega arith)
 
-judged-passed : (t : Table) (budget : ℕ) (a : Answer) (j : Judgement) → Judged t budget a j → a .outcome ≡ Outcome.Tested Verdict.Passes → (verdict t budget ≡ Verdict.Passes) × Worsts t (a .worst)
+judged-passed : (t : Table) (budget : ℕ) (a : Answer) (j : Judgement) → Judged t budget a j → a .outcome ≡ Outcome.Tested Verdict.Passes → (verdict t budget ≡ Verdict.Passes) × Worsts t (a .worst) × (a .empty ≡ emptyIn t)
 judged-passed t budget a (Judgement.Refused r) e o = let z : _≡_ {A = ℕ} 0 1 = cc (ap (λ (x : Answer). x .outcome) e) in absurd (omega arith)
 judged-passed t budget a (Judgement.WellFormed m) h o = answered t budget m a (verdict t budget) h o
 
-pub passed-exactly : (t : Table) (budget : ℕ) (a : Answer) → Permitted t budget a → a .outcome ≡ Outcome.Tested Verdict.Passes → (verdict t budget ≡ Verdict.Passes) × Worsts t (a .worst)
+pub passed-exactly : (t : Table) (budget : ℕ) (a : Answer) → Permitted t budget a → a .outcome ≡ Outcome.Tested Verdict.Passes → (verdict t budget ≡ Verdict.Passes) × Worsts t (a .worst) × (a .empty ≡ emptyIn t)
 unfolding Permitted
 passed-exactly t budget a = judged-passed t budget a (judged t)
 

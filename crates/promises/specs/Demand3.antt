@@ -15,7 +15,7 @@ use Rattle.model.specs.declared.Answer.{Answer}
 use Rattle.model.specs.Limits.{taskLimit}
 use Rattle.model.specs.Tasks.{task, release, judged}
 use Rattle.model.specs.Verdict.{Permitted}
-use Rattle.model.specs.Dispatcher.{Started, Stepped, startOf, started, turn, stepped}
+use Rattle.model.specs.Dispatcher.{Started, Stepped, started, turn, stepped}
 use Rattle.model.specs.History.{stateAt, ownerAt, had, Finished}
 use Rattle.wellformed.specs.WellFormed.{well-formed}
 use Rattle.backlog.specs.Stepping as stepping
@@ -41,7 +41,7 @@ module _ (t : Table) (m : Measure) (well : judged t ≡ Judgement.WellFormed m) 
     -- every job is finished within its reported worst response: it had its whole cost, or was reported done;
     pub all-in-time : (i j : ℕ) → i < t .count → Finished t done i j (release (task t i) j + getD (a .worst) i 0)
     all-in-time i j l =
-        let (v, w) = passed-exactly t budget a answer pass in
+        let (v, w, e) = passed-exactly t budget a answer pass in
         history.in-time t (well-formed t m well .ranged) done budget v i (getD (a .worst) i 0) l (w .worst i l) j
 
     -- no job is closed late: every step says that none was;

@@ -1,1 +1,1 @@
-// What is promised. Each demand of document 01 is a theorem here, and its proof a citation.
+// What is promised, demand by demand. What takes more than a few lines to prove is proved in a law crate and cited.
