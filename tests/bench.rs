@@ -54,6 +54,9 @@ impl Bench {
     }
 
     fn flush(&mut self) {
+        if self.queue.is_empty() {
+            return;
+        }
         let (requests, permitted): (Vec<Request>, Vec<Permitted>) = self.queue.drain(..).unzip();
         let replies = self.answer(&requests);
         for ((request, permitted), reply) in requests.iter().zip(permitted).zip(replies) {

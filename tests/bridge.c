@@ -54,7 +54,8 @@ static void answer(const uint32_t *words, const uint8_t *file_bytes, const uint8
 {
     struct guarded file = guard(file_bytes, words[3]);
     struct guarded buffer = guard(buffer_bytes, words[4]);
-    uint64_t result = (words[1] ? stack_depth : plain_call)(words[0], file.bytes, file.len, buffer.bytes, buffer.len, words[2]);
+    call_maker *make = words[1] ? stack_depth : plain_call;
+    uint64_t result = make(words[0], file.bytes, file.len, buffer.bytes, buffer.len, words[2]);
     uint8_t intact = guards_hold(&file) && guards_hold(&buffer) && memcmp(file.bytes, file_bytes, file.len) == 0;
     fwrite(&result, 1, sizeof result, stdout);
     fwrite(&intact, 1, 1, stdout);

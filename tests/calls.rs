@@ -1,5 +1,7 @@
 //! The exported calls: linked on x86-64, through a bridge program under an emulator elsewhere.
 
+use crate::reference::{REPORT_BYTES, STATE_BYTES};
+
 #[derive(Clone, Copy, PartialEq, Eq, Debug)]
 pub enum Call {
     Check,
@@ -13,6 +15,20 @@ pub struct Request {
     pub file: Vec<u8>,
     pub buffer: Vec<u8>,
     pub done: u32,
+}
+
+impl Request {
+    pub fn check(file: Vec<u8>) -> Request {
+        Request { call: Call::Check, file, buffer: vec![0xE7; REPORT_BYTES + 8], done: 0 }
+    }
+
+    pub fn start(file: Vec<u8>) -> Request {
+        Request { call: Call::Start, file, buffer: vec![0xE7; STATE_BYTES], done: 0 }
+    }
+
+    pub fn step(file: Vec<u8>, state: Vec<u8>, done: u32) -> Request {
+        Request { call: Call::Step, file, buffer: state, done }
+    }
 }
 
 pub struct Reply {

@@ -100,11 +100,14 @@ fn asked(tasks: &[Task], round: u32) -> u32 {
 
 /// Tasks of cost 1 whose periods divide the round, for as long as they fit.
 fn seedlings(rng: &mut Rng, round: u32) -> Vec<Task> {
-    let (periods, count) = (divisors(round), pick_count(rng));
+    let count = pick_count(rng);
+    let mut periods = divisors(round);
+    periods.retain(|&period| period == round || period as usize >= count / 2);
     let mut tasks: Vec<Task> = Vec::new();
-    for _ in 0..count {
+    for _ in 0..3 * count {
         let period = rng.pick(&periods);
-        if tasks.is_empty() || asked(&tasks, round) + round / period <= round {
+        let fits = asked(&tasks, round) + round / period <= round;
+        if tasks.len() < count && (tasks.is_empty() || fits) {
             tasks.push(Task { offset: 0, cost: 1, deadline: period, period });
         }
     }
@@ -113,7 +116,7 @@ fn seedlings(rng: &mut Rng, round: u32) -> Vec<Task> {
 
 fn raise_costs(rng: &mut Rng, tasks: &mut [Task], round: u32) {
     let allowed = if rng.chance(5) { round + round / 4 + 1 } else { round };
-    for _ in 0..rng.below(60) {
+    for _ in 0..rng.pick(&[0, 1, 2, 4, 10, 60]) {
         let now = asked(tasks, round);
         let task = &mut tasks[rng.below(tasks.len() as u64) as usize];
         if task.cost < task.period && now + round / task.period <= allowed {
@@ -176,7 +179,7 @@ pub fn near_border(rng: &mut Rng) -> Vec<Task> {
     let round = pick_round(rng);
     let mut tasks = seedlings(rng, round);
     raise_costs(rng, &mut tasks, round);
-    if rng.chance(40) {
+    if rng.chance(25) {
         fill_up(&mut tasks, round);
     }
     shuffle(rng, &mut tasks);

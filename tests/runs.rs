@@ -1,8 +1,7 @@
 //! Whole runs: started, then stepped slot by slot over the states that come back.
 
 use crate::bench::Bench;
-use crate::calls::{Call, Reply, Request};
-use crate::groups::{check, start};
+use crate::calls::{Reply, Request};
 use crate::inputs::{file_of, near_border, Rng};
 use crate::reference::{self, Job, State, Task, NONE, TASKS};
 
@@ -142,7 +141,7 @@ fn promise_of(report: &Reply, tasks: usize) -> Option<Promise> {
 impl Camera {
     fn new(bench: &mut Bench, rng: &mut Rng, tasks: Vec<Task>) -> Camera {
         let file = file_of(u64::MAX, &tasks);
-        let replies = bench.answer(&[check(file.clone()), start(file.clone())]);
+        let replies = bench.answer(&[Request::check(file.clone()), Request::start(file.clone())]);
         let round = reference::round(&tasks).unwrap();
         Camera {
             promise: promise_of(&replies[0], tasks.len()),
@@ -158,7 +157,7 @@ impl Camera {
 
     fn request(&mut self, rng: &mut Rng) -> Request {
         self.done = rng.chance(self.done_percent) as u32;
-        Request { call: Call::Step, file: self.file.clone(), buffer: self.state.clone(), done: self.done }
+        Request::step(self.file.clone(), self.state.clone(), self.done)
     }
 
     fn take(&mut self, reply: Reply) -> Option<&'static str> {

@@ -1,4 +1,4 @@
-/* How deep a call writes into the stack. */
+/* One call of the library, plain or on a painted stack. */
 #ifndef STACK_H
 #define STACK_H
 
@@ -7,10 +7,13 @@
 
 enum call { CHECK, START, STEP };
 
-/* Makes one call and tells its result. */
-uint64_t plain_call(uint32_t call, const uint8_t *file, size_t file_len, uint8_t *buffer, size_t buffer_len, uint32_t done);
+typedef uint64_t call_maker(uint32_t call, const uint8_t *file, size_t file_len, uint8_t *buffer, size_t buffer_len,
+                            uint32_t done);
 
-/* Makes the same call twice on a painted stack of its own, and tells by how many bytes it went down. */
-uint64_t stack_depth(uint32_t call, const uint8_t *file, size_t file_len, uint8_t *buffer, size_t buffer_len, uint32_t done);
+/* Tells the call's result. */
+call_maker plain_call;
+
+/* Makes the call twice, on a painted stack of its own, and tells by how many bytes it wrote down into that. */
+call_maker stack_depth;
 
 #endif

@@ -2,8 +2,7 @@
 
 use crate::bench::Bench;
 use crate::calls::Request;
-use crate::groups::{check, start, step};
-use crate::inputs::{file_of, table_of};
+use crate::inputs::file_of;
 use crate::program;
 use crate::reference::{self, Task, TASKS};
 
@@ -24,36 +23,31 @@ fn deepest(bench: &mut Bench, name: &str, requests: &[Request]) {
     let depth = requests.iter().map(|request| bench.calls.depth(request)).max().unwrap();
     println!("stack of {name}: {depth} bytes");
     bench.count(depth <= STACK_LIMIT, || format!("{name} writes {depth} bytes deep, more than {STACK_LIMIT}"));
+    requests.iter().cloned().for_each(|request| bench.ask(request));
 }
 
-fn sixteen(task: Task) -> Vec<Task> {
-    vec![task; TASKS]
-}
-
-/// Sixteen tasks that pass, that are late after a long search, that are refused; and the refusals before them.
+/// Sixteen tasks of the longest numbers: they pass, are late after a search over all starts, or are refused at the end.
 fn hard_files() -> Vec<Vec<u8>> {
-    let passes = sixteen(Task { offset: 3, cost: 1, deadline: 16, period: 16 });
-    let mut late = sixteen(Task { offset: 60_000, cost: 1, deadline: 20, period: 20 });
-    late[15] = Task { offset: 0, cost: 5, deadline: 19, period: 20 };
-    let mut long = passes.clone();
-    long[14].period = 59_999;
-    long[15].period = 60_000;
-    let mut bad = passes.clone();
+    let passes = vec![Task { offset: 60_000, cost: 3_750, deadline: 60_000, period: 60_000 }; TASKS];
+    let (mut late, mut long, mut bad) = (passes.clone(), passes.clone(), passes.clone());
+    late.iter_mut().for_each(|task| (task.offset, task.deadline) = (0, 59_999));
+    long[15] = Task { offset: 0, cost: 1, deadline: 1, period: 59_999 };
     bad[15].offset = 60_001;
-    let whole = file_of(u64::MAX, &passes);
-    let cut = whole[..280].to_vec();
-    vec![whole, file_of(u64::MAX, &late), file_of(9, &long), file_of(9, &bad), file_of(9, &table_of(&[])), cut, vec![3; 300]]
+    let mut files: Vec<Vec<u8>> =
+        [passes, late, long, bad, Vec::new()].iter().map(|tasks| file_of(u64::MAX, tasks)).collect();
+    files.extend([files[0][..280].to_vec(), vec![3; 300]]);
+    files
 }
 
 pub fn stack(bench: &mut Bench) {
     let files = hard_files();
-    let checks: Vec<Request> = files.iter().cloned().map(check).collect();
-    let starts: Vec<Request> = files.iter().cloned().map(start).collect();
+    let checks: Vec<Request> = files.iter().cloned().map(Request::check).collect();
+    let starts: Vec<Request> = files.iter().cloned().map(Request::start).collect();
     let steps: Vec<Request> = files.iter().cloned().flat_map(hard_steps).collect();
     deepest(bench, "check", &checks);
     deepest(bench, "start", &starts);
     deepest(bench, "step", &steps);
-    bench.end_group("stack of each call");
+    bench.end_group("stack of each call, on the hardest inputs");
 }
 
 /// From the start, from a state with every job at its deadline, from one that is refused.
@@ -66,7 +60,7 @@ fn hard_steps(file: Vec<u8>) -> Vec<Request> {
         due.wait[number] = task.period - task.deadline.min(task.period);
     }
     strange.last = 99;
-    [first, due, strange].iter().map(|state| step(file.clone(), state, 1)).collect()
+    [first, due, strange].iter().map(|state| Request::step(file.clone(), state.to_bytes(), 1)).collect()
 }
 
 fn host_run(words: &[&str]) -> String {
