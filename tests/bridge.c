@@ -11,7 +11,8 @@
 
 #include "stack.h"
 
-enum { WORDS = 5, GUARD = 64, GUARD_BYTE = 0xC3 };
+/* An odd guard, so that file and buffer lie at no even address. */
+enum { WORDS = 5, GUARD = 61, GUARD_BYTE = 0xC3 };
 
 struct guarded {
     uint8_t *room;

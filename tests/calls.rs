@@ -51,7 +51,8 @@ mod way {
         fn stack_depth(call: u32, file: *const u8, file_len: usize, buffer: *mut u8, buffer_len: usize, done: u32) -> u64;
     }
 
-    const GUARD: usize = 64;
+    /// Odd, so that file and buffer lie at no even address.
+    const GUARD: usize = 61;
     const GUARD_BYTE: u8 = 0xC3;
 
     pub struct Calls;

@@ -26,15 +26,21 @@ fn deepest(bench: &mut Bench, name: &str, requests: &[Request]) {
     requests.iter().cloned().for_each(|request| bench.ask(request));
 }
 
-/// Sixteen tasks of the longest numbers: they pass, are late after a search over all starts, or are refused at the end.
-fn hard_files() -> Vec<Vec<u8>> {
+/// Sixteen tasks of the longest numbers: they pass, are late after a search over all starts, ask for too much, or are
+/// refused at the end.
+fn hard_tables() -> [Vec<Task>; 6] {
     let passes = vec![Task { offset: 60_000, cost: 3_750, deadline: 60_000, period: 60_000 }; TASKS];
     let (mut late, mut long, mut bad) = (passes.clone(), passes.clone(), passes.clone());
     late.iter_mut().for_each(|task| (task.offset, task.deadline) = (0, 59_999));
     long[15] = Task { offset: 0, cost: 1, deadline: 1, period: 59_999 };
     bad[15].offset = 60_001;
-    let mut files: Vec<Vec<u8>> =
-        [passes, late, long, bad, Vec::new()].iter().map(|tasks| file_of(u64::MAX, tasks)).collect();
+    let whole = |period| Task { offset: 60_000, cost: period, deadline: period, period };
+    let heavy = (0..TASKS as u32).map(|task| whole(31_622 + task % 2)).collect();
+    [passes, late, heavy, long, bad, Vec::new()]
+}
+
+fn hard_files() -> Vec<Vec<u8>> {
+    let mut files: Vec<Vec<u8>> = hard_tables().iter().map(|tasks| file_of(u64::MAX, tasks)).collect();
     files.extend([files[0][..280].to_vec(), vec![3; 300]]);
     files
 }
