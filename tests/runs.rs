@@ -99,7 +99,7 @@ impl Promise {
         match self.last {
             None if self.open.iter().any(Option::is_some) => return Some("an empty slot while a job waits"),
             None => {}
-            Some(owner) => match self.open[owner].as_mut() {
+            Some(owner) => match self.open.get_mut(owner).and_then(Option::as_mut) {
                 None => return Some("a slot for a task without a job, or above its cost"),
                 Some(job) => job.left -= 1,
             },
@@ -133,9 +133,13 @@ fn worst_told(report: &str) -> Vec<u64> {
 }
 
 fn promise_of(report: &Reply, tasks: usize) -> Option<Promise> {
-    let text = String::from_utf8_lossy(&report.buffer[..report.result as usize]).to_string();
-    let passes = text.contains("verdict passes\n");
-    passes.then(|| Promise { worst: worst_told(&text), open: vec![None; tasks], last: None })
+    let text = String::from_utf8_lossy(report.buffer.get(..report.result as usize)?).to_string();
+    let worst = worst_told(&text);
+    (text.contains("verdict passes\n") && worst.len() == tasks).then(|| Promise {
+        worst,
+        open: vec![None; tasks],
+        last: None,
+    })
 }
 
 impl Camera {
