@@ -9,6 +9,7 @@
  *
  * What holds for all three:
  *   - They keep nothing between calls, allocate nothing, and may run in several threads at once on different buffers.
+ *   - Of the C library they need memcpy and memset alone. The host tests hold the stack of each call to 16 KiB.
  *   - A result below 65,536 is an answer. Any other is a refusal: 65,536 x number + place. A refusal changes no byte.
  *   - No pointer may be NULL, not even with length 0. The file and the buffer must not overlap.
  *   - The file is read where it lies and never written.
