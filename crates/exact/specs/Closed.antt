@@ -3,11 +3,10 @@ use mathlib.Core.Path.{_≡_, ap₂, _∙_}
 use Prim.Native.Nat.{ℕ, suc, _+_, _-_, _*_, _/_, _≤_, _<_, min}
 use native.Mathlib.Nat.{div-le-self, mul-le-mul, le-trans}
 use lib.Dec.{lit≤}
-use Rattle.model.specs.declared.Table.{Table}
 use native.Mathlib.Omega.{arith}
 use Rattle.model.specs.declared.Task.{Task}
 use Rattle.model.specs.declared.Table.{Table}
-use Rattle.model.specs.Limits.{taskLimit, slotLimit}
+use Rattle.model.specs.Limits.{taskLimit, slotLimit, horizonLimit}
 use Rattle.model.specs.Tasks.{task, release, due}
 use Rattle.model.specs.Demand.{jobsIn}
 use Rattle.counting.specs.Below.{below, below-most, below-period, upto-period, grows-ge, count-between}
@@ -37,7 +36,7 @@ asks t from to i = task t i .cost * jobsIn (task t i) from to
 abbrev pub asksLimit : ℕ
 asksLimit = 120007200000000
 
-pub asks-le : (t : Table) → Ranged t → (from to i : ℕ) → i < t .count → to ≤ 2000060000 → asks t from to i ≤ asksLimit
+pub asks-le : (t : Table) → Ranged t → (from to i : ℕ) → i < t .count → to ≤ horizonLimit → asks t from to i ≤ asksLimit
 asks-le t r from to i l h =
     let k = r .each i l in
     le-trans (mul-le-mul {n₂ = 60000} {m₂ = 2000120000} (omega (arith, k .cost-le, k .deadline-le, k .period-le)) (omega (arith, jobs-le (task t i) k from to))) (lit≤ tt)

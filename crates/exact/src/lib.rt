@@ -2,6 +2,7 @@
 ghost use mathlib.Core.Path.{_≡_};
 ghost use Prim.Native.Nat.{_-_, _≤_, _<_, max, min};
 ghost use Rattle.model.specs.declared.Judgement.{Judgement};
+ghost use Rattle.model.specs.Limits.{horizonLimit};
 ghost use Rattle.model.specs.Tasks.{judged};
 ghost use Rattle.model.specs.Demand.{jobsIn, demand};
 ghost use Rattle.model.specs.Verdict.{brief as briefly, Permitted};
@@ -12,12 +13,12 @@ use model::Empty;
 use model::Judgement;
 use model::Measure;
 use model::Outcome;
+use model::TASK_LIMIT;
 use model::Table;
 use model::Task;
 use model::Verdict;
 use slots::NO_TASK;
 use slots::Numbers;
-use table::TASK_LIMIT;
 
 // The difference, or 0.
 fn less(x: u64, y: u64) -> u64
@@ -35,7 +36,7 @@ fn to_u64(x: u32) -> u64
 // The jobs of a task inside an interval: those due by its end, less those released before its start.
 fn jobs_in(k: Task, from: u64, to: u64) -> u64
     requires { ⌜ InRange k ⌝ }
-    requires { ⌜ (from ≤ to) × (to ≤ 2000060000) ⌝ }
+    requires { ⌜ (from ≤ to) × (to ≤ horizonLimit) ⌝ }
     ensures { λ r. ⌜ r ≡ jobsIn k from to ⌝ }
 {
     let period = to_u64(k.period);
@@ -48,7 +49,7 @@ fn jobs_in(k: Task, from: u64, to: u64) -> u64
 // The slots that an interval asks for.
 fn demand(t: Table, from: u64, to: u64) -> u64
     requires { ⌜ Ranged t ⌝ }
-    requires { ⌜ (from ≤ to) × (to ≤ 2000060000) ⌝ }
+    requires { ⌜ (from ≤ to) × (to ≤ horizonLimit) ⌝ }
     ensures { λ r. ⌜ r ≡ demand t from to ⌝ }
 {
     let n = t.count;
