@@ -4,5 +4,6 @@ pub mod Count
 pub mod Below
 pub mod Search
 pub mod Fill
+pub mod Put
 pub mod Bits
 pub mod Divisors

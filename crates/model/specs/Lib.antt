@@ -11,4 +11,5 @@ pub mod TableFile
 pub mod Dispatcher
 pub mod History
 pub mod Report
+pub mod StateBuffer
 pub mod Examples

@@ -17,6 +17,10 @@ roundLimit = 1000000000
 abbrev pub reportBytes : ℕ
 reportBytes = 512
 
+-- The bytes of a state buffer: four for each wait, for each number of slots left, and for the four words after them.
+abbrev pub stateBytes : ℕ
+stateBytes = 4 * (taskLimit + taskLimit + 4)
+
 -- The kinds of the records of a table file.
 abbrev pub budgetKind : ℕ
 budgetKind = 1

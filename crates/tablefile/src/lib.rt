@@ -62,7 +62,7 @@ fn to_u64(x: u32) -> u64
     x as u64
 }
 
-fn word_at(s: &[u8], at: usize) -> u32
+pub fn word_at(s: &[u8], at: usize) -> u32
     requires { ⌜ at + 4 ≤ length (now s) ⌝ }
     ensures { λ r. ⌜ r ≡ four (now (s .entry)) at ⌝ }
 {
@@ -201,7 +201,8 @@ fn refused_file(why: Refusal) -> Loaded
     }
 }
 
-fn form_of(file: &[u8]) -> Loaded
+// The file's form alone: its table is not judged.
+pub fn form_of(file: &[u8]) -> Loaded
     ensures { λ r. ⌜ r ≡ formOf (now (file .entry)) ⌝ }
 {
     let mut budget: u64 = 0;

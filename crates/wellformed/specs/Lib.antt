@@ -2,3 +2,4 @@
 pub mod Ranges
 pub mod Round
 pub mod WellFormed
+pub mod AtLimit

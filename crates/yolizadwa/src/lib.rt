@@ -1,19 +1,33 @@
-// The exported call: a table file is tested, and the report on it written into a lent buffer.
+// The exported calls: the check of a table file into a report buffer, and the start and the step of a camera's own loop.
 ghost use mathlib.Core.Path.{_≡_};
-ghost use Prim.Native.Nat.{_+_, _*_, _<_, _≤_};
+ghost use mathlib.Core.Bool.{not};
+ghost use Prim.Native.Nat.{_+_, _*_, _<_, _≤_, min};
+ghost use lib.Dec.{eqb};
 ghost use lib.ListN.{length};
-ghost use Rattle.model.specs.Limits.{taskLimit, reportBytes};
-ghost use Rattle.model.specs.TableFile.{loadedFrom};
+ghost use Rattle.model.specs.Limits.{taskLimit, reportBytes, stateBytes};
+ghost use Rattle.model.specs.TableFile.{formOf, loadedFrom};
 ghost use Rattle.model.specs.Report.{Exported, exportOf, CheckedFile, Checked};
+ghost use Rattle.model.specs.StateBuffer.{startTable, stepTable, quiet, onForm, startExported, stepExported};
 ghost use Rattle.report.specs.Put.{exported};
+use dispatch::Dispatcher;
 use model::Admission;
 use model::Answer;
+use model::Given;
 use model::Outcome;
 use model::Refusal;
+use model::Table;
+use model::Turn;
+use slots::NO_TASK;
 
 const REPORT_BYTES: usize = 512;
 
+const STATE_BYTES: usize = 144;
+
 const SHORT_BUFFER: u32 = 30;
+
+const STRANGE_BUFFER: u32 = 50;
+
+const LARGEST_PLACE: usize = 65535;
 
 fn refused(why: Refusal) -> u64
     ensures { λ r. ⌜ r ≡ 65536 * why .number + why .place ⌝ }
@@ -68,4 +82,131 @@ pub extern "C" fn yolizadwa_check(file: &[u8], report: &mut [u8]) -> u64
         return refused_buffer(report.len());
     }
     check_file(file, report)
+}
+
+fn strange_length(bytes: usize) -> bool
+    ensures { λ r. ⌜ r ≡ not (eqb bytes stateBytes) ⌝ }
+{
+    bytes != STATE_BYTES
+}
+
+// A place has two bytes: a longer length is told as the largest.
+fn place_of(bytes: usize) -> u32
+    ensures { λ r. ⌜ r ≡ min bytes 65535 ⌝ }
+{
+    if bytes < LARGEST_PLACE {
+        return bytes as u32;
+    }
+    LARGEST_PLACE as u32
+}
+
+fn refused_state(bytes: usize) -> u64
+    ensures { λ r. ⌜ r ≡ 65536 * 50 + min bytes 65535 ⌝ }
+{
+    refused(Refusal {
+        number: STRANGE_BUFFER,
+        place: place_of(bytes),
+    })
+}
+
+fn start_table(table: Table, state: &mut [u8]) -> u64
+    requires { ⌜ length (now state) ≡ stateBytes ⌝ }
+    ensures { λ r. ⌜ exported r (now (state .exit)) ≡ startTable (now (state .entry)) table ⌝ }
+{
+    let started = Dispatcher::start(table);
+    let admission = started.admission;
+    match admission {
+        Admission::Refused(why) => refused(why),
+        Admission::Admitted => {
+            let dispatcher = started.dispatcher;
+            statebuffer::write_state(state, dispatcher, quiet());
+            0
+        }
+    }
+}
+
+fn quiet() -> Turn
+    ensures { λ r. ⌜ r ≡ quiet ⌝ }
+{
+    Turn {
+        owner: NO_TASK,
+        late: 0,
+        closed: 0,
+        lowest: NO_TASK,
+    }
+}
+
+fn start_file(file: &[u8], state: &mut [u8]) -> u64
+    requires { ⌜ length (now state) ≡ stateBytes ⌝ }
+    ensures { λ r. ⌜ exported r (now (state .exit)) ≡ onForm (now (state .entry)) (startTable (now (state .entry))) (formOf (now (file .entry))) (formOf (now (file .entry)) .admission) ⌝ }
+{
+    let form = tablefile::form_of(file);
+    let admission = form.admission;
+    match admission {
+        Admission::Refused(why) => refused(why),
+        Admission::Admitted => {
+            let table = form.table;
+            start_table(table, state)
+        }
+    }
+}
+
+// Any file and any buffer: the buffer is looked at before the file.
+#[no_mangle]
+pub extern "C" fn yolizadwa_start(file: &[u8], state: &mut [u8]) -> u64
+    ensures { λ r. ⌜ exported r (now (state .exit)) ≡ startExported (now (file .entry)) (now (state .entry)) ⌝ }
+{
+    if strange_length(state.len()) {
+        return refused_state(state.len());
+    }
+    start_file(file, state)
+}
+
+// Any number but 0 is a done report.
+fn reported(done: u32) -> bool
+    ensures { λ r. ⌜ r ≡ not (eqb done 0) ⌝ }
+{
+    done != 0
+}
+
+fn step_table(table: Table, state: &mut [u8], done: u32) -> u64
+    requires { ⌜ length (now state) ≡ stateBytes ⌝ }
+    ensures { λ r. ⌜ exported r (now (state .exit)) ≡ stepTable (now (state .entry)) done table ⌝ }
+{
+    let dispatcher = statebuffer::state_in(state);
+    let stepped = dispatcher.step(table, reported(done));
+    let given = stepped.given;
+    match given {
+        Given::Refused(why) => refused(why),
+        Given::Slot(turn) => {
+            let next = stepped.next;
+            statebuffer::write_state(state, next, turn);
+            turn.owner as u64
+        }
+    }
+}
+
+fn step_file(file: &[u8], state: &mut [u8], done: u32) -> u64
+    requires { ⌜ length (now state) ≡ stateBytes ⌝ }
+    ensures { λ r. ⌜ exported r (now (state .exit)) ≡ onForm (now (state .entry)) (stepTable (now (state .entry)) done) (formOf (now (file .entry))) (formOf (now (file .entry)) .admission) ⌝ }
+{
+    let form = tablefile::form_of(file);
+    let admission = form.admission;
+    match admission {
+        Admission::Refused(why) => refused(why),
+        Admission::Admitted => {
+            let table = form.table;
+            step_table(table, state, done)
+        }
+    }
+}
+
+#[no_mangle]
+pub extern "C" fn yolizadwa_step(file: &[u8], state: &mut [u8], done: u32) -> u64
+    ensures { λ r. ⌜ exported r (now (state .exit)) ≡ stepExported (now (file .entry)) (now (state .entry)) done ⌝ }
+{
+    if strange_length(state.len()) {
+        return refused_state(state.len());
+    }
+    step_file(file, state, done)
 }

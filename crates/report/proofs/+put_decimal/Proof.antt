@@ -6,7 +6,7 @@ use borrow.Author.Needs.{needs}
 use borrow.Fn.Kinds.{In}
 use borrow.Fn.PlainCycle.{Measures, is, falls, and}
 use lib.ListN.{length}
-use Rattle.report.specs.Put.{join}
+use Rattle.counting.specs.Put.{join}
 use Rattle.report.specs.Decimal.{one-digit, last-digit, one-more}
 use Rattle.report.proofs.put_decimal.Reads as put-decimal
 use Rattle.report.proofs.put_decimal.Kinds as put-decimal-kinds

@@ -1,6 +1,6 @@
 use native.Mathlib.Omega.{arith}
 use borrow.Author.Needs.{needs}
-use Rattle.report.specs.Put.{nothing, join}
+use Rattle.counting.specs.Put.{nothing, join}
 use Rattle.report.proofs.put_details.Statement.{statement}
 use Rattle.report.proofs.put_details.Tie as tie
 

@@ -2,7 +2,7 @@ use mathlib.Core.List.{append-assoc}
 use native.Mathlib.Omega.{arith}
 use borrow.Author.Needs.{needs}
 use Rattle.model.specs.Notation.{text}
-use Rattle.report.specs.Put.{join}
+use Rattle.counting.specs.Put.{join}
 use Rattle.report.proofs.put_interval.Statement.{statement}
 use Rattle.report.proofs.put_interval.Tie as tie
 

@@ -1,6 +1,6 @@
 use native.Mathlib.Omega.{arith}
 use borrow.Author.Needs.{needs}
-use Rattle.report.specs.Put.{join}
+use Rattle.counting.specs.Put.{join}
 use Rattle.report.specs.Fits.{wide}
 use Rattle.report.proofs.put_number.Statement.{statement}
 use Rattle.report.proofs.put_number.Tie as tie

@@ -6,7 +6,8 @@ use native.Mathlib.Omega.{arith}
 use borrow.Author.Needs.{needs}
 use lib.ListN.{length, take, length-set}
 use lib.Seq.{take-length}
-use Rattle.report.specs.Put.{Put, nothing, copied}
+use Rattle.counting.specs.Put.{Put, nothing}
+use Rattle.report.specs.Put.{copied}
 use Rattle.report.proofs.put_text.Statement.{statement}
 use Rattle.report.proofs.put_text.Tie as tie
 

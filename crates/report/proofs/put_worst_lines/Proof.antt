@@ -6,7 +6,7 @@ use native.Mathlib.Omega.{arith}
 use borrow.Author.Needs.{needs}
 use lib.ListN.{length}
 use Rattle.model.specs.Report.{worstLines}
-use Rattle.report.specs.Put.{Put, nothing, join}
+use Rattle.counting.specs.Put.{Put, nothing, join}
 use Rattle.report.specs.Fits.{worstBytes}
 use Rattle.report.proofs.put_worst_lines.Statement.{statement}
 use Rattle.report.proofs.put_worst_lines.Tie as tie

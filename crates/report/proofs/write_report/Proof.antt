@@ -2,7 +2,8 @@ use native.Mathlib.Omega.{arith}
 use borrow.Author.Needs.{needs}
 use Rattle.model.specs.Notation.{text}
 use Rattle.model.specs.Report.{reportOf}
-use Rattle.report.specs.Put.{join, at-front}
+use Rattle.counting.specs.Put.{join}
+use Rattle.report.specs.Put.{at-front}
 use Rattle.report.proofs.write_report.Statement.{statement}
 use Rattle.report.proofs.write_report.Tie as tie
 

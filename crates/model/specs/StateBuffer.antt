@@ -1,0 +1,77 @@
+-- The dispatcher's state in a lent buffer, and the exported start and step of a camera's own loop.
+use mathlib.Core.List.{List, [], _∷_, _++_}
+use mathlib.Core.Bool.{cond, not}
+use Prim.Native.Nat.{ℕ, _+_, _*_, _/_, _%_, min}
+use lib.Dec.{eqb}
+use lib.ListN.{length, replicate}
+use Rattle.model.specs.Values.{Table, Refusal, Admission, Loaded, Turn, Given}
+use Rattle.model.specs.Notation.{fill}
+use Rattle.model.specs.Limits.{taskLimit, stateBytes}
+use Rattle.model.specs.TableFile.{four, formOf}
+use Rattle.model.specs.Dispatcher.{State, Started, Stepped, started, stepped}
+use Rattle.model.specs.Report.{Exported, refused}
+
+-- A word in four bytes, the lowest first; words one after another.
+abbrev pub wordBytes : ℕ → List ℕ
+wordBytes x = x % 256 ∷ x / 256 % 256 ∷ x / 65536 % 256 ∷ x / 16777216 % 256 ∷ []
+
+unfoldable pub bytesOf : List ℕ → List ℕ
+bytesOf [] = []
+bytesOf (x ∷ w) = wordBytes x ++ bytesOf w
+
+-- The waits, the slots left, which task ran last; and what the step said: the late set, its count and its lowest task.
+unfoldable pub bufferOf : State → Turn → List ℕ
+bufferOf d u = bytesOf (d .wait) ++ bytesOf (d .left) ++ bytesOf (d .last ∷ u .late ∷ u .closed ∷ u .lowest ∷ [])
+
+-- The state in a buffer. What the last step said is not read.
+abbrev pub wordsIn : List ℕ → ℕ → List ℕ
+wordsIn buffer at = fill taskLimit (λ i. four buffer (at + 4 * i)) (replicate taskLimit 0)
+
+unfoldable pub stateIn : List ℕ → State
+stateIn buffer =
+    record {
+      wait = wordsIn buffer 0;
+      left = wordsIn buffer (4 * taskLimit);
+      last = four buffer (8 * taskLimit);
+    }
+
+-- What a start says: no task had a slot, and none was closed.
+abbrev pub quiet : Turn
+quiet = record { owner = taskLimit; late = 0; closed = 0; lowest = taskLimit }
+
+-- A start returns 0, a step the owner of the slot; each writes the whole buffer. A refusal writes nowhere.
+abbrev pub startWritten : List ℕ → Started → Admission → Exported
+startWritten buffer s (Admission.Refused r) = refused r buffer
+startWritten buffer s Admission.Admitted = record { number = 0; buffer = bufferOf (s .state) quiet }
+
+abbrev pub stepWritten : List ℕ → Stepped → Given → Exported
+stepWritten buffer s (Given.Refused r) = refused r buffer
+stepWritten buffer s (Given.Slot u) = record { number = u .owner; buffer = bufferOf (s .state) u }
+
+abbrev pub startTable : List ℕ → Table → Exported
+startTable buffer t = startWritten buffer (started t) (started t .admission)
+
+abbrev pub stepTable : List ℕ → ℕ → Table → Exported
+stepTable buffer done t =
+    let s = stepped t (stateIn buffer) (not (eqb done 0)) in
+    stepWritten buffer s (s .given)
+
+-- A state buffer of another length is refused by 50, with its length as far as a place can tell it.
+abbrev pub strangeBuffer : List ℕ → Refusal
+strangeBuffer buffer = record { number = 50; place = min (length buffer) 65535 }
+
+-- The order of the refusals: 50, the file's form, then what the start or the step refuses, the table first.
+abbrev pub onForm : List ℕ → (Table → Exported) → Loaded → Admission → Exported
+onForm buffer go l (Admission.Refused r) = refused r buffer
+onForm buffer go l Admission.Admitted = go (l .table)
+
+abbrev pub onFile : List ℕ → List ℕ → (Table → Exported) → Exported
+onFile file buffer go =
+    cond (eqb (length buffer) stateBytes) (onForm buffer go (formOf file) (formOf file .admission)) (refused (strangeBuffer buffer) buffer)
+
+-- The one permitted result of each on any file and any buffer; a done report is any number but 0.
+abbrev pub startExported : List ℕ → List ℕ → Exported
+startExported file buffer = onFile file buffer (startTable buffer)
+
+abbrev pub stepExported : List ℕ → List ℕ → ℕ → Exported
+stepExported file buffer done = onFile file buffer (stepTable buffer done)

@@ -1,0 +1,92 @@
+-- DEMAND 1 at the exported start and step: one permitted result for every file and buffer, and a refusal changes no byte.
+use mathlib.Core.Path.{_≡_, refl, sym, _∙_}
+use mathlib.Core.Logic.{_⊎_, inl, inr}
+use mathlib.Core.List.{List}
+use mathlib.Core.Bool.{Bool, true, false, cond, not}
+use Prim.Native.Nat.{ℕ, _≤_, _<_}
+use native.Mathlib.Omega.{arith}
+use lib.Dec.{eqb, ltb}
+use lib.ListN.{length}
+use Rattle.model.specs.declared.Table.{Table}
+use Rattle.model.specs.declared.Judgement.{Judgement}
+use Rattle.model.specs.declared.Admission.{Admission}
+use Rattle.model.specs.declared.Given.{Given}
+use Rattle.model.specs.declared.Loaded.{Loaded}
+use Rattle.model.specs.Limits.{taskLimit, stateBytes}
+use Rattle.model.specs.Tasks.{judged}
+use Rattle.model.specs.TableFile.{formOf}
+use Rattle.model.specs.Dispatcher.{State, Stepped, Started, firstStrange, lastStrange, ownerNow, turn, started, stepJudged, stepped}
+use Rattle.model.specs.Report.{Exported, refused}
+use Rattle.model.specs.StateBuffer.{stateIn, startWritten, stepWritten, startTable, stepTable, strangeBuffer, onForm, onFile, startExported, stepExported}
+use Rattle.wellformed.specs.WellFormed.{well-formed}
+use Rattle.slots.specs.Choice.{choose-range}
+
+-- Reading a file's form, starting and stepping in a buffer have one permitted result each, for every input.
+pub one-form : (file : List ℕ) (a b : Loaded) → a ≡ formOf file → b ≡ formOf file → a ≡ b
+one-form file a b e f = e ∙ sym f
+
+pub one-camera-start : (file buffer : List ℕ) (a b : Exported) → a ≡ startExported file buffer → b ≡ startExported file buffer → a ≡ b
+one-camera-start file buffer a b e f = e ∙ sym f
+
+pub one-camera-step : (file buffer : List ℕ) (done : ℕ) (a b : Exported) → a ≡ stepExported file buffer done → b ≡ stepExported file buffer done → a ≡ b
+one-camera-step file buffer done a b e f = e ∙ sym f
+
+-- A state buffer of another length is refused by 50, before the file is looked at, and stays as it was.
+pub strange-state-buffer : (file buffer : List ℕ) (go : Table → Exported) → eqb (length buffer) stateBytes ≡ false → onFile file buffer go ≡ refused (strangeBuffer buffer) buffer
+strange-state-buffer file buffer go e = rw e
+
+-- What goes on after the buffer and the form: a large number is a refusal, which leaves the buffer.
+abbrev Keeps : List ℕ → Exported → Type 0
+Keeps buffer e = 65536 ≤ e .number → e .buffer ≡ buffer
+
+form-keeps : (buffer : List ℕ) (go : Table → Exported) → ((t : Table) → Keeps buffer (go t)) → (l : Loaded) (a : Admission) → Keeps buffer (onForm buffer go l a)
+form-keeps buffer go h l (Admission.Refused r) large = refl
+form-keeps buffer go h l Admission.Admitted large = h (l .table) large
+
+file-keeps : (file buffer : List ℕ) (go : Table → Exported) → ((t : Table) → Keeps buffer (go t)) → Keeps buffer (onFile file buffer go)
+file-keeps file buffer go h = by (eqb (length buffer) stateBytes)
+  where
+    by : (b : Bool) → Keeps buffer (cond b (onForm buffer go (formOf file) (formOf file .admission)) (refused (strangeBuffer buffer) buffer))
+    by true = form-keeps buffer go h (formOf file) (formOf file .admission)
+    by false = λ large. refl
+
+start-keeps : (buffer : List ℕ) (s : Started) (a : Admission) → Keeps buffer (startWritten buffer s a)
+start-keeps buffer s (Admission.Refused r) large = refl
+start-keeps buffer s Admission.Admitted large = absurd (omega arith)
+
+-- The owner of a slot is a task or none.
+owner-few : (t : Table) (d : State) (done : Bool) → t .count ≤ taskLimit → ownerNow t d done ≤ taskLimit
+unfolding ownerNow
+owner-few t d done few = go (choose-range _ _ _ (t .count))
+  where
+    go : {k : ℕ} → (k ≡ taskLimit) ⊎ (k < t .count) → k ≤ taskLimit
+    go (inl e) = omega arith
+    go (inr l) = omega arith
+
+-- A number of 65,536 or more is a refusal: no byte of the buffer has changed.
+pub refused-camera-start : (file buffer : List ℕ) → 65536 ≤ startExported file buffer .number → startExported file buffer .buffer ≡ buffer
+refused-camera-start file buffer = file-keeps file buffer (startTable buffer) (λ t. start-keeps buffer (started t) (started t .admission))
+
+-- A step that is taken returns its owner, which is below 65,536.
+step-judged-keeps : (buffer : List ℕ) (t : Table) (d : State) (done : Bool) (j : Judgement) → judged t ≡ j → Keeps buffer (stepWritten buffer (stepJudged t d done j) (stepJudged t d done j .given))
+unfolding turn
+step-judged-keeps buffer t d done (Judgement.Refused r) e = λ large. refl
+step-judged-keeps buffer t d done (Judgement.WellFormed m) e = by (ltb (firstStrange t d) (t .count)) (lastStrange t d) refl refl
+  where
+    few : t .count ≤ taskLimit
+    few = well-formed t m e .ranged .few
+
+    owned : turn t d done .owner ≤ taskLimit
+    owned = owner-few t d done few
+
+    by : (a b : Bool) → ltb (firstStrange t d) (t .count) ≡ a → lastStrange t d ≡ b → Keeps buffer (stepWritten buffer (stepJudged t d done (Judgement.WellFormed m)) (stepJudged t d done (Judgement.WellFormed m) .given))
+    by true b p q = rw p (λ large. refl)
+    by false true p q = rw (p, q) (λ large. refl)
+    by false false p q = rw (p, q) (λ large. absurd (omega (arith, owned)))
+
+pub refused-camera-step : (file buffer : List ℕ) (done : ℕ) → 65536 ≤ stepExported file buffer done .number → stepExported file buffer done .buffer ≡ buffer
+unfolding stepped
+refused-camera-step file buffer done = file-keeps file buffer (stepTable buffer done) (λ t. kept t)
+  where
+    kept : (t : Table) → Keeps buffer (stepTable buffer done t)
+    kept t = step-judged-keeps buffer t (stateIn buffer) (not (eqb done 0)) (judged t) refl

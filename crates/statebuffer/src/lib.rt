@@ -1,0 +1,82 @@
+// The dispatcher's state in a lent buffer: words of four bytes, the lowest byte first.
+ghost use mathlib.Core.Path.{_≡_};
+ghost use Prim.Native.Nat.{_+_, _*_, _%_, _≤_};
+ghost use lib.ListN.{length};
+ghost use Rattle.model.specs.Limits.{taskLimit, stateBytes};
+ghost use Rattle.model.specs.StateBuffer.{wordBytes, bytesOf, bufferOf, wordsIn, stateIn};
+ghost use Rattle.counting.specs.Put.{Put};
+ghost use Rattle.dispatch.specs.State.{stateOf};
+use dispatch::Dispatcher;
+use model::Turn;
+use slots::Numbers;
+use table::TASK_LIMIT;
+
+const WORD_BYTES: usize = 4;
+
+pub fn state_in(buffer: &[u8]) -> Dispatcher
+    requires { ⌜ length (now buffer) ≡ stateBytes ⌝ }
+    ensures { λ r. ⌜ stateOf r ≡ stateIn (now (buffer .entry)) ⌝ }
+{
+    let wait = words_in(buffer, 0);
+    let left = words_in(buffer, TASK_LIMIT * WORD_BYTES);
+    Dispatcher {
+        wait,
+        left,
+        last: tablefile::word_at(buffer, 2 * TASK_LIMIT * WORD_BYTES),
+    }
+}
+
+fn words_in(buffer: &[u8], at: usize) -> Numbers
+    requires { ⌜ at + 4 * taskLimit ≤ length (now buffer) ⌝ }
+    ensures { λ r. ⌜ r ≡ wordsIn (now (buffer .entry)) at ⌝ }
+{
+    let mut words = [0u32; TASK_LIMIT];
+    for i in 0..TASK_LIMIT {
+        words[i] = tablefile::word_at(buffer, at + WORD_BYTES * i);
+    }
+    words
+}
+
+pub fn write_state(buffer: &mut [u8], d: Dispatcher, turn: Turn)
+    requires { ⌜ length (now buffer) ≡ stateBytes ⌝ }
+    ensures { λ r. ⌜ now (buffer .exit) ≡ bufferOf (stateOf d) turn ⌝ }
+{
+    let wait = d.wait;
+    let left = d.left;
+    let at = put_words(buffer, 0, wait);
+    let at = put_words(buffer, at, left);
+    let at = put_word(buffer, at, d.last);
+    let at = put_word(buffer, at, turn.late);
+    let at = put_word(buffer, at, turn.closed);
+    put_word(buffer, at, turn.lowest);
+}
+
+fn put_words(buffer: &mut [u8], at: usize, words: Numbers) -> usize
+    requires { ⌜ at + 4 * taskLimit ≤ length (now buffer) ⌝ }
+    ensures { λ r. ⌜ Put (bytesOf words) at (now (buffer .entry)) (now (buffer .exit)) r ⌝ }
+    ensures { λ r. ⌜ r ≡ at + 4 * taskLimit ⌝ }
+{
+    let mut next = at;
+    for i in 0..TASK_LIMIT {
+        next = put_word(buffer, next, words[i]);
+    }
+    next
+}
+
+fn put_word(buffer: &mut [u8], at: usize, word: u32) -> usize
+    requires { ⌜ at + 4 ≤ length (now buffer) ⌝ }
+    ensures { λ r. ⌜ Put (wordBytes word) at (now (buffer .entry)) (now (buffer .exit)) r ⌝ }
+    ensures { λ r. ⌜ r ≡ at + 4 ⌝ }
+{
+    buffer[at] = low_byte(word);
+    buffer[at + 1] = low_byte(word / 256);
+    buffer[at + 2] = low_byte(word / 65536);
+    buffer[at + 3] = low_byte(word / 16777216);
+    at + 4
+}
+
+fn low_byte(word: u32) -> u8
+    ensures { λ r. ⌜ r ≡ word % 256 ⌝ }
+{
+    (word % 256) as u8
+}

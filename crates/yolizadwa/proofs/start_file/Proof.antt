@@ -1,0 +1,46 @@
+-- Each return rewrites with what the form turned out to be.
+use borrow.Author.Needs.{needs}
+use Rattle.yolizadwa.proofs.start_file.Statement.{statement}
+use Rattle.yolizadwa.proofs.start_file.Tie as tie
+
+form-of-requires : tie.Need-form-of-requires
+form-of-requires c κs = search needs
+
+enum-known-admission : tie.Need-enum-known-admission
+enum-known-admission c = search needs
+
+refused-requires : tie.Need-refused-requires
+refused-requires c κs = search needs
+
+enum-told : tie.Need-enum-told
+enum-told c = search needs
+
+start-table-requires : tie.Need-start-table-requires
+start-table-requires c κs = search needs
+
+returns : tie.Need-returns
+returns c =
+    let known = c .before .before in
+    rw (← known .before .before .form-of .ensures, known .admission .given .1, c .refused .ensures)
+
+same-length : tie.Need-same-length
+same-length c = search needs
+
+returns-2 : tie.Need-returns-2
+returns-2 c =
+    let called = c .before .before in
+    let told = called .before .before .before in
+    rw (← told .before .before .form-of .ensures, told .enum-told .given .1) (called .start-table .ensures)
+
+pub start-file-spec : {M : Type 1} → statement M
+start-file-spec =
+    tie.close
+    (tie.spec
+    form-of-requires
+    enum-known-admission
+    refused-requires
+    enum-told
+    start-table-requires
+    returns
+    same-length
+    returns-2)

@@ -1,0 +1,46 @@
+-- Each return rewrites with what the form turned out to be.
+use borrow.Author.Needs.{needs}
+use Rattle.yolizadwa.proofs.step_file.Statement.{statement}
+use Rattle.yolizadwa.proofs.step_file.Tie as tie
+
+form-of-requires : tie.Need-form-of-requires
+form-of-requires c κs = search needs
+
+enum-known-admission : tie.Need-enum-known-admission
+enum-known-admission c = search needs
+
+refused-requires : tie.Need-refused-requires
+refused-requires c κs = search needs
+
+enum-told : tie.Need-enum-told
+enum-told c = search needs
+
+step-table-requires : tie.Need-step-table-requires
+step-table-requires c κs = search needs
+
+returns : tie.Need-returns
+returns c =
+    let known = c .before .before in
+    rw (← known .before .before .form-of .ensures, known .admission .given .1, c .refused .ensures)
+
+same-length : tie.Need-same-length
+same-length c = search needs
+
+returns-2 : tie.Need-returns-2
+returns-2 c =
+    let called = c .before .before in
+    let told = called .before .before .before in
+    rw (← told .before .before .form-of .ensures, told .enum-told .given .1) (called .step-table .ensures)
+
+pub step-file-spec : {M : Type 1} → statement M
+step-file-spec =
+    tie.close
+    (tie.spec
+    form-of-requires
+    enum-known-admission
+    refused-requires
+    enum-told
+    step-table-requires
+    returns
+    same-length
+    returns-2)

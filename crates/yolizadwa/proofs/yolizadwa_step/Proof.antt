@@ -1,0 +1,42 @@
+-- The buffer's length decides first.
+use borrow.Author.Tests.{eqb-true}
+use borrow.Author.Needs.{needs}
+use Rattle.yolizadwa.specs.Length.{strange, right}
+use Rattle.yolizadwa.proofs.yolizadwa_step.Statement.{statement}
+use Rattle.yolizadwa.proofs.yolizadwa_step.Tie as tie
+
+strange-length-requires : tie.Need-strange-length-requires
+strange-length-requires c κs = search needs
+
+refused-state-requires : tie.Need-refused-state-requires
+refused-state-requires c κs = search needs
+
+returns : tie.Need-returns
+returns c =
+    let tested = c .before .before in
+    rw (strange (tested .before .before .before .args .state .now) (tested .strange-length .ensures) (c .before .if1 .taken), c .refused-state .ensures)
+
+step-file-requires : tie.Need-step-file-requires
+step-file-requires c κs =
+    let tested = c .before .before in
+    eqb-true _ _ (right (tested .before .before .before .args .state .now) (tested .strange-length .ensures) (c .before .if1 .left))
+
+same-length : tie.Need-same-length
+same-length c = search needs
+
+returns-2 : tie.Need-returns-2
+returns-2 c =
+    let called = c .before .before in
+    let tested = called .before .before .before in
+    rw (right (tested .before .before .before .args .state .now) (tested .strange-length .ensures) (called .before .before .if1 .left)) (called .step-file .ensures)
+
+pub yolizadwa-step-spec : {M : Type 1} → statement M
+yolizadwa-step-spec =
+    tie.close
+    (tie.spec
+    strange-length-requires
+    refused-state-requires
+    returns
+    step-file-requires
+    same-length
+    returns-2)
