@@ -13,12 +13,12 @@ use model::Admission;
 use model::Given;
 use model::Judgement;
 use model::Refusal;
+use model::TASK_LIMIT;
 use model::Table;
 use model::Task;
 use model::Turn;
 use slots::NO_TASK;
 use slots::Numbers;
-use table::TASK_LIMIT;
 
 // For each task its wait, the slots until its next release, and the slots left to its open job; which task ran last.
 pub struct Dispatcher {

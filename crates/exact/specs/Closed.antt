@@ -3,11 +3,10 @@ use mathlib.Core.Path.{_≡_}
 use Prim.Native.Nat.{ℕ, suc, _+_, _-_, _*_, _/_, _≤_, _<_}
 use native.Mathlib.Nat.{div-le-self, mul-le-mul, le-trans, le-refl}
 use lib.Dec.{lit≤}
-use Rattle.model.specs.declared.Table.{Table}
 use native.Mathlib.Omega.{arith}
 use Rattle.model.specs.declared.Task.{Task}
 use Rattle.model.specs.declared.Table.{Table}
-use Rattle.model.specs.Limits.{slotLimit}
+use Rattle.model.specs.Limits.{slotLimit, horizonLimit}
 use Rattle.model.specs.Tasks.{task, release, due}
 use Rattle.model.specs.Demand.{jobsIn, demand}
 use Rattle.counting.specs.Sum.{sum-bound}
@@ -38,11 +37,11 @@ asks t from to i = task t i .cost * jobsIn (task t i) from to
 abbrev pub asksLimit : ℕ
 asksLimit = 120007200000000
 
-pub asks-le : (t : Table) → Ranged t → (from to i : ℕ) → i < t .count → to ≤ 2000060000 → asks t from to i ≤ asksLimit
+pub asks-le : (t : Table) → Ranged t → (from to i : ℕ) → i < t .count → to ≤ horizonLimit → asks t from to i ≤ asksLimit
 asks-le t r from to i l h =
     let k = r .each i l in
     le-trans (mul-le-mul {n₂ = 60000} {m₂ = 2000120000} (omega (arith, k .cost-le, k .deadline-le, k .period-le)) (omega (arith, jobs-le (task t i) k from to))) (lit≤ tt)
 
-pub demand-le : (t : Table) → Ranged t → (from to : ℕ) → to ≤ 2000060000 → demand t from to ≤ 16 * asksLimit
+pub demand-le : (t : Table) → Ranged t → (from to : ℕ) → to ≤ horizonLimit → demand t from to ≤ 16 * asksLimit
 unfolding demand
 demand-le t r from to h = omega (arith, sum-bound (t .count) (asks t from to) asksLimit (λ i l. asks-le t r from to i l h), mul-le-mul {n₂ = 16} {m₂ = asksLimit} (r .few) (le-refl asksLimit))

@@ -4,7 +4,7 @@ ghost use Prim.Native.Nat.{_-_, _≤_, _<_, max, min};
 ghost use lib.ListN.{set};
 ghost use Rattle.model.specs.declared.Judgement.{Judgement};
 ghost use Rattle.model.specs.Tasks.{judged};
-ghost use Rattle.model.specs.Limits.{taskLimit};
+ghost use Rattle.model.specs.Limits.{taskLimit, horizonLimit};
 ghost use Rattle.model.specs.Notation.{sum, fill};
 ghost use Rattle.model.specs.Verdict.{brief as briefly, Permitted};
 ghost use Rattle.wellformed.specs.Ranges.{InRange, Ranged};
@@ -17,6 +17,7 @@ use model::Empty;
 use model::Judgement;
 use model::Measure;
 use model::Outcome;
+use model::TASK_LIMIT;
 use model::Table;
 use model::Task;
 use model::Verdict;
@@ -24,7 +25,6 @@ use slots::NO_KEY;
 use slots::NO_TASK;
 use slots::Numbers;
 use slots::Ranks;
-use table::TASK_LIMIT;
 
 // The difference, or 0.
 fn less(x: u64, y: u64) -> u64
@@ -54,7 +54,7 @@ fn earlier(mark: u32, offset: u32, period: u32) -> u32
 // Where no job is counted yet.
 fn mark_at(k: Task, to: u64) -> u32
     requires { ⌜ InRange k ⌝ }
-    requires { ⌜ to ≤ 2000060000 ⌝ }
+    requires { ⌜ to ≤ horizonLimit ⌝ }
     ensures { λ r. ⌜ r ≡ markOf k (dueBy k to) ⌝ }
 {
     let period = to_u64(k.period);
@@ -68,7 +68,7 @@ fn mark_at(k: Task, to: u64) -> u32
 
 fn marks(t: Table, to: u64) -> Numbers
     requires { ⌜ Ranged t ⌝ }
-    requires { ⌜ to ≤ 2000060000 ⌝ }
+    requires { ⌜ to ≤ horizonLimit ⌝ }
     ensures { λ r. ⌜ r ≡ marksAt t to ⌝ }
 {
     let n = t.count;

@@ -10,12 +10,12 @@ use libc::STDIN_FILENO;
 use libc::STDOUT_FILENO;
 use model::Admission;
 use model::Answer;
+use model::LONGEST_FILE;
 use model::Outcome;
+use model::REPORT_BYTES;
 
 // One byte more than the longest legal file has.
-const INPUT_BYTES: usize = 283;
-
-const REPORT_BYTES: usize = 512;
+const INPUT_BYTES: usize = LONGEST_FILE + 1;
 
 fn write_outcome(buffer: &mut [u8], tasks: usize, answer: Answer, outcome: Outcome) -> usize
     requires { ⌜ tasks ≤ taskLimit ⌝ }

@@ -13,6 +13,10 @@ slotLimit = 60000
 abbrev pub roundLimit : ℕ
 roundLimit = 1000000000
 
+-- A horizon.
+abbrev pub horizonLimit : ℕ
+horizonLimit = slotLimit + 2 * roundLimit
+
 -- The bytes of a report buffer.
 abbrev pub reportBytes : ℕ
 reportBytes = 512

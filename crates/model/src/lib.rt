@@ -1,5 +1,18 @@
 // The values that pass between the calls. What they mean stands in specs/.
 
+// The limits of the code, each once: they are those of specs/Limits.antt, or the proofs fail.
+pub const TASK_LIMIT: usize = 16;
+
+pub const SLOT_LIMIT: u32 = 60_000;
+
+pub const ROUND_LIMIT: u64 = 1_000_000_000;
+
+pub const LONGEST_FILE: usize = 282;
+
+pub const REPORT_BYTES: usize = 512;
+
+pub const STATE_BYTES: usize = 144;
+
 // A task: the first release, the slots of each job, the deadline after each release, and the period.
 pub struct Task {
     pub offset: u32,
@@ -11,7 +24,7 @@ pub struct Task {
 // The tasks below `count`. Any value may be handed to a public call; entries from `count` on are not read.
 pub struct Table {
     pub count: usize,
-    pub tasks: [Task; 16],
+    pub tasks: [Task; TASK_LIMIT],
 }
 
 // A refusal: document 01's number and place.
@@ -58,7 +71,7 @@ pub struct Answer {
     pub outcome: Outcome,
     pub measure: Measure,
     pub settled: u64,
-    pub worst: [u32; 16],
+    pub worst: [u32; TASK_LIMIT],
     pub empty: Empty,
 }
 

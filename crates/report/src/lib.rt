@@ -12,6 +12,7 @@ ghost use Rattle.report.specs.Fits.{numberBytes, verdictBytes, worstByte
 use model::Answer;
 use model::Empty;
 use model::Refusal;
+use model::TASK_LIMIT;
 use model::Verdict;
 
 pub fn write_report(buffer: &mut [u8], tasks: usize, answer: Answer, verdict: Verdict) -> usize
@@ -81,7 +82,7 @@ fn put_details(
     }
 }
 
-fn put_worst_lines(buffer: &mut [u8], at: usize, tasks: usize, worst: [u32; 16]) -> usize
+fn put_worst_lines(buffer: &mut [u8], at: usize, tasks: usize, worst: [u32; TASK_LIMIT]) -> usize
     requires { ⌜ tasks ≤ taskLimit ⌝ }
     requires { ⌜ at + detailsBytes ≤ length (now buffer) ⌝ }
     ensures { λ r. ⌜ Put (worstLines worst tasks) at (now (buffer .entry)) (now (buffer .exit)) r ⌝ }

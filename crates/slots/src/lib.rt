@@ -10,8 +10,8 @@ ghost use Rattle.model.specs.Dispatcher.{startOf};
 ghost use Rattle.slots.specs.Columns.{columnsOf};
 ghost use Rattle.slots.specs.Choice.{ranks, keyOf};
 ghost use Rattle.slots.specs.Slot.{closed, isLate, isMember, closedAll, Released, chosen, given, passed, Served};
+use model::TASK_LIMIT;
 use model::Table;
-use table::TASK_LIMIT;
 
 // Where a task is named, this is none.
 pub const NO_TASK: u32 = TASK_LIMIT as u32;

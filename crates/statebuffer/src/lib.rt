@@ -7,9 +7,9 @@ ghost use Rattle.model.specs.StateBuffer.{wordBytes, bytesOf, bufferOf, wordsIn
 ghost use Rattle.counting.specs.Put.{Put};
 ghost use Rattle.dispatch.specs.State.{stateOf};
 use dispatch::Dispatcher;
+use model::TASK_LIMIT;
 use model::Turn;
 use slots::Numbers;
-use table::TASK_LIMIT;
 
 const WORD_BYTES: usize = 4;
 

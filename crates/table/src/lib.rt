@@ -7,15 +7,12 @@ ghost use Rattle.wellformed.specs.Ranges.{Ranged};
 ghost use Rattle.wellformed.specs.Round.{RoundTold, RoundKept};
 use model::Judgement;
 use model::Measure;
+use model::ROUND_LIMIT;
 use model::Refusal;
+use model::SLOT_LIMIT;
+use model::TASK_LIMIT;
 use model::Table;
 use model::Task;
-
-pub const TASK_LIMIT: usize = 16;
-
-pub const SLOT_LIMIT: u32 = 60_000;
-
-pub const ROUND_LIMIT: u64 = 1_000_000_000;
 
 pub fn judge(t: Table) -> Judgement
     ensures { λ r. ⌜ r ≡ judged t ⌝ }

@@ -5,10 +5,10 @@ use crate::tables::task;
 use dispatch::Dispatcher;
 use model::Admission;
 use model::Given;
+use model::TASK_LIMIT;
 use model::Table;
 use model::Turn;
 use slots::NO_TASK;
-use table::TASK_LIMIT;
 
 // A task's wait, and the slots left to its open job.
 struct Entry {

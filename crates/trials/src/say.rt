@@ -2,10 +2,10 @@
 use libc::STDOUT_FILENO;
 use model::Measure;
 use model::Refusal;
+use model::TASK_LIMIT;
 use model::Table;
 use model::Task;
 use slots::Numbers;
-use table::TASK_LIMIT;
 
 pub fn words(s: &[u8]) {
     io::write_all(STDOUT_FILENO, s);

@@ -14,14 +14,12 @@ use model::Admission;
 use model::Answer;
 use model::Given;
 use model::Outcome;
+use model::REPORT_BYTES;
 use model::Refusal;
+use model::STATE_BYTES;
 use model::Table;
 use model::Turn;
 use slots::NO_TASK;
-
-const REPORT_BYTES: usize = 512;
-
-const STATE_BYTES: usize = 144;
 
 const SHORT_BUFFER: u32 = 30;
 

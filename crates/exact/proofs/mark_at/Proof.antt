@@ -3,6 +3,7 @@ use mathlib.Core.Path.{_≡_, sym, _∙_}
 use Prim.Native.Nat.{_+_, _-_, _*_, _/_, _≤_}
 use native.Mathlib.Omega.{arith}
 use borrow.Author.Tests.{ne-eqb}
+use Rattle.model.specs.Limits.{horizonLimit}
 use Rattle.exact.specs.Back.{dueBy, due-closed, last-due}
 use borrow.Author.Needs.{needs}
 use Rattle.exact.proofs.mark_at.Statement.{statement}
@@ -11,7 +12,7 @@ use Rattle.exact.proofs.mark_at.Tie as tie
 due-is : (c : tie.After-less) → let s = c .before .before .before .before in c .less .result / c .before .before .before .to-u64 .result ≡ dueBy (s .args .k) (s .args .to)
 due-is c = let s = c .before .before .before .before in cc (due-closed (s .args .k) (s .pre .0) (s .args .to))
 
-room : (c : tie.Else1) → let p = c .before .before .before .before .to-u64 .result in c .before .before .before .to-u642 .result + (c .before .less .result / p - 1) * p + 1 ≤ 2000060000
+room : (c : tie.Else1) → let p = c .before .before .before .before .to-u64 .result in c .before .before .before .to-u642 .result + (c .before .less .result / p - 1) * p + 1 ≤ horizonLimit
 room c =
     let u = c .before .before .before .before in
     let s = u .before in
