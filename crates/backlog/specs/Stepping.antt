@@ -3,10 +3,11 @@ use mathlib.Core.Path.{_≡_, refl, ap, _∙_}
 use mathlib.Core.Logic.{_⊎_, inl, inr, _≢_}
 use mathlib.Core.Bool.{Bool, true, false, cond, _&&_, _||_}
 use Prim.Native.Nat.{ℕ, zero, suc, _+_, _-_, _≤_, _<_, max}
+use native.Mathlib.Decide.{decLt}
 use native.Mathlib.Omega.{arith}
 use borrow.Author.Tests.{eq-eqb, ne-eqb, lt-ltb, le-ltb}
 use lib.Dec.{T, ltb, eqb, ltb→lt, lt→ltb, eqb→eq}
-use lib.ListN.{getD, length, replicate, length-replicate, getD-replicate}
+use lib.ListN.{getD, length, replicate, length-replicate, getD-replicate, List·getD-eq-default}
 use Rattle.model.specs.declared.Table.{Table}
 use Rattle.model.specs.declared.Measure.{Measure}
 use Rattle.model.specs.declared.Judgement.{Judgement}
@@ -19,13 +20,20 @@ use Rattle.model.specs.Dispatcher.{State, waitOf, leftOf, isOpen, strange, firs
 use Rattle.model.specs.History.{stateAt, ownerAt, reported}
 use Rattle.counting.specs.Count.{and-iff, eq→eqb, tests}
 use Rattle.counting.specs.Search.{first-none}
-use Rattle.counting.specs.Fill.{fill-passed, fill-length}
+use Rattle.counting.specs.Fill.{fill-passed, fill-ahead, fill-length}
 use Rattle.counting.specs.Below.{below, lt-below, below-bound}
 use Rattle.wellformed.specs.Ranges.{Ranged}
 use Rattle.backlog.specs.System.{System, releaseOf, dueOf, jobs, period-pos}
 use Rattle.backlog.specs.Choice.{Chosen, choose-is}
 use Rattle.backlog.specs.Domination.{Releases, releases}
 use Rattle.backlog.specs.TableSystem.{tie-ranks, systemOf}
+
+-- A list of zeros has no other entry.
+zeros : (i : ℕ) → getD {A = ℕ} (replicate taskLimit 0) i 0 ≡ 0
+zeros i = elim (decLt i taskLimit) [
+  | yes l ↦ getD-replicate taskLimit i 0 0 l
+  | no l ↦ List·getD-eq-default (replicate taskLimit 0) 0 {n = i} (omega (arith, length-replicate {A = ℕ} taskLimit 0))
+]
 
 -- One of two tests holds.
 or-elim : (a b : Bool) → T (a || b) → T a ⊎ T b
@@ -195,16 +203,20 @@ module _ (t : Table) (r : Ranged t) (done : ℕ → Bool) where
     abbrev late : Bool
     late = ltb (task t i .period - 1) (waitOf (before n) i)
 
+  -- No wait is longer than the offset or the period.
+  pub wait-le : (n i : ℕ) → Sound n → i < t .count → waitOf (before n) i ≤ max (task t i .offset) (task t i .period)
+  wait-le n i s l = go (released i n) refl
+    where
+      go : (b : ℕ) → released i n ≡ b → waitOf (before n) i ≤ max (task t i .offset) (task t i .period)
+      go zero e = omega (arith, s .next i l, ap (releaseOf S i) e)
+      go (suc b) e = omega (arith, s .next i l, ap (releaseOf S i) e, lt-below (releaseOf S i) ((jobs S) .rel-grows i l) n b .0 (omega arith))
+
   -- A state that the dispatcher itself produced belongs to the table.
   familiar : (n i : ℕ) → Sound n → i < t .count → T (strange t (before n) i) → ⊥
   familiar n i s l h = go (or-elim (waits-long n i || left-more n i) (isOpen (before n) i && (early n i || late n i)) h)
     where
-      wait-le : (b : ℕ) → released i n ≡ b → waitOf (before n) i ≤ max (task t i .offset) (task t i .period)
-      wait-le zero e = omega (arith, s .next i l, ap (releaseOf S i) e)
-      wait-le (suc b) e = omega (arith, s .next i l, ap (releaseOf S i) e, lt-below (releaseOf S i) ((jobs S) .rel-grows i l) n b .0 (omega arith))
-
       go : T (waits-long n i || left-more n i) ⊎ T (isOpen (before n) i && (early n i || late n i)) → ⊥
-      go (inl x) = elim (or-elim (waits-long n i) (left-more n i) x) [ inl y ↦ omega (tests, wait-le (released i n) refl) | inr y ↦ omega (tests, s .at-most i l) ]
+      go (inl x) = elim (or-elim (waits-long n i) (left-more n i) x) [ inl y ↦ omega (tests, wait-le n i s l) | inr y ↦ omega (tests, s .at-most i l) ]
       go (inr x) =
           let y = and-iff (isOpen (before n) i) (early n i || late n i) .0 x in
           let (j, b, d) = s .current i l (omega (tests, y .0)) in
@@ -226,3 +238,9 @@ module _ (t : Table) (r : Ranged t) (done : ℕ → Bool) where
   pub never-refused : (m : Measure) → judged t ≡ Judgement.WellFormed m → (n : ℕ) → stepped t (before n) (done n) ≡ record { given = Given.Slot (turn t (before n) (done n)); state = before (suc n) }
   unfolding stepped stateAt
   never-refused m e n = rw (e, all-familiar n, last-familiar n)
+
+  -- Entries past the table's last task are 0 from the start on.
+  pub past-none : (n i : ℕ) → t .count ≤ i → (getD (before n .wait) i 0 ≡ 0) × (getD (before n .left) i 0 ≡ 0)
+  unfolding stateAt startOf after
+  past-none zero i l = (fill-ahead (t .count) _ _ i 0 l ∙ zeros i, zeros i)
+  past-none (suc n) i l = (fill-ahead (t .count) _ _ i 0 l ∙ past-none n i l .0, fill-ahead (t .count) _ _ i 0 l ∙ past-none n i l .1)

@@ -1,7 +1,7 @@
 -- The dispatcher's state in a lent buffer, and the exported start and step of a camera's own loop.
 use mathlib.Core.List.{List, [], _∷_, _++_}
 use mathlib.Core.Bool.{cond, not}
-use Prim.Native.Nat.{ℕ, _+_, _*_, _/_, _%_, min}
+use Prim.Native.Nat.{ℕ, zero, suc, _+_, _*_, _/_, _%_, min}
 use lib.Dec.{eqb}
 use lib.ListN.{length, replicate}
 use Rattle.model.specs.Values.{Table, Refusal, Admission, Loaded, Turn, Given}
@@ -75,3 +75,8 @@ startExported file buffer = onFile file buffer (startTable buffer)
 
 abbrev pub stepExported : List ℕ → List ℕ → ℕ → Exported
 stepExported file buffer done = onFile file buffer (stepTable buffer done)
+
+-- A camera's loop: a start in a lent buffer, and then steps in it. The buffer that step n is handed; `done n` is what it is told.
+unfoldable pub handed : List ℕ → List ℕ → (ℕ → ℕ) → ℕ → List ℕ
+handed file lent done zero = startExported file lent .buffer
+handed file lent done (suc n) = stepExported file (handed file lent done n) (done n) .buffer

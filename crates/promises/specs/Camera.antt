@@ -1,13 +1,15 @@
--- DEMAND 1 at the exported start and step: one permitted result for every file and buffer, and a refusal changes no byte.
+-- DEMANDS 1 and 3 at the exported start and step: one permitted result for every file and buffer, a refusal changes no byte,
+-- and a camera's own loop in a lent buffer is the dispatcher's history, of which Demand3 speaks.
 use mathlib.Core.Path.{_≡_, refl, sym, _∙_}
 use mathlib.Core.Logic.{_⊎_, inl, inr}
 use mathlib.Core.List.{List}
 use mathlib.Core.Bool.{Bool, true, false, cond, not}
-use Prim.Native.Nat.{ℕ, _≤_, _<_}
+use Prim.Native.Nat.{ℕ, suc, _≤_, _<_}
 use native.Mathlib.Omega.{arith}
 use lib.Dec.{eqb, ltb}
 use lib.ListN.{length}
 use Rattle.model.specs.declared.Table.{Table}
+use Rattle.model.specs.declared.Measure.{Measure}
 use Rattle.model.specs.declared.Judgement.{Judgement}
 use Rattle.model.specs.declared.Admission.{Admission}
 use Rattle.model.specs.declared.Given.{Given}
@@ -17,9 +19,11 @@ use Rattle.model.specs.Tasks.{judged}
 use Rattle.model.specs.TableFile.{formOf}
 use Rattle.model.specs.Dispatcher.{State, Stepped, Started, firstStrange, lastStrange, ownerNow, turn, started, stepJudged, stepped}
 use Rattle.model.specs.Report.{Exported, refused}
-use Rattle.model.specs.StateBuffer.{stateIn, startWritten, stepWritten, startTable, stepTable, strangeBuffer, onForm, onFile, startExported, stepExported}
+use Rattle.model.specs.History.{stateAt, ownerAt}
+use Rattle.model.specs.StateBuffer.{bufferOf, stateIn, quiet, startWritten, stepWritten, startTable, stepTable, strangeBuffer, onForm, onFile, startExported, stepExported, handed}
 use Rattle.wellformed.specs.WellFormed.{well-formed}
 use Rattle.slots.specs.Choice.{choose-range}
+use Rattle.statebuffer.specs.Loop as loop
 
 -- Reading a file's form, starting and stepping in a buffer have one permitted result each, for every input.
 pub one-form : (file : List ℕ) (a b : Loaded) → a ≡ formOf file → b ≡ formOf file → a ≡ b
@@ -90,3 +94,15 @@ refused-camera-step file buffer done = file-keeps file buffer (stepTable buffer 
   where
     kept : (t : Table) → Keeps buffer (stepTable buffer done t)
     kept t = step-judged-keeps buffer t (stateIn buffer) (not (eqb done 0)) (judged t) refl
+
+-- A camera's loop with a well-formed table's file and any done reports: the start returns 0, and step n returns the owner of
+-- slot n and leaves the next state and what it told.
+module _ (file : List ℕ) (t : Table) (m : Measure) (formed : formOf file .admission ≡ Admission.Admitted) (held : formOf file .table ≡ t) (well : judged t ≡ Judgement.WellFormed m) (lent : List ℕ) (size : length lent ≡ stateBytes) (done : ℕ → ℕ) where
+  abbrev reports : ℕ → Bool
+  reports n = not (eqb (done n) 0)
+
+  pub camera-starts : startExported file lent ≡ record { number = 0; buffer = bufferOf (stateAt t reports 0) quiet }
+  camera-starts = loop.starts file t m formed held well lent size done
+
+  pub camera-steps : (n : ℕ) → stepExported file (handed file lent done n) (done n) ≡ record { number = ownerAt t reports n; buffer = bufferOf (stateAt t reports (suc n)) (turn t (stateAt t reports n) (reports n)) }
+  camera-steps = loop.steps file t m formed held well lent size done

@@ -20,7 +20,7 @@ four-put {at = at} first second third fourth =
     let three : at + 3 ≡ suc (suc (suc at)) = omega arith in
     record { bytes = rw (one, two, three, first, second, third, fourth); place = omega arith }
 
-bytes-append : (a b : List ℕ) → bytesOf (a ++ b) ≡ bytesOf a ++ bytesOf b
+pub bytes-append : (a b : List ℕ) → bytesOf (a ++ b) ≡ bytesOf a ++ bytesOf b
 unfolding bytesOf
 bytes-append [] b = refl
 bytes-append (x ∷ a) b = rw (bytes-append a b)

@@ -1,0 +1,86 @@
+-- A camera's own loop: a start and steps in one buffer are the dispatcher's history, for ever.
+use mathlib.Core.Path.{_≡_, refl, ap, _∙_}
+use mathlib.Core.Logic.{_⊎_, inl, inr}
+use mathlib.Core.List.{List}
+use mathlib.Core.Bool.{Bool, not}
+use Prim.Native.Nat.{ℕ, zero, suc, _<_, _≤_}
+use native.Mathlib.Decide.{decLt}
+use native.Mathlib.Omega.{arith}
+use borrow.Author.Tests.{eq-eqb}
+use lib.Dec.{eqb}
+use lib.ListN.{length, getD}
+use Rattle.model.specs.declared.Table.{Table}
+use Rattle.model.specs.declared.Measure.{Measure}
+use Rattle.model.specs.declared.Judgement.{Judgement}
+use Rattle.model.specs.declared.Admission.{Admission}
+use Rattle.model.specs.declared.Turn.{Turn}
+use Rattle.model.specs.Limits.{taskLimit, stateBytes}
+use Rattle.model.specs.Tasks.{judged}
+use Rattle.model.specs.TableFile.{formOf}
+use Rattle.model.specs.Dispatcher.{started, startOf, turn}
+use Rattle.model.specs.History.{stateAt, ownerAt}
+use Rattle.model.specs.Report.{Exported}
+use Rattle.model.specs.StateBuffer.{bufferOf, quiet, startTable, stepTable, onForm, onFile, startExported, stepExported, handed}
+use Rattle.wellformed.specs.Ranges.{Ranged}
+use Rattle.wellformed.specs.WellFormed.{well-formed}
+use Rattle.backlog.specs.Stepping.{Sound, sound, wait-le, past-none, never-refused}
+use Rattle.statebuffer.specs.RoundTrip.{wordLimit, Fits, state-back, buffer-size}
+
+-- Every state of a history fits its buffer.
+module _ (t : Table) (r : Ranged t) (done : ℕ → Bool) where
+  wait-small : (n i : ℕ) → getD (stateAt t done n .wait) i 0 < wordLimit
+  wait-small n i = elim (decLt i (t .count)) [
+    | yes l ↦ omega (arith, wait-le t r done n i (sound t r done n) l, r .each i l .offset-le, r .each i l .period-le)
+    | no l ↦ omega (arith, past-none t r done n i (omega arith) .0)
+  ]
+
+  left-small : (n i : ℕ) → getD (stateAt t done n .left) i 0 < wordLimit
+  left-small n i = elim (decLt i (t .count)) [
+    | yes l ↦ omega (arith, sound t r done n .at-most i l, r .each i l .cost-le, r .each i l .deadline-le, r .each i l .period-le)
+    | no l ↦ omega (arith, past-none t r done n i (omega arith) .1)
+  ]
+
+  last-small : (n : ℕ) → stateAt t done n .last < wordLimit
+  last-small n = elim (sound t r done n .ran) [ inl e ↦ omega arith | inr l ↦ omega (arith, r .few) ]
+
+  fits : (n : ℕ) → Fits (stateAt t done n)
+  fits n = record {
+    waits = sound t r done n .waits;
+    lefts = sound t r done n .lefts;
+    wait-fits = λ i l. wait-small n i;
+    left-fits = λ i l. left-small n i;
+    last-fits = last-small n;
+  }
+
+-- A file whose form is good and a buffer of the right length lead to the table.
+on-table : (file buffer : List ℕ) (t : Table) (go : Table → Exported) → formOf file .admission ≡ Admission.Admitted → formOf file .table ≡ t → length buffer ≡ stateBytes → onFile file buffer go ≡ go t
+on-table file buffer t go formed held size = rw (eq-eqb (length buffer) stateBytes size, formed, held)
+
+module _ (file : List ℕ) (t : Table) (m : Measure) (formed : formOf file .admission ≡ Admission.Admitted) (held : formOf file .table ≡ t) (well : judged t ≡ Judgement.WellFormed m) (lent : List ℕ) (size : length lent ≡ stateBytes) (done : ℕ → ℕ) where
+  r : Ranged t
+  r = well-formed t m well .ranged
+
+  -- What step n is told.
+  abbrev reports : ℕ → Bool
+  reports n = not (eqb (done n) 0)
+
+  pub starts : startExported file lent ≡ record { number = 0; buffer = bufferOf (stateAt t reports 0) quiet }
+  unfolding started stateAt
+  starts = on-table file lent t (startTable lent) formed held size ∙ rw well refl
+
+  abbrev told : ℕ → Turn
+  told n = turn t (stateAt t reports n) (reports n)
+
+  stepped-in : (n : ℕ) (buffer : List ℕ) (u : Turn) → buffer ≡ bufferOf (stateAt t reports n) u → stepExported file buffer (done n) ≡ record { number = told n .owner; buffer = bufferOf (stateAt t reports (suc n)) (told n) }
+  stepped-in n buffer u e =
+      on-table file buffer t (stepTable buffer (done n)) formed held (ap length e ∙ buffer-size _ u (fits t r reports n))
+      ∙ rw (e, state-back _ u (fits t r reports n), never-refused t r reports m well n)
+
+  holds : (n : ℕ) → (u : Turn) × (handed file lent done n ≡ bufferOf (stateAt t reports n) u)
+  unfolding handed
+  holds zero = (quiet, ap (λ (e : Exported). e .buffer) starts)
+  holds (suc n) = let (u, e) = holds n in (told n, ap (λ (x : Exported). x .buffer) (stepped-in n (handed file lent done n) u e))
+
+  pub steps : (n : ℕ) → stepExported file (handed file lent done n) (done n) ≡ record { number = ownerAt t reports n; buffer = bufferOf (stateAt t reports (suc n)) (turn t (stateAt t reports n) (reports n)) }
+  unfolding turn
+  steps n = let (u, e) = holds n in stepped-in n (handed file lent done n) u e

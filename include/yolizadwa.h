@@ -1,0 +1,139 @@
+/*
+ * Yolizadwa for C and C++: judge a table of tasks, then give out time slot by slot.
+ *
+ * Three calls, in the static library that `rt staticlib yolizadwa` writes for x86-64:
+ *
+ *   yolizadwa_check   judges a table file and writes its report as text
+ *   yolizadwa_start   makes the dispatcher's first state for a table file
+ *   yolizadwa_step    gives out one slot and makes the next state
+ *
+ * What holds for all three:
+ *   - They keep nothing between calls, allocate nothing, and may run in several threads at once on different buffers.
+ *   - Of the C library they need memcpy and memset alone. The host tests hold the stack of each call to 16 KiB.
+ *   - A result below 65,536 is an answer. Any other is a refusal: 65,536 x number + place. A refusal changes no byte.
+ *   - No pointer may be NULL, not even with length 0. The file and the buffer must not overlap.
+ *   - The file is read where it lies and never written.
+ *   - Any bytes may be handed over as a file or a state: what is wrong with them comes back as a refusal.
+ */
+#ifndef YOLIZADWA_H
+#define YOLIZADWA_H
+
+#include <stddef.h>
+#include <stdint.h>
+
+#ifdef __cplusplus
+extern "C" {
+#endif
+
+#define YOLIZADWA_TASKS 16         /* the most tasks a table may have; as a task number: none */
+#define YOLIZADWA_REPORT_BYTES 512 /* the least length of a report buffer; no report is longer */
+#define YOLIZADWA_STATE_BYTES 144  /* the only length of a state buffer */
+#define YOLIZADWA_LONGEST_FILE 282 /* bytes of the longest file that is not refused */
+
+/*
+ * A table file is a row of records; a record is one byte of kind and a body. Numbers are little-endian.
+ *
+ *   kind 1, budget   8 bytes: how many slots the test may look at. First in the file, once.
+ *   kind 2, task    16 bytes: offset, cost, deadline, period, four bytes each. 0 to 16 times; numbered from 0.
+ *   kind 3, end      0 bytes. Nothing comes after it.
+ */
+enum yolizadwa_kind {
+    YOLIZADWA_KIND_BUDGET = 1,
+    YOLIZADWA_KIND_TASK = 2,
+    YOLIZADWA_KIND_END = 3
+};
+
+/*
+ * What a refusal's number says, and what its place is. If several hold, the first of this order is told: the buffer
+ * (30 or 50), the file's first fault (20 to 26), no task (1), then task by task 3, 4, 5, 6, then 7, then 8.
+ */
+enum yolizadwa_refusal {
+    YOLIZADWA_NO_TASK = 1,          /* the table has no task; place 0 */
+    YOLIZADWA_TOO_MANY_TASKS = 2,   /* more than 16 tasks; a file with so many is refused with 25 */
+    YOLIZADWA_BAD_PERIOD = 3,       /* a period outside 1 to 60,000; place: the task */
+    YOLIZADWA_BAD_DEADLINE = 4,     /* a deadline outside 1 to the period; place: the task */
+    YOLIZADWA_BAD_COST = 5,         /* a cost outside 1 to the deadline; place: the task */
+    YOLIZADWA_BAD_OFFSET = 6,       /* an offset above 60,000; place: the task */
+    YOLIZADWA_LONG_ROUND = 7,       /* the periods' least common multiple is above 1,000,000,000; place 0 */
+    YOLIZADWA_STRANGE_STATE = 8,    /* the state is not one of this table; place: the task, 16: the last-run number */
+    YOLIZADWA_CUT_SHORT = 20,       /* the file ends inside a record; place: where the record begins */
+    YOLIZADWA_UNKNOWN_KIND = 21,    /* a record of no known kind; place: where it begins */
+    YOLIZADWA_NO_BUDGET_FIRST = 22, /* the first record is no budget, or the file is empty; place 0 */
+    YOLIZADWA_SECOND_BUDGET = 23,   /* a second budget; place: where it begins */
+    YOLIZADWA_BYTES_AFTER_END = 24, /* bytes after the end record; place: the first of them */
+    YOLIZADWA_SEVENTEENTH_TASK = 25,/* a seventeenth task; place: where it begins */
+    YOLIZADWA_NO_END = 26,          /* the file ends after a whole record, without an end record; place: its length */
+    YOLIZADWA_SHORT_REPORT = 30,    /* the report buffer has fewer than 512 bytes; place: its length */
+    YOLIZADWA_STATE_LENGTH = 50     /* the state buffer has not 144 bytes; place: its length, 65,535 if it is longer */
+};
+
+/* Whether a result is a refusal, and then its number and its place. */
+static inline int yolizadwa_refused(uint64_t result) { return result >= 65536; }
+static inline uint32_t yolizadwa_number(uint64_t result) { return (uint32_t)(result / 65536); }
+static inline uint32_t yolizadwa_place(uint64_t result) { return (uint32_t)(result % 65536); }
+
+/*
+ * Judges a table file. The result is the length of the report, 1 to 512. The report stands at the beginning of the
+ * buffer, in lines that each end with one line feed and with no zero byte at its end; the bytes behind it stay as they
+ * were.
+ *
+ *   tasks 2            how many tasks
+ *   load 11/15         slots asked for in every round / slots of the round (least common multiple of the periods)
+ *   horizon 38         slots that decide for ever: the largest offset and two rounds
+ *   verdict passes     or: overload, late, undecided
+ *   settled 38         slots up to which the answer is known
+ *   worst 0 7          passes only, one line for each task: no job of task 0 ever takes longer than 7 slots
+ *   empty 2            passes only: the first slot that nobody needs, or `empty none`
+ *
+ * Late has in place of the last two `interval 8 15 demand 8`: between 8 and 15 jobs ask for 8 slots. Undecided: the
+ * budget ended before the answer was known; `settled` is the budget. The time needed grows with `settled`, which is at
+ * most the budget and at most 2,000,060,000.
+ *
+ * Refusals: 30; 20 to 26; 1 and 3 to 7.
+ */
+uint64_t yolizadwa_check(const uint8_t *file, size_t file_len, uint8_t *report, size_t report_len);
+
+/*
+ * The dispatcher's state: 144 bytes, 36 little-endian words of 32 bits each. On x86-64 this struct is that layout; hand
+ * over (uint8_t *)&state and sizeof state. It needs no alignment.
+ */
+struct yolizadwa_state {
+    uint32_t wait[YOLIZADWA_TASKS]; /* slots until the task's next release */
+    uint32_t left[YOLIZADWA_TASKS]; /* slots that its open job may still use; 0: no job is open */
+    uint32_t last;                  /* the task that had the last slot; 16: none */
+    uint32_t late;                  /* bit i: task i's job was closed late in the last step */
+    uint32_t closed;                /* how many jobs were closed late in the last step */
+    uint32_t lowest;                /* the lowest task among them; 16: none */
+};
+
+/*
+ * Writes the first state of the table: waits are the offsets, no job is open, no task ran. Any table that is not refused
+ * may be started, also one that does not pass. The budget must stand in the file and plays no part.
+ *
+ * The result is 0. Refusals: 50; 20 to 26; 1 and 3 to 7.
+ */
+uint64_t yolizadwa_start(const uint8_t *file, size_t file_len, uint8_t *state, size_t state_len);
+
+/*
+ * Gives out one slot: takes the state and writes the next one in its place. The result is the task that has this slot, 0
+ * to 15, or 16 for none. In this order:
+ *
+ *   1. If `done` is not 0, the open job of the task that ran last is finished; if there is none, `done` means nothing.
+ *   2. A job at its deadline is closed as late: see late, closed and lowest of the new state.
+ *   3. A task whose wait is 0 has a job released.
+ *   4. The open job with the earliest deadline has the slot, of equal ones that of the lowest task.
+ *
+ * A step reads wait and left of the table's tasks, and last. It does not read late, closed and lowest. What stands in
+ * wait and left behind the last task of the table stays.
+ *
+ * Hand over the file that the state was started with. Refusals: 50; 20 to 26; 1 and 3 to 7; 8 if the state cannot be one
+ * of this table: a wait above both offset and period; an open job with more slots left than its cost, or with a wait
+ * below period - deadline or above period - 1; a last that is neither 16 nor a task.
+ */
+uint64_t yolizadwa_step(const uint8_t *file, size_t file_len, uint8_t *state, size_t state_len, uint32_t done);
+
+#ifdef __cplusplus
+}
+#endif
+
+#endif

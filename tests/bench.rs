@@ -1,0 +1,102 @@
+//! Puts requests to the library and holds what comes back to what is permitted.
+
+use crate::calls::{Call, Calls, Reply, Request};
+use crate::reference;
+
+const BATCH: usize = 2_000;
+const SHOWN: u64 = 5;
+
+/// The result and the buffer that a request must give.
+pub type Permitted = (u64, Vec<u8>);
+
+pub struct Bench {
+    pub calls: Calls,
+    queue: Vec<(Request, Permitted)>,
+    group: (u64, u64),
+    total: (u64, u64),
+    asked: [u64; 3],
+}
+
+impl Bench {
+    pub fn new() -> Bench {
+        Bench { calls: Calls::open(), queue: Vec::new(), group: (0, 0), total: (0, 0), asked: [0; 3] }
+    }
+
+    pub fn count(&mut self, good: bool, what: impl FnOnce() -> String) {
+        if good {
+            self.group.0 += 1;
+            return;
+        }
+        self.group.1 += 1;
+        if self.group.1 <= SHOWN {
+            println!("FAILED: {}", what());
+        }
+    }
+
+    /// The reference says what is permitted.
+    pub fn ask(&mut self, request: Request) {
+        let permitted = reference::answer(&request);
+        self.ask_knowing(request, permitted);
+    }
+
+    pub fn ask_knowing(&mut self, request: Request, permitted: Permitted) {
+        self.queue.push((request, permitted));
+        if self.queue.len() == BATCH {
+            self.flush();
+        }
+    }
+
+    pub fn answer(&mut self, requests: &[Request]) -> Vec<Reply> {
+        for request in requests {
+            self.asked[request.call as usize] += 1;
+        }
+        self.calls.answer(requests)
+    }
+
+    fn flush(&mut self) {
+        if self.queue.is_empty() {
+            return;
+        }
+        let (requests, permitted): (Vec<Request>, Vec<Permitted>) = self.queue.drain(..).unzip();
+        let replies = self.answer(&requests);
+        for ((request, permitted), reply) in requests.iter().zip(permitted).zip(replies) {
+            let good = reply.intact && reply.result == permitted.0 && reply.buffer == permitted.1;
+            self.count(good, || story(request, &permitted, &reply));
+        }
+    }
+
+    pub fn end_group(&mut self, name: &str) {
+        self.flush();
+        let (passed, failed) = std::mem::take(&mut self.group);
+        println!("{name}: {passed} passed, {failed} failed");
+        self.total = (self.total.0 + passed, self.total.1 + failed);
+    }
+
+    pub fn end(self) -> bool {
+        let asked = |call: Call| self.asked[call as usize];
+        println!("calls made: check {}, start {}, step {}", asked(Call::Check), asked(Call::Start), asked(Call::Step));
+        println!("host tests: {} passed, {} failed", self.total.0, self.total.1);
+        self.total.1 == 0
+    }
+}
+
+fn hex(bytes: &[u8]) -> String {
+    bytes.iter().map(|byte| format!("{byte:02x}")).collect()
+}
+
+fn story(request: &Request, permitted: &Permitted, reply: &Reply) -> String {
+    let place = (0..reply.buffer.len()).find(|&at| reply.buffer[at] != permitted.1[at]);
+    format!(
+        "{:?} done {} file {} buffer of {} {}\n  result {} permitted {}, first other byte {:?}, intact {}\n  got {:?}",
+        request.call,
+        request.done,
+        hex(&request.file),
+        request.buffer.len(),
+        hex(&request.buffer[..request.buffer.len().min(reference::STATE_BYTES)]),
+        reply.result,
+        permitted.0,
+        place,
+        reply.intact,
+        String::from_utf8_lossy(&reply.buffer[..reply.buffer.len().min(200)])
+    )
+}

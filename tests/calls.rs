@@ -1,0 +1,163 @@
+//! The exported calls: linked on x86-64, through a bridge program under an emulator elsewhere.
+
+use crate::reference::{REPORT_BYTES, STATE_BYTES};
+
+#[derive(Clone, Copy, PartialEq, Eq, Debug)]
+pub enum Call {
+    Check,
+    Start,
+    Step,
+}
+
+#[derive(Clone, Debug)]
+pub struct Request {
+    pub call: Call,
+    pub file: Vec<u8>,
+    pub buffer: Vec<u8>,
+    pub done: u32,
+}
+
+impl Request {
+    pub fn check(file: Vec<u8>) -> Request {
+        Request { call: Call::Check, file, buffer: vec![0xE7; REPORT_BYTES + 8], done: 0 }
+    }
+
+    pub fn start(file: Vec<u8>) -> Request {
+        Request { call: Call::Start, file, buffer: vec![0xE7; STATE_BYTES], done: 0 }
+    }
+
+    pub fn step(file: Vec<u8>, state: Vec<u8>, done: u32) -> Request {
+        Request { call: Call::Step, file, buffer: state, done }
+    }
+}
+
+pub struct Reply {
+    pub result: u64,
+    /// Nothing but the buffer has changed.
+    pub intact: bool,
+    pub buffer: Vec<u8>,
+}
+
+pub use way::Calls;
+
+#[cfg(target_arch = "x86_64")]
+mod way {
+    use super::{Call, Reply, Request};
+
+    extern "C" {
+        fn yolizadwa_check(file: *const u8, file_len: usize, report: *mut u8, report_len: usize) -> u64;
+        fn yolizadwa_start(file: *const u8, file_len: usize, state: *mut u8, state_len: usize) -> u64;
+        fn yolizadwa_step(file: *const u8, file_len: usize, state: *mut u8, state_len: usize, done: u32) -> u64;
+        fn stack_depth(call: u32, file: *const u8, file_len: usize, buffer: *mut u8, buffer_len: usize, done: u32) -> u64;
+    }
+
+    /// Odd, so that file and buffer lie at no even address.
+    const GUARD: usize = 61;
+    const GUARD_BYTE: u8 = 0xC3;
+
+    pub struct Calls;
+
+    impl Calls {
+        pub fn open() -> Calls {
+            Calls
+        }
+
+        pub fn answer(&mut self, requests: &[Request]) -> Vec<Reply> {
+            requests.iter().map(answer_one).collect()
+        }
+
+        pub fn depth(&mut self, request: &Request) -> u64 {
+            let (file, mut buffer) = (guard(&request.file), guard(&request.buffer));
+            let (file_len, buffer_len) = (request.file.len(), request.buffer.len());
+            let (from, into) = (file[GUARD..].as_ptr(), buffer[GUARD..].as_mut_ptr());
+            unsafe { stack_depth(request.call as u32, from, file_len, into, buffer_len, request.done) }
+        }
+    }
+
+    fn guard(bytes: &[u8]) -> Vec<u8> {
+        [&[GUARD_BYTE; GUARD][..], bytes, &[GUARD_BYTE; GUARD][..]].concat()
+    }
+
+    fn guards_hold(room: &[u8]) -> bool {
+        room[..GUARD].iter().chain(&room[room.len() - GUARD..]).all(|&byte| byte == GUARD_BYTE)
+    }
+
+    fn answer_one(request: &Request) -> Reply {
+        let (file, mut buffer) = (guard(&request.file), guard(&request.buffer));
+        let (file_len, buffer_len) = (request.file.len(), request.buffer.len());
+        let (from, into) = (file[GUARD..].as_ptr(), buffer[GUARD..].as_mut_ptr());
+        let result = unsafe {
+            match request.call {
+                Call::Check => yolizadwa_check(from, file_len, into, buffer_len),
+                Call::Start => yolizadwa_start(from, file_len, into, buffer_len),
+                Call::Step => yolizadwa_step(from, file_len, into, buffer_len, request.done),
+            }
+        };
+        let intact = file == guard(&request.file) && guards_hold(&buffer);
+        Reply { result, intact, buffer: buffer[GUARD..GUARD + buffer_len].to_vec() }
+    }
+}
+
+#[cfg(not(target_arch = "x86_64"))]
+mod way {
+    use super::{Reply, Request};
+    use std::io::{Read, Write};
+    use std::process::{ChildStdin, ChildStdout, Stdio};
+
+    pub struct Calls {
+        input: ChildStdin,
+        output: ChildStdout,
+    }
+
+    impl Calls {
+        pub fn open() -> Calls {
+            let mut command = crate::program("bridge");
+            let mut child = command.stdin(Stdio::piped()).stdout(Stdio::piped()).spawn().expect("the bridge starts");
+            Calls { input: child.stdin.take().unwrap(), output: child.stdout.take().unwrap() }
+        }
+
+        pub fn answer(&mut self, requests: &[Request]) -> Vec<Reply> {
+            self.exchange(requests, false)
+        }
+
+        pub fn depth(&mut self, request: &Request) -> u64 {
+            self.exchange(std::slice::from_ref(request), true)[0].result
+        }
+
+        /// The bridge reads a whole batch before it writes, so neither side waits for the other.
+        fn exchange(&mut self, requests: &[Request], measure: bool) -> Vec<Reply> {
+            let mut batch = Vec::new();
+            for request in requests {
+                put_request(&mut batch, request, measure);
+            }
+            self.input.write_all(&(batch.len() as u32).to_le_bytes()).expect("the bridge listens");
+            self.input.write_all(&batch).expect("the bridge listens");
+            self.input.flush().expect("the bridge listens");
+            let replies_len = requests.iter().map(|request| 9 + request.buffer.len()).sum();
+            let mut replies = vec![0; replies_len];
+            self.output.read_exact(&mut replies).expect("the bridge answers");
+            split_replies(&replies, requests)
+        }
+    }
+
+    fn put_request(batch: &mut Vec<u8>, request: &Request, measure: bool) {
+        let lengths = [request.file.len() as u32, request.buffer.len() as u32];
+        for word in [request.call as u32, measure as u32, request.done, lengths[0], lengths[1]] {
+            batch.extend(word.to_le_bytes());
+        }
+        batch.extend(&request.file);
+        batch.extend(&request.buffer);
+    }
+
+    fn split_replies(mut bytes: &[u8], requests: &[Request]) -> Vec<Reply> {
+        let mut replies = Vec::new();
+        for request in requests {
+            let (head, rest) = bytes.split_at(9);
+            let (buffer, rest) = rest.split_at(request.buffer.len());
+            let result = u64::from_le_bytes(head[..8].try_into().unwrap());
+            replies.push(Reply { result, intact: head[8] == 1, buffer: buffer.to_vec() });
+            bytes = rest;
+        }
+        replies
+    }
+}

@@ -1,0 +1,159 @@
+//! What document 01 gives by the letter: tables and reports, dispatcher runs, refusals with their places.
+
+use crate::bench::Bench;
+use crate::calls::Request;
+use crate::files::ask_all;
+use crate::inputs::{file_of, table_of};
+use crate::reference::{self, State, Task, NONE};
+
+type Rows = &'static [(u32, u32, u32, u32)];
+
+const A: Rows = &[(0, 1, 1, 1)];
+pub const B: Rows = &[(8, 5, 7, 15), (0, 2, 2, 5)];
+const C: Rows = &[(8, 6, 7, 15), (0, 2, 2, 5)];
+const D: Rows = &[(0, 5, 7, 15), (0, 2, 2, 5)];
+const E: Rows = &[(1, 1, 1, 2), (0, 1, 1, 2)];
+const F: Rows = &[(0, 1, 1, 2), (0, 1, 1, 2)];
+const G: Rows = &[(0, 2, 4, 4), (0, 2, 4, 4)];
+const H: Rows = &[(4, 1, 1, 2), (0, 2, 3, 4)];
+const I: Rows = &[(0, 3, 5, 5), (2, 3, 5, 5)];
+pub const J: Rows = &[(4, 1, 1, 2)];
+const LONGEST: Rows = &[(0, 1, 31_622, 31_622), (0, 1, 31_623, 31_623)];
+pub const TOO_LONG: Rows = &[(0, 1, 31_623, 31_623), (0, 1, 31_624, 31_624)];
+
+/// Tables with a budget and the report they give.
+const REPORTS: &[(Rows, u64, &str)] = &[
+    (A, 1_000, "tasks 1\nload 1/1\nhorizon 2\nverdict passes\nsettled 2\nworst 0 1\nempty none\n"),
+    (B, 1_000, "tasks 2\nload 11/15\nhorizon 38\nverdict passes\nsettled 38\nworst 0 7\nworst 1 2\nempty 2\n"),
+    (B, 38, "tasks 2\nload 11/15\nhorizon 38\nverdict passes\nsettled 38\nworst 0 7\nworst 1 2\nempty 2\n"),
+    (B, 37, "tasks 2\nload 11/15\nhorizon 38\nverdict undecided\nsettled 37\n"),
+    (C, 1_000, "tasks 2\nload 12/15\nhorizon 38\nverdict late\nsettled 15\ninterval 8 15 demand 8\n"),
+    (C, 15, "tasks 2\nload 12/15\nhorizon 38\nverdict late\nsettled 15\ninterval 8 15 demand 8\n"),
+    (C, 14, "tasks 2\nload 12/15\nhorizon 38\nverdict undecided\nsettled 14\n"),
+    (D, 1_000, "tasks 2\nload 11/15\nhorizon 30\nverdict late\nsettled 7\ninterval 0 7 demand 9\n"),
+    (E, 1_000, "tasks 2\nload 2/2\nhorizon 5\nverdict passes\nsettled 5\nworst 0 1\nworst 1 1\nempty none\n"),
+    (F, 1_000, "tasks 2\nload 2/2\nhorizon 4\nverdict late\nsettled 1\ninterval 0 1 demand 2\n"),
+    (G, 1_000, "tasks 2\nload 4/4\nhorizon 8\nverdict passes\nsettled 8\nworst 0 2\nworst 1 4\nempty none\n"),
+    (H, 1_000, "tasks 2\nload 4/4\nhorizon 12\nverdict late\nsettled 7\ninterval 4 7 demand 4\n"),
+    (I, 1_000, "tasks 2\nload 6/5\nhorizon 12\nverdict overload\nsettled 0\n"),
+    (I, 0, "tasks 2\nload 6/5\nhorizon 12\nverdict overload\nsettled 0\n"),
+    (J, 1_000, "tasks 1\nload 1/2\nhorizon 8\nverdict passes\nsettled 8\nworst 0 1\nempty 0\n"),
+    (J, u64::MAX, "tasks 1\nload 1/2\nhorizon 8\nverdict passes\nsettled 8\nworst 0 1\nempty 0\n"),
+    (LONGEST, 10, "tasks 2\nload 63245/999982506\nhorizon 1999965012\nverdict undecided\nsettled 10\n"),
+];
+
+fn report_is(bench: &mut Bench, rows: Rows, budget: u64, report: &str) {
+    let request = Request::check(file_of(budget, &table_of(rows)));
+    let mut buffer = request.buffer.clone();
+    buffer[..report.len()].copy_from_slice(report.as_bytes());
+    bench.ask_knowing(request, (report.len() as u64, buffer));
+}
+
+fn refused_with(bench: &mut Bench, request: Request, number: u64, place: u64) {
+    let buffer = request.buffer.clone();
+    bench.ask_knowing(request, (65_536 * number + place, buffer));
+}
+
+pub fn tables(bench: &mut Bench) {
+    for &(rows, budget, report) in REPORTS {
+        report_is(bench, rows, budget, report);
+        ask_all(bench, &file_of(budget, &table_of(rows)));
+    }
+    bench.end_group("document 01's tables");
+}
+
+/// A row of steps from the start, each with its done report and what it must give: owner; late, closed, lowest.
+fn steps_are(bench: &mut Bench, rows: Rows, steps: &[(u32, u32, [u32; 3])]) {
+    let file = file_of(0, &table_of(rows));
+    let mut buffer = bench.answer(&[Request::start(file.clone())])[0].buffer.clone();
+    for &(done, owner, late) in steps {
+        let reply = bench.answer(&[Request::step(file.clone(), buffer, done)]).remove(0);
+        let state = State::from_bytes(&reply.buffer);
+        let got = (reply.result, state.last, [state.late, state.closed, state.lowest]);
+        let good = reply.intact && got == (u64::from(owner), owner, late);
+        bench.count(good, || format!("{rows:?}: {got:?}, not {owner} {late:?}"));
+        buffer = reply.buffer;
+    }
+}
+
+pub fn steps(bench: &mut Bench) {
+    let none = [0, 0, NONE];
+    steps_are(bench, G, &[(0, 0, none), (1, 1, none), (0, 1, none), (0, NONE, none), (0, 0, none)]);
+    steps_are(bench, F, &[(0, 0, none), (0, NONE, [2, 1, 1])]);
+    bench.end_group("document 01's dispatcher");
+}
+
+/// Files that are refused, with number and place.
+fn refused_files() -> Vec<(Vec<u8>, u64, u64)> {
+    let b = file_of(38, &table_of(B));
+    let seventeen = file_of(1, &[Task { offset: 0, cost: 1, deadline: 17, period: 17 }; 17]);
+    let second = |row: (u32, u32, u32, u32)| file_of(9, &table_of(&[(0, 1, 2, 3), row]));
+    vec![
+        (file_of(9, &[]), 1, 0),
+        (second((0, 1, 1, 0)), 3, 1),
+        (second((0, 1, 1, 60_001)), 3, 1),
+        (second((60_001, 9, 9, 0)), 3, 1),
+        (second((0, 1, 0, 5)), 4, 1),
+        (second((0, 1, 6, 5)), 4, 1),
+        (second((60_001, 7, 6, 5)), 4, 1),
+        (second((0, 0, 4, 5)), 5, 1),
+        (second((0, 5, 4, 5)), 5, 1),
+        (second((60_001, 5, 4, 5)), 5, 1),
+        (second((60_001, 1, 4, 5)), 6, 1),
+        (file_of(9, &table_of(TOO_LONG)), 7, 0),
+        (b[..8].to_vec(), 20, 0),
+        (b[..25].to_vec(), 20, 9),
+        ([&b[..9], &[4][..]].concat(), 21, 9),
+        (vec![9], 21, 0),
+        (vec![], 22, 0),
+        (vec![3], 22, 0),
+        (vec![2], 22, 0),
+        ([&b[..26], &[1][..]].concat(), 23, 26),
+        ([&b[..], &[0][..]].concat(), 24, 44),
+        (seventeen[..282].to_vec(), 25, 281),
+        (seventeen, 25, 281),
+        (b[..9].to_vec(), 26, 9),
+        (b[..43].to_vec(), 26, 43),
+    ]
+}
+
+/// States that are one beyond a border of rule 8 for table b, (8,5,7,15) and (0,2,2,5), with the place.
+fn strange_states() -> Vec<(State, u64)> {
+    let changes: [(&dyn Fn(&mut State), u64); 9] = [
+        (&|state| state.wait[0] = 16, 0),
+        (&|state| state.wait[1] = 6, 1),
+        (&|state| (state.left[0], state.wait[0]) = (6, 10), 0),
+        (&|state| (state.left[0], state.wait[0]) = (1, 7), 0),
+        (&|state| (state.left[0], state.wait[0]) = (1, 15), 0),
+        (&|state| (state.left[1], state.wait[1]) = (2, 2), 1),
+        (&|state| state.last = 2, 16),
+        (&|state| state.last = 17, 16),
+        (&|state| (state.last, state.wait[1]) = (u32::MAX, 6), 1),
+    ];
+    let changed = |change: &dyn Fn(&mut State)| {
+        let mut state = reference::start(&table_of(B));
+        change(&mut state);
+        state
+    };
+    changes.iter().map(|(change, place)| (changed(change), *place)).collect()
+}
+
+pub fn refusals(bench: &mut Bench) {
+    let b = file_of(38, &table_of(B));
+    for (file, number, place) in refused_files() {
+        refused_with(bench, Request::check(file.clone()), number, place);
+        refused_with(bench, Request::start(file.clone()), number, place);
+        refused_with(bench, Request::step(file, vec![0xE7; 144], 0), number, place);
+    }
+    for (state, place) in strange_states() {
+        refused_with(bench, Request::step(b.clone(), state.to_bytes(), 0), 8, place);
+    }
+    for length in [0, 511] {
+        refused_with(bench, Request { buffer: vec![0xE7; length], ..Request::check(b.clone()) }, 30, length as u64);
+    }
+    for (length, place) in [(0, 0), (143, 143), (145, 145), (65_535, 65_535), (65_536, 65_535), (70_000, 65_535)] {
+        refused_with(bench, Request { buffer: vec![0xE7; length], ..Request::start(b.clone()) }, 50, place);
+        refused_with(bench, Request::step(vec![9], vec![0xE7; length], 0), 50, place);
+    }
+    bench.end_group("every refusal, number and place");
+}

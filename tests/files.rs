@@ -1,0 +1,110 @@
+//! Damaged files and buffers of every length.
+
+use crate::bench::Bench;
+use crate::calls::{Call, Request};
+use crate::document::{B, J, TOO_LONG};
+use crate::inputs::*;
+use crate::reference::{self, Task, TASKS};
+
+/// All three calls on one file, the step from the table's start where it has one.
+pub fn ask_all(bench: &mut Bench, file: &[u8]) {
+    let tasks = reference::read_file(file).map_or(Vec::new(), |(_, tasks)| tasks);
+    if affordable(file) {
+        bench.ask(Request::check(file.to_vec()));
+    }
+    bench.ask(Request::start(file.to_vec()));
+    bench.ask(Request::step(file.to_vec(), reference::start(&tasks).to_bytes(), 1));
+}
+
+fn sixteen(rng: &mut Rng) -> Vec<Task> {
+    (0..TASKS).map(|_| Task { offset: rng.range(0, 40), cost: 1, deadline: rng.range(10, 20), period: 20 }).collect()
+}
+
+fn every_cut(bench: &mut Bench, file: &[u8]) {
+    for length in 0..=file.len() {
+        ask_all(bench, &file[..length]);
+    }
+}
+
+fn every_byte_changed(bench: &mut Bench, file: &[u8]) {
+    for place in 0..file.len() {
+        for change in [1, 2, 4, 8, 16, 32, 64, 128, 255] {
+            let mut changed = file.to_vec();
+            changed[place] ^= change;
+            ask_all(bench, &changed);
+        }
+    }
+}
+
+fn every_kind(bench: &mut Bench, file: &[u8], tasks: usize) {
+    for place in record_places(tasks) {
+        for kind in 0..=255 {
+            let mut changed = file.to_vec();
+            changed[place] = kind;
+            ask_all(bench, &changed);
+        }
+    }
+}
+
+fn spare_record() -> Vec<u8> {
+    task_record(&Task { offset: 0, cost: 1, deadline: 20, period: 20 })
+}
+
+/// A record, or its first bytes, put in before every other one.
+fn every_insertion(bench: &mut Bench, file: &[u8], tasks: usize) {
+    let task = spare_record();
+    for place in record_places(tasks) {
+        for record in [&task[..], &task[..5], &budget_record(9), &[1], &[3], &[0]] {
+            ask_all(bench, &[&file[..place], record, &file[place..]].concat());
+        }
+    }
+}
+
+fn every_tail(bench: &mut Bench, file: &[u8]) {
+    for byte in 0..=255 {
+        ask_all(bench, &[file, &[byte]].concat());
+        ask_all(bench, &[file, &[byte; 40]].concat());
+    }
+    let (task, open) = (spare_record(), &file[..file.len() - 1]);
+    for length in 0..=task.len() {
+        ask_all(bench, &[open, &task[..length]].concat());
+        ask_all(bench, &[open, &task[..length], &[3]].concat());
+    }
+}
+
+pub fn damaged_one_by_one(bench: &mut Bench, rng: &mut Rng) {
+    for tasks in [table_of(B), table_of(J), sixteen(rng)] {
+        let file = file_of(1_000, &tasks);
+        every_cut(bench, &file);
+        every_byte_changed(bench, &file);
+        every_kind(bench, &file, tasks.len());
+        every_insertion(bench, &file, tasks.len());
+        every_tail(bench, &file);
+    }
+    ask_all(bench, &[0; 70_000]);
+    ask_all(bench, &[&file_of(1_000, &table_of(B))[..], &[3; 70_000]].concat());
+    bench.end_group("files damaged one by one");
+}
+
+pub fn damaged_at_random(bench: &mut Bench, rng: &mut Rng, count: u64) {
+    for _ in 0..count {
+        let mut file = file_of(rng.below(1_000), &near_border(rng));
+        damage(rng, &mut file);
+        ask_all(bench, &file);
+    }
+    bench.end_group("files damaged at random");
+}
+
+pub fn buffers(bench: &mut Bench, rng: &mut Rng) {
+    let b = file_of(38, &table_of(B));
+    let files = [b.clone(), b[..20].to_vec(), Vec::new(), file_of(9, &[]), file_of(9, &table_of(TOO_LONG))];
+    let lengths = (0..=1_100).chain([4_096, 65_534, 65_535, 65_536, 65_537, 65_680, 70_000, 131_072]);
+    for length in lengths {
+        for call in [Call::Check, Call::Start, Call::Step] {
+            let file = rng.pick(&[0, 0, 1, 2, 3, 4]);
+            let buffer = (0..length).map(|_| rng.below(3) as u8).collect();
+            bench.ask(Request { call, file: files[file as usize].clone(), buffer, done: 0 });
+        }
+    }
+    bench.end_group("buffers of every length");
+}

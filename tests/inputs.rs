@@ -1,0 +1,338 @@
+//! Seeded inputs: tables near the border of what passes, damaged files, odd states.
+
+use crate::reference::{self, State, Task, Verdict, NONE, TASKS};
+
+/// splitmix64.
+pub struct Rng(pub u64);
+
+impl Rng {
+    pub fn next(&mut self) -> u64 {
+        self.0 = self.0.wrapping_add(0x9E37_79B9_7F4A_7C15);
+        let mut mixed = self.0;
+        mixed = (mixed ^ (mixed >> 30)).wrapping_mul(0xBF58_476D_1CE4_E5B9);
+        mixed = (mixed ^ (mixed >> 27)).wrapping_mul(0x94D0_49BB_1331_11EB);
+        mixed ^ (mixed >> 31)
+    }
+
+    pub fn below(&mut self, bound: u64) -> u64 {
+        self.next() % bound
+    }
+
+    /// From low to high, both included.
+    pub fn range(&mut self, low: u32, high: u32) -> u32 {
+        low + self.below(u64::from(high - low) + 1) as u32
+    }
+
+    pub fn chance(&mut self, percent: u64) -> bool {
+        self.below(100) < percent
+    }
+
+    pub fn pick<T: Copy>(&mut self, from: &[T]) -> T {
+        from[self.below(from.len() as u64) as usize]
+    }
+}
+
+// Files.
+
+pub fn task_record(task: &Task) -> Vec<u8> {
+    let words = [task.offset, task.cost, task.deadline, task.period];
+    std::iter::once(2).chain(words.iter().flat_map(|word| word.to_le_bytes())).collect()
+}
+
+pub fn budget_record(budget: u64) -> Vec<u8> {
+    std::iter::once(1).chain(budget.to_le_bytes()).collect()
+}
+
+pub fn file_of(budget: u64, tasks: &[Task]) -> Vec<u8> {
+    let mut file = budget_record(budget);
+    file.extend(tasks.iter().flat_map(task_record));
+    file.push(3);
+    file
+}
+
+pub fn table_of(rows: &[(u32, u32, u32, u32)]) -> Vec<Task> {
+    rows.iter().map(|&(offset, cost, deadline, period)| Task { offset, cost, deadline, period }).collect()
+}
+
+/// The places where records begin in a good file of so many tasks: the budget, the tasks, the end.
+pub fn record_places(tasks: usize) -> Vec<usize> {
+    std::iter::once(0).chain((0..=tasks).map(|task| 9 + 17 * task)).collect()
+}
+
+/// Whether a check of the file needs no more slots than a test can wait for.
+pub fn affordable(file: &[u8]) -> bool {
+    const SLOTS: u64 = 300_000;
+    match reference::read_file(file) {
+        Ok((budget, tasks)) if reference::judge(&tasks).is_ok() => {
+            let round = reference::round(&tasks).unwrap();
+            budget.min(reference::horizon(&tasks, round)) <= SLOTS || reference::asked_in_round(&tasks, round) > round
+        }
+        _ => true,
+    }
+}
+
+// Tables.
+
+fn pick_round(rng: &mut Rng) -> u32 {
+    match rng.below(100) {
+        0..=49 => rng.pick(&[1, 2, 3, 4, 5, 6, 8, 9, 10, 12, 14, 15, 16, 18, 20, 24]),
+        50..=89 => rng.pick(&[28, 30, 36, 40, 42, 48, 60, 72, 84, 90, 96, 120]),
+        90..=98 => rng.pick(&[144, 180, 210, 240, 360, 420, 720, 840]),
+        _ => rng.pick(&[1260, 2520, 5040, 30_030]),
+    }
+}
+
+fn pick_count(rng: &mut Rng) -> usize {
+    match rng.below(10) {
+        0..=5 => 1 + rng.below(4) as usize,
+        6..=8 => 4 + rng.below(8) as usize,
+        _ => TASKS,
+    }
+}
+
+fn divisors(round: u32) -> Vec<u32> {
+    (1..=round).filter(|divisor| round % divisor == 0).collect()
+}
+
+fn asked(tasks: &[Task], round: u32) -> u32 {
+    tasks.iter().map(|task| task.cost * (round / task.period)).sum()
+}
+
+/// Tasks of cost 1 whose periods divide the round, for as long as they fit.
+fn seedlings(rng: &mut Rng, round: u32) -> Vec<Task> {
+    let count = pick_count(rng);
+    let mut periods = divisors(round);
+    periods.retain(|&period| period == round || period as usize >= count / 2);
+    let mut tasks: Vec<Task> = Vec::new();
+    for _ in 0..3 * count {
+        let period = rng.pick(&periods);
+        let fits = asked(&tasks, round) + round / period <= round;
+        if tasks.len() < count && (tasks.is_empty() || fits) {
+            tasks.push(Task { offset: 0, cost: 1, deadline: period, period });
+        }
+    }
+    tasks
+}
+
+fn raise_costs(rng: &mut Rng, tasks: &mut [Task], round: u32) {
+    let allowed = if rng.chance(5) { round + round / 4 + 1 } else { round };
+    for _ in 0..rng.pick(&[0, 1, 2, 4, 10, 60]) {
+        let now = asked(tasks, round);
+        let task = &mut tasks[rng.below(tasks.len() as u64) as usize];
+        if task.cost < task.period && now + round / task.period <= allowed {
+            task.cost += 1;
+        }
+    }
+}
+
+/// A last task that takes whatever the others leave: load exactly 1.
+fn fill_up(tasks: &mut Vec<Task>, round: u32) {
+    let free = round.saturating_sub(asked(tasks, round));
+    if free > 0 && tasks.len() < TASKS {
+        tasks.push(Task { offset: 0, cost: free, deadline: round, period: round });
+    }
+}
+
+fn shift(rng: &mut Rng, tasks: &mut [Task], round: u32) {
+    let way = rng.below(100);
+    for task in tasks {
+        task.offset = match way {
+            0..=14 => 0,
+            15..=49 => rng.range(0, task.period - 1),
+            50..=79 => rng.range(0, (3 * task.period).min(60_000)),
+            80..=98 => rng.range(0, 2 * round.min(20_000)),
+            _ => rng.pick(&[0, task.period, 59_999, 60_000]),
+        };
+    }
+}
+
+fn shorten(rng: &mut Rng, tasks: &mut [Task]) {
+    let way = rng.below(4);
+    for task in tasks {
+        task.deadline = match way {
+            0 => task.period,
+            1 => rng.range(task.cost, task.period),
+            2 => rng.range((task.cost + task.period) / 2, task.period),
+            _ => rng.pick(&[task.cost, task.period, task.period]),
+        };
+    }
+}
+
+/// Deadlines moved to the worst responses of a table that passes, or one beside them.
+fn tighten(rng: &mut Rng, tasks: &mut [Task]) {
+    if let Verdict::Passes(worst, _) = reference::decide(tasks, u64::MAX).verdict {
+        for (task, worst) in tasks.iter_mut().zip(worst) {
+            let wanted = worst as u32 + rng.range(0, 5) / 2;
+            task.deadline = wanted.saturating_sub(1).clamp(task.cost, task.period);
+        }
+    }
+}
+
+fn shuffle(rng: &mut Rng, tasks: &mut [Task]) {
+    for last in (1..tasks.len()).rev() {
+        tasks.swap(last, rng.below(last as u64 + 1) as usize);
+    }
+}
+
+/// A well-formed table with a short round, its load mostly near 1 and its deadlines near what it can keep.
+pub fn near_border(rng: &mut Rng) -> Vec<Task> {
+    let round = pick_round(rng);
+    let mut tasks = seedlings(rng, round);
+    raise_costs(rng, &mut tasks, round);
+    if rng.chance(25) {
+        fill_up(&mut tasks, round);
+    }
+    shuffle(rng, &mut tasks);
+    shift(rng, &mut tasks, round);
+    shorten(rng, &mut tasks);
+    if rng.chance(40) {
+        tighten(rng, &mut tasks);
+    }
+    tasks
+}
+
+/// A table with long periods, its least common multiple mostly near or above its limit.
+pub fn long_round(rng: &mut Rng) -> Vec<Task> {
+    let periods = [31_621, 31_622, 31_623, 31_624, 59_999, 60_000, 50_000, 16_384, 46_656, 1_000, 1];
+    let count = 1 + rng.below(4) as usize;
+    let long = |rng: &mut Rng| if rng.chance(60) { rng.pick(&periods) } else { rng.range(1, 60_000) };
+    (0..count).map(|_| long(rng)).map(|period| Task { offset: 0, cost: 1, deadline: period, period }).collect()
+}
+
+/// Costs, deadlines and offsets of any legal size for the periods that a table has.
+pub fn any_fields(rng: &mut Rng, tasks: &mut [Task]) {
+    for task in tasks {
+        task.deadline = rng.range(1, task.period);
+        task.cost = rng.range(1, task.deadline);
+        task.offset = rng.range(0, 60_000);
+        if rng.chance(70) {
+            task.cost = rng.range(1, task.cost.min(3));
+        }
+    }
+}
+
+/// A table with a long round that needs no long search: two of its jobs cannot both be in time, or its load is above 1.
+pub fn early_end(rng: &mut Rng) -> Vec<Task> {
+    loop {
+        let mut tasks = long_round(rng);
+        any_fields(rng, &mut tasks);
+        let offset = rng.range(0, 3_000);
+        for task in tasks.iter_mut().take(2) {
+            let cost = task.period.min(rng.range(1, 20));
+            *task = Task { offset, cost, deadline: cost, period: task.period };
+        }
+        if tasks.len() >= 2 && reference::judge(&tasks).is_ok() {
+            return tasks;
+        }
+    }
+}
+
+fn odd_number(rng: &mut Rng, about: u32) -> u32 {
+    match rng.below(6) {
+        0 => rng.pick(&[0, 1, 2, 59_999, 60_000, 60_001]),
+        1 => rng.pick(&[65_535, 65_536, 65_537, 1 << 31, u32::MAX - 1, u32::MAX]),
+        2 => about.wrapping_add(1),
+        3 => about.wrapping_sub(1),
+        4 => rng.range(0, 70_000),
+        _ => about,
+    }
+}
+
+/// One or two numbers of a table moved to a border or beyond it.
+pub fn spoil(rng: &mut Rng, tasks: &mut [Task]) {
+    for _ in 0..1 + rng.below(2) {
+        let task = &mut tasks[rng.below(tasks.len() as u64) as usize];
+        match rng.below(4) {
+            0 => task.offset = odd_number(rng, 60_000),
+            1 => task.cost = odd_number(rng, task.deadline),
+            2 => task.deadline = odd_number(rng, task.period),
+            _ => task.period = odd_number(rng, 60_000),
+        }
+    }
+}
+
+/// A budget around the count of slots that the table needs.
+pub fn budget_about(rng: &mut Rng, tasks: &[Task]) -> u64 {
+    let needed = reference::decide(tasks, u64::MAX).settled;
+    match rng.below(10) {
+        0..=2 => needed,
+        3 => needed.saturating_sub(1),
+        4 => needed + 1,
+        5 => rng.pick(&[0, 1]),
+        6 => rng.below(2 * needed + 1),
+        7 => rng.next() | 1 << 63,
+        _ => u64::MAX,
+    }
+}
+
+/// Some bytes of a good file changed, taken out or put in.
+pub fn damage(rng: &mut Rng, file: &mut Vec<u8>) {
+    for _ in 0..1 + rng.below(3) {
+        let place = rng.below(file.len() as u64 + 1) as usize;
+        match rng.below(5) {
+            0 => file.truncate(place),
+            1 => file.insert(place, rng.below(5) as u8),
+            2 if place < file.len() => file[place] = rng.next() as u8,
+            3 if place < file.len() => file[place] ^= 1 << rng.below(8),
+            _ => file.extend(budget_record(rng.next()).iter().take(rng.below(10) as usize)),
+        }
+    }
+}
+
+// States.
+
+/// A state that belongs to the table, with anything in the words that a step does not read.
+pub fn fitting_state(rng: &mut Rng, tasks: &[Task]) -> State {
+    let mut state = wild_state(rng);
+    for (number, task) in tasks.iter().enumerate() {
+        let open = rng.chance(60);
+        let due = task.period - task.deadline;
+        let latest = if rng.chance(50) { task.period - 1 } else { due.max(3).min(task.period - 1) };
+        state.left[number] = if open { rng.range(1, task.cost) } else { 0 };
+        state.wait[number] = if open { rng.range(due, latest.max(due)) } else { idle_wait(rng, task) };
+    }
+    state.last = if rng.chance(20) { NONE } else { rng.below(tasks.len() as u64) as u32 };
+    state
+}
+
+fn idle_wait(rng: &mut Rng, task: &Task) -> u32 {
+    if rng.chance(30) {
+        0
+    } else {
+        rng.range(0, task.offset.max(task.period))
+    }
+}
+
+pub fn wild_state(rng: &mut Rng) -> State {
+    let size = rng.pick(&[1, 2, 16, 17, 60_000, 1 << 32]);
+    let mut words = || rng.below(size) as u32;
+    State {
+        wait: std::array::from_fn(|_| words()),
+        left: std::array::from_fn(|_| words()),
+        last: words(),
+        late: words(),
+        closed: words(),
+        lowest: words(),
+    }
+}
+
+/// One number of a fitting state moved onto, or one beyond, a border of rule 8.
+pub fn border_state(rng: &mut Rng, tasks: &[Task]) -> State {
+    let mut state = fitting_state(rng, tasks);
+    let number = rng.below(tasks.len() as u64) as usize;
+    let task = tasks[number];
+    let due = task.period - task.deadline;
+    match rng.below(6) {
+        0 => state.wait[number] = task.offset.max(task.period) + rng.range(0, 1),
+        1 => state.left[number] = task.cost + rng.range(0, 1),
+        2 => (state.left[number], state.wait[number]) = (1, due.saturating_sub(rng.range(0, 1))),
+        3 => (state.left[number], state.wait[number]) = (task.cost, task.period - rng.range(0, 1)),
+        4 => state.left[number] = u32::MAX,
+        _ => state.last = rng.pick(&[0, 1, tasks.len() as u32 - 1, tasks.len() as u32, 15, 16, 17, u32::MAX]),
+    }
+    state
+}
+
+pub fn done_word(rng: &mut Rng) -> u32 {
+    rng.pick(&[0, 0, 1, 1, 2, 256, 65_536, 1 << 31, u32::MAX])
+}

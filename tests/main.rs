@@ -1,0 +1,55 @@
+//! Host tests: the exported calls against an independent implementation of document 01.
+//!
+//! Run by tests/run from the repository's root, with an optional seed and count of inputs for each call.
+
+mod bench;
+mod calls;
+mod document;
+mod files;
+mod inputs;
+mod randoms;
+mod reference;
+mod runs;
+mod whole;
+
+use std::process::{Command, ExitCode};
+
+const SEED: u64 = 20_241;
+const COUNT: u64 = 100_000;
+
+/// A program of target/host, under the emulator that EMULATOR names where there is one.
+pub fn program(name: &str) -> Command {
+    let words = std::env::var("EMULATOR").unwrap_or_default();
+    let mut words: Vec<String> = words.split_whitespace().map(str::to_string).collect();
+    words.push(format!("target/host/{name}"));
+    let mut command = Command::new(&words[0]);
+    command.args(&words[1..]);
+    command
+}
+
+fn argument(place: usize, usual: u64) -> u64 {
+    std::env::args().nth(place).map_or(usual, |word| word.parse().expect("a number"))
+}
+
+fn main() -> ExitCode {
+    let (seed, count) = (argument(1, SEED), argument(2, COUNT));
+    println!("seed {seed}, {count} random inputs for each call");
+    let (mut bench, mut rng) = (bench::Bench::new(), inputs::Rng(seed));
+    document::tables(&mut bench);
+    document::steps(&mut bench);
+    document::refusals(&mut bench);
+    randoms::reference_itself(&mut bench, &mut rng);
+    randoms::field_borders(&mut bench);
+    files::damaged_one_by_one(&mut bench, &mut rng);
+    files::buffers(&mut bench, &mut rng);
+    randoms::checks(&mut bench, &mut rng, count);
+    randoms::long_rounds(&mut bench, &mut rng, count / 20);
+    randoms::spoilt_tables(&mut bench, &mut rng, count / 20);
+    files::damaged_at_random(&mut bench, &mut rng, count / 20);
+    randoms::starts(&mut bench, &mut rng, count);
+    randoms::steps(&mut bench, &mut rng, count);
+    runs::runs(&mut bench, &mut rng, count);
+    whole::stack(&mut bench);
+    whole::example_host(&mut bench);
+    ExitCode::from(!bench.end() as u8)
+}

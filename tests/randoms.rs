@@ -1,0 +1,135 @@
+//! Single calls on tables and states at borders and at random.
+
+use crate::bench::{Bench, Permitted};
+use crate::calls::Request;
+use crate::files::ask_all;
+use crate::inputs::*;
+use crate::reference::{self, Task, REPORT_BYTES, TASKS};
+
+/// The two ways of the reference to look for a late deadline, held to each other.
+pub fn reference_itself(bench: &mut Bench, rng: &mut Rng) {
+    let mut tried = 0;
+    while tried < 2_000 {
+        let tasks = near_border(rng);
+        let limit = reference::horizon(&tasks, reference::round(&tasks).unwrap());
+        if limit <= 100 {
+            let (plain, quick) = (reference::late_by_definition(&tasks, limit), reference::first_late(&tasks, limit));
+            bench.count(plain == quick, || format!("{tasks:?}: {plain:?} by definition, {quick:?} by the tree"));
+            tried += 1;
+        }
+    }
+    bench.end_group("the reference's two searches");
+}
+
+fn field_of(task: &mut Task, field: usize) -> &mut u32 {
+    match field {
+        0 => &mut task.offset,
+        1 => &mut task.cost,
+        2 => &mut task.deadline,
+        _ => &mut task.period,
+    }
+}
+
+/// Every field of every task at, just inside and just outside its borders.
+pub fn field_borders(bench: &mut Bench) {
+    let good = Task { offset: 1, cost: 1, deadline: 2, period: 60_000 };
+    for place in 0..TASKS {
+        for field in 0..4 {
+            for number in [0, 1, 2, 3, 59_999, 60_000, 60_001, 65_536, 1 << 31, u32::MAX] {
+                let mut tasks = vec![good; TASKS];
+                *field_of(&mut tasks[place], field) = number;
+                ask_all(bench, &file_of(100, &tasks));
+            }
+        }
+    }
+    bench.end_group("fields at their borders");
+}
+
+/// How many of each verdict, so that a generator that has drifted to one side is seen.
+#[derive(Default)]
+struct Verdicts([u64; 4]);
+
+const VERDICT_WORDS: [&str; 4] = ["passes", "overload", "late", "undecided"];
+
+impl Verdicts {
+    fn count(&mut self, permitted: &Permitted) {
+        let report = String::from_utf8_lossy(&permitted.1[..permitted.0 as usize]).to_string();
+        for (word, count) in VERDICT_WORDS.iter().zip(&mut self.0) {
+            *count += report.contains(&format!("verdict {word}\n")) as u64;
+        }
+    }
+
+    fn print(&self) {
+        let counts = VERDICT_WORDS.iter().zip(self.0).map(|(word, count)| format!(" {word} {count}"));
+        println!("verdicts:{}", counts.collect::<Vec<_>>().join(","));
+    }
+}
+
+pub fn checks(bench: &mut Bench, rng: &mut Rng, count: u64) {
+    let mut verdicts = Verdicts::default();
+    for _ in 0..count {
+        let tasks = near_border(rng);
+        let mut request = Request::check(file_of(budget_about(rng, &tasks), &tasks));
+        request.buffer = vec![rng.next() as u8; REPORT_BYTES + rng.below(3) as usize];
+        let permitted = reference::answer(&request);
+        verdicts.count(&permitted);
+        bench.ask_knowing(request, permitted);
+    }
+    verdicts.print();
+    bench.end_group("check near the border of what passes");
+}
+
+pub fn long_rounds(bench: &mut Bench, rng: &mut Rng, count: u64) {
+    for _ in 0..count {
+        let mut tasks = long_round(rng);
+        if rng.chance(70) {
+            any_fields(rng, &mut tasks);
+        }
+        ask_all(bench, &file_of(rng.below(2_000), &tasks));
+        bench.ask(Request::check(file_of(rng.next() | 1 << 40, &early_end(rng))));
+    }
+    bench.end_group("rounds near their limit");
+}
+
+pub fn spoilt_tables(bench: &mut Bench, rng: &mut Rng, count: u64) {
+    for _ in 0..count {
+        let mut tasks = near_border(rng);
+        spoil(rng, &mut tasks);
+        ask_all(bench, &file_of(rng.below(1_000), &tasks));
+    }
+    bench.end_group("spoilt tables");
+}
+
+fn any_table(rng: &mut Rng) -> Vec<Task> {
+    let mut tasks = if rng.chance(85) { near_border(rng) } else { long_round(rng) };
+    if rng.chance(15) {
+        any_fields(rng, &mut tasks);
+    }
+    tasks
+}
+
+pub fn starts(bench: &mut Bench, rng: &mut Rng, count: u64) {
+    for _ in 0..count {
+        let tasks = any_table(rng);
+        let mut request = Request::start(file_of(rng.next(), &tasks));
+        request.buffer = wild_state(rng).to_bytes();
+        bench.ask(request);
+    }
+    bench.end_group("start on any table");
+}
+
+pub fn steps(bench: &mut Bench, rng: &mut Rng, count: u64) {
+    let mut tasks = any_table(rng);
+    for turn in 0..count {
+        if turn % 8 == 0 {
+            tasks = any_table(rng);
+        }
+        let state = match rng.below(10) {
+            0..=5 => fitting_state(rng, &tasks),
+            6..=8 => border_state(rng, &tasks),
+            _ => wild_state(rng),
+        };
+        bench.ask(Request::step(file_of(rng.next(), &tasks), state.to_bytes(), done_word(rng)));
+    }
+    bench.end_group("step on any state");
+}

@@ -1,0 +1,518 @@
+//! Document 01 once more, written from its text alone: lists of jobs and counted demand.
+
+use crate::calls::{Call, Request};
+
+pub const TASKS: usize = 16;
+pub const NONE: u32 = 16;
+pub const REPORT_BYTES: usize = 512;
+pub const STATE_BYTES: usize = 144;
+const LONGEST: u32 = 60_000;
+const LARGEST_ROUND: u64 = 1_000_000_000;
+
+#[derive(Clone, Copy, PartialEq, Eq, Debug)]
+pub struct Task {
+    pub offset: u32,
+    pub cost: u32,
+    pub deadline: u32,
+    pub period: u32,
+}
+
+#[derive(Clone, Copy, PartialEq, Eq, Debug)]
+pub struct Refusal {
+    pub number: u64,
+    pub place: u64,
+}
+
+impl Refusal {
+    pub fn result(self) -> u64 {
+        65_536 * self.number + self.place
+    }
+}
+
+fn refuse<T>(number: u64, place: usize) -> Result<T, Refusal> {
+    Err(Refusal { number, place: place as u64 })
+}
+
+// The table file.
+
+fn word(bytes: &[u8], index: usize) -> u32 {
+    u32::from_le_bytes(bytes[4 * index..4 * index + 4].try_into().unwrap())
+}
+
+fn task_from(body: &[u8]) -> Task {
+    Task { offset: word(body, 0), cost: word(body, 1), deadline: word(body, 2), period: word(body, 3) }
+}
+
+fn body_length(kind: u8) -> Option<usize> {
+    match kind {
+        1 => Some(8),
+        2 => Some(16),
+        3 => Some(0),
+        _ => None,
+    }
+}
+
+/// The body of the record at a place, once its kind is known, allowed there and its body whole.
+fn body_at(file: &[u8], place: usize, tasks: usize) -> Result<&[u8], Refusal> {
+    let length = match body_length(file[place]) {
+        Some(length) => length,
+        None => return refuse(21, place),
+    };
+    match file[place] {
+        kind if place == 0 && kind != 1 => refuse(22, 0),
+        1 if place > 0 => refuse(23, place),
+        2 if tasks == TASKS => refuse(25, place),
+        _ => file[place + 1..].get(..length).map_or(refuse(20, place), Ok),
+    }
+}
+
+pub fn read_file(file: &[u8]) -> Result<(u64, Vec<Task>), Refusal> {
+    let (mut place, mut budget, mut tasks) = (0, 0, Vec::new());
+    while place < file.len() {
+        let kind = file[place];
+        let body = body_at(file, place, tasks.len())?;
+        place += 1 + body.len();
+        match kind {
+            1 => budget = u64::from_le_bytes(body.try_into().unwrap()),
+            2 => tasks.push(task_from(body)),
+            _ if place < file.len() => return refuse(24, place),
+            _ => return Ok((budget, tasks)),
+        }
+    }
+    if place == 0 {
+        refuse(22, 0)
+    } else {
+        refuse(26, place)
+    }
+}
+
+// The table.
+
+fn fault(task: &Task) -> Option<u64> {
+    if !(1..=LONGEST).contains(&task.period) {
+        Some(3)
+    } else if !(1..=task.period).contains(&task.deadline) {
+        Some(4)
+    } else if !(1..=task.deadline).contains(&task.cost) {
+        Some(5)
+    } else if task.offset > LONGEST {
+        Some(6)
+    } else {
+        None
+    }
+}
+
+fn divisor(a: u64, b: u64) -> u64 {
+    if b == 0 {
+        a
+    } else {
+        divisor(b, a % b)
+    }
+}
+
+/// The least common multiple of all periods, or none above the limit; adding a period never makes it smaller.
+pub fn round(tasks: &[Task]) -> Option<u64> {
+    let mut round = 1;
+    for task in tasks {
+        let period = u64::from(task.period);
+        round = round / divisor(round, period) * period;
+        if round > LARGEST_ROUND {
+            return None;
+        }
+    }
+    Some(round)
+}
+
+pub fn judge(tasks: &[Task]) -> Result<(), Refusal> {
+    if tasks.is_empty() {
+        return refuse(1, 0);
+    }
+    for (number, task) in tasks.iter().enumerate() {
+        if let Some(fault) = fault(task) {
+            return refuse(fault, number);
+        }
+    }
+    round(tasks).map_or(refuse(7, 0), |_| Ok(()))
+}
+
+pub fn asked_in_round(tasks: &[Task], round: u64) -> u64 {
+    tasks.iter().map(|task| u64::from(task.cost) * (round / u64::from(task.period))).sum()
+}
+
+pub fn horizon(tasks: &[Task], round: u64) -> u64 {
+    u64::from(tasks.iter().map(|task| task.offset).max().unwrap()) + 2 * round
+}
+
+// Jobs and their demand.
+
+#[derive(Clone, Copy)]
+pub struct Job {
+    pub task: usize,
+    pub release: u64,
+    pub deadline: u64,
+    pub left: u64,
+}
+
+/// All jobs released before a time.
+fn jobs_before(tasks: &[Task], time: u64) -> Vec<Job> {
+    let mut jobs = Vec::new();
+    for (number, task) in tasks.iter().enumerate() {
+        let mut release = u64::from(task.offset);
+        while release < time {
+            let deadline = release + u64::from(task.deadline);
+            jobs.push(Job { task: number, release, deadline, left: u64::from(task.cost) });
+            release += u64::from(task.period);
+        }
+    }
+    jobs
+}
+
+fn demand(jobs: &[Job], start: u64, end: u64) -> u64 {
+    jobs.iter().filter(|job| job.release >= start && job.deadline <= end).map(|job| job.left).sum()
+}
+
+#[derive(Clone, Copy, PartialEq, Eq, Debug)]
+pub struct Late {
+    pub start: u64,
+    pub end: u64,
+    pub demand: u64,
+}
+
+/// The definition word by word: every end, every start. For small tables only.
+pub fn late_by_definition(tasks: &[Task], limit: u64) -> Option<Late> {
+    let jobs = jobs_before(tasks, limit);
+    for end in 1..=limit {
+        for start in (0..end).rev() {
+            let demand = demand(&jobs, start, end);
+            if demand > end - start {
+                return Some(Late { start, end, demand });
+            }
+        }
+    }
+    None
+}
+
+/// Over all starts at which a counted job is released: start + demand from there, in a tree whose leaves are starts.
+/// A start of another kind that asks too much can be moved up to such a one, so the largest is never missed.
+struct Starts {
+    leaves: usize,
+    sum: Vec<i64>,
+    best: Vec<i64>,
+}
+
+impl Starts {
+    fn new(slots: u64) -> Starts {
+        let leaves = (slots as usize + 1).next_power_of_two();
+        Starts { leaves, sum: vec![0; 2 * leaves], best: vec![i64::MIN / 2; 2 * leaves] }
+    }
+
+    fn count(&mut self, job: &Job) {
+        let mut node = self.leaves + job.release as usize;
+        self.sum[node] += job.left as i64;
+        self.best[node] = job.release as i64 + self.sum[node];
+        while node > 1 {
+            node /= 2;
+            let (low, high) = (2 * node, 2 * node + 1);
+            self.sum[node] = self.sum[low] + self.sum[high];
+            self.best[node] = self.best[high].max(self.best[low] + self.sum[high]);
+        }
+    }
+
+    fn largest_above(&self, end: u64) -> Option<u64> {
+        if self.best[1] <= end as i64 {
+            return None;
+        }
+        let (mut node, mut beyond) = (1, 0);
+        while node < self.leaves {
+            let high = 2 * node + 1;
+            if self.best[high] + beyond > end as i64 {
+                node = high;
+            } else {
+                beyond += self.sum[high];
+                node = 2 * node;
+            }
+        }
+        Some((node - self.leaves) as u64)
+    }
+}
+
+fn late_within(tasks: &[Task], limit: u64) -> Option<Late> {
+    let mut jobs = jobs_before(tasks, limit);
+    jobs.retain(|job| job.deadline <= limit);
+    jobs.sort_by_key(|job| job.deadline);
+    let mut starts = Starts::new(limit);
+    for (number, job) in jobs.iter().enumerate() {
+        starts.count(job);
+        let end = job.deadline;
+        if jobs.get(number + 1).map_or(true, |next| next.deadline > end) {
+            if let Some(start) = starts.largest_above(end) {
+                return Some(Late { start, end, demand: demand(&jobs, start, end) });
+            }
+        }
+    }
+    None
+}
+
+/// The smallest late deadline up to a limit, looked for in growing stretches so that an early one is found soon.
+pub fn first_late(tasks: &[Task], limit: u64) -> Option<Late> {
+    let mut stretch = 1_000;
+    while stretch < limit {
+        if let Some(late) = late_within(tasks, stretch) {
+            return Some(late);
+        }
+        stretch *= 10;
+    }
+    late_within(tasks, limit)
+}
+
+// The run.
+
+fn next_job(open: &[Job]) -> Option<usize> {
+    (0..open.len()).min_by_key(|&index| (open[index].deadline, open[index].task))
+}
+
+/// Worst responses and first empty slot, over all jobs released before a time.
+fn run(tasks: &[Task], until: u64) -> (Vec<u64>, Option<u64>) {
+    let mut coming = jobs_before(tasks, until);
+    coming.sort_by_key(|job| std::cmp::Reverse(job.release));
+    let (mut open, mut worst, mut empty): (Vec<Job>, _, _) = (Vec::new(), vec![0; tasks.len()], None);
+    let mut slot = 0;
+    while !(coming.is_empty() && open.is_empty()) {
+        while coming.last().map_or(false, |job| job.release == slot) {
+            open.extend(coming.pop());
+        }
+        match next_job(&open) {
+            None => empty = empty.or(Some(slot)),
+            Some(index) => give(&mut open, index, slot, &mut worst),
+        }
+        slot += 1;
+    }
+    (worst, empty)
+}
+
+fn give(open: &mut Vec<Job>, index: usize, slot: u64, worst: &mut [u64]) {
+    open[index].left -= 1;
+    if open[index].left == 0 {
+        let job = open.swap_remove(index);
+        let finish = slot + 1;
+        assert!(finish <= job.deadline, "a table without a late deadline misses one in its run");
+        worst[job.task] = worst[job.task].max(finish - job.release);
+    }
+}
+
+// The verdict.
+
+#[derive(Clone, PartialEq, Eq, Debug)]
+pub enum Verdict {
+    Passes(Vec<u64>, Option<u64>),
+    Overload,
+    Late(Late),
+    Undecided,
+}
+
+pub struct Answer {
+    pub verdict: Verdict,
+    pub settled: u64,
+}
+
+/// One round more than the horizon is run: the worst responses are over all jobs for ever.
+pub fn decide(tasks: &[Task], budget: u64) -> Answer {
+    let round = round(tasks).unwrap();
+    let horizon = horizon(tasks, round);
+    if asked_in_round(tasks, round) > round {
+        return Answer { verdict: Verdict::Overload, settled: 0 };
+    }
+    match first_late(tasks, horizon.min(budget)) {
+        Some(late) => Answer { verdict: Verdict::Late(late), settled: late.end },
+        None if budget < horizon => Answer { verdict: Verdict::Undecided, settled: budget },
+        None => {
+            let (worst, empty) = run(tasks, horizon + round);
+            Answer { verdict: Verdict::Passes(worst, empty.filter(|&slot| slot < horizon)), settled: horizon }
+        }
+    }
+}
+
+// The report.
+
+fn details(verdict: &Verdict) -> String {
+    match verdict {
+        Verdict::Passes(worst, empty) => {
+            let lines: String = worst.iter().enumerate().map(|(task, worst)| format!("worst {task} {worst}\n")).collect();
+            lines + &empty.map_or("empty none\n".to_string(), |slot| format!("empty {slot}\n"))
+        }
+        Verdict::Late(late) => format!("interval {} {} demand {}\n", late.start, late.end, late.demand),
+        Verdict::Overload | Verdict::Undecided => String::new(),
+    }
+}
+
+fn verdict_word(verdict: &Verdict) -> &'static str {
+    match verdict {
+        Verdict::Passes(..) => "passes",
+        Verdict::Overload => "overload",
+        Verdict::Late(..) => "late",
+        Verdict::Undecided => "undecided",
+    }
+}
+
+pub fn report(tasks: &[Task], budget: u64) -> String {
+    let round = round(tasks).unwrap();
+    let answer = decide(tasks, budget);
+    format!(
+        "tasks {}\nload {}/{}\nhorizon {}\nverdict {}\nsettled {}\n{}",
+        tasks.len(),
+        asked_in_round(tasks, round),
+        round,
+        horizon(tasks, round),
+        verdict_word(&answer.verdict),
+        answer.settled,
+        details(&answer.verdict)
+    )
+}
+
+// The dispatcher.
+
+#[derive(Clone, Copy, PartialEq, Eq, Debug)]
+pub struct State {
+    pub wait: [u32; TASKS],
+    pub left: [u32; TASKS],
+    pub last: u32,
+    pub late: u32,
+    pub closed: u32,
+    pub lowest: u32,
+}
+
+impl State {
+    pub fn from_bytes(bytes: &[u8]) -> State {
+        State {
+            wait: std::array::from_fn(|task| word(bytes, task)),
+            left: std::array::from_fn(|task| word(bytes, TASKS + task)),
+            last: word(bytes, 32),
+            late: word(bytes, 33),
+            closed: word(bytes, 34),
+            lowest: word(bytes, 35),
+        }
+    }
+
+    pub fn to_bytes(self) -> Vec<u8> {
+        let tail = [self.last, self.late, self.closed, self.lowest];
+        self.wait.iter().chain(&self.left).chain(&tail).flat_map(|word| word.to_le_bytes()).collect()
+    }
+}
+
+pub fn start(tasks: &[Task]) -> State {
+    let mut wait = [0; TASKS];
+    for (number, task) in tasks.iter().enumerate() {
+        wait[number] = task.offset;
+    }
+    State { wait, left: [0; TASKS], last: NONE, late: 0, closed: 0, lowest: NONE }
+}
+
+fn strange(task: &Task, wait: u32, left: u32) -> bool {
+    let open = left >= 1;
+    wait > task.offset.max(task.period)
+        || open && left > task.cost
+        || open && (wait < task.period - task.deadline || wait > task.period - 1)
+}
+
+fn belongs(tasks: &[Task], state: &State) -> Result<(), Refusal> {
+    for (number, task) in tasks.iter().enumerate() {
+        if strange(task, state.wait[number], state.left[number]) {
+            return refuse(8, number);
+        }
+    }
+    if state.last != NONE && state.last as usize >= tasks.len() {
+        return refuse(8, TASKS);
+    }
+    Ok(())
+}
+
+/// An open job was released when the wait was set to the period, and is due its deadline after that.
+fn slots_to_deadline(task: &Task, wait: u32) -> u32 {
+    let since_release = task.period - wait;
+    task.deadline - since_release
+}
+
+fn close_late(tasks: &[Task], state: &mut State) {
+    let mut closed = Vec::new();
+    for (number, task) in tasks.iter().enumerate() {
+        if state.left[number] >= 1 && slots_to_deadline(task, state.wait[number]) == 0 {
+            state.left[number] = 0;
+            closed.push(number as u32);
+        }
+    }
+    state.late = closed.iter().map(|task| 1 << task).sum();
+    state.closed = closed.len() as u32;
+    state.lowest = closed.first().copied().unwrap_or(NONE);
+}
+
+fn release(tasks: &[Task], state: &mut State) {
+    for (number, task) in tasks.iter().enumerate() {
+        if state.wait[number] == 0 {
+            state.left[number] = task.cost;
+            state.wait[number] = task.period;
+        }
+    }
+}
+
+fn give_slot(tasks: &[Task], state: &mut State) {
+    let open = (0..tasks.len()).filter(|&task| state.left[task] >= 1);
+    let owner = open.min_by_key(|&task| (slots_to_deadline(&tasks[task], state.wait[task]), task));
+    state.last = owner.map_or(NONE, |task| task as u32);
+    if let Some(task) = owner {
+        state.left[task] -= 1;
+    }
+    for wait in &mut state.wait[..tasks.len()] {
+        *wait -= 1;
+    }
+}
+
+pub fn step(tasks: &[Task], state: &State, done: bool) -> Result<State, Refusal> {
+    belongs(tasks, state)?;
+    let mut next = *state;
+    if done && state.last != NONE {
+        next.left[state.last as usize] = 0;
+    }
+    close_late(tasks, &mut next);
+    release(tasks, &mut next);
+    give_slot(tasks, &mut next);
+    Ok(next)
+}
+
+// The exported calls.
+
+fn check_buffer(request: &Request) -> Result<(), Refusal> {
+    let length = request.buffer.len();
+    match request.call {
+        Call::Check if length < REPORT_BYTES => refuse(30, length),
+        Call::Start | Call::Step if length != STATE_BYTES => refuse(50, length.min(65_535)),
+        _ => Ok(()),
+    }
+}
+
+fn answered(request: &Request) -> Result<(u64, Vec<u8>), Refusal> {
+    check_buffer(request)?;
+    let (budget, tasks) = read_file(&request.file)?;
+    judge(&tasks)?;
+    match request.call {
+        Call::Check => {
+            let text = report(&tasks, budget).into_bytes();
+            Ok((text.len() as u64, text))
+        }
+        Call::Start => Ok((0, start(&tasks).to_bytes())),
+        Call::Step => {
+            let state = step(&tasks, &State::from_bytes(&request.buffer), request.done != 0)?;
+            Ok((u64::from(state.last), state.to_bytes()))
+        }
+    }
+}
+
+/// The one permitted result of a request, and the buffer after it.
+pub fn answer(request: &Request) -> (u64, Vec<u8>) {
+    match answered(request) {
+        Ok((result, mut written)) => {
+            written.extend(&request.buffer[written.len()..]);
+            (result, written)
+        }
+        Err(refusal) => (refusal.result(), request.buffer.clone()),
+    }
+}

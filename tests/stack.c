@@ -1,0 +1,72 @@
+/* How deep a call writes into the stack. For x86-64, as the library itself. */
+#include "stack.h"
+
+#include <string.h>
+
+#include "yolizadwa.h"
+
+enum { ROOM = 1 << 18 };
+
+static _Alignas(16) uint8_t room[ROOM];
+
+static struct {
+    uint32_t call;
+    const uint8_t *file;
+    size_t file_len;
+    uint8_t *buffer;
+    size_t buffer_len;
+    uint32_t done;
+} wanted;
+
+uint64_t plain_call(uint32_t call, const uint8_t *file, size_t file_len, uint8_t *buffer, size_t buffer_len, uint32_t done)
+{
+    switch (call) {
+    case CHECK: return yolizadwa_check(file, file_len, buffer, buffer_len);
+    case START: return yolizadwa_start(file, file_len, buffer, buffer_len);
+    default: return yolizadwa_step(file, file_len, buffer, buffer_len, done);
+    }
+}
+
+static void make_wanted_call(void)
+{
+    plain_call(wanted.call, wanted.file, wanted.file_len, wanted.buffer, wanted.buffer_len, wanted.done);
+}
+
+static void on_own_stack(void (*run)(void))
+{
+    __asm__ volatile("movq %%rsp, %%rbx\n\t"
+                     "movq %[top], %%rsp\n\t"
+                     "call *%[run]\n\t"
+                     "movq %%rbx, %%rsp"
+                     :
+                     : [top] "r"(room + ROOM), [run] "r"(run)
+                     : "rax", "rbx", "rcx", "rdx", "rsi", "rdi", "r8", "r9", "r10", "r11", "xmm0", "xmm1", "xmm2", "xmm3",
+                       "xmm4", "xmm5", "xmm6", "xmm7", "xmm8", "xmm9", "xmm10", "xmm11", "xmm12", "xmm13", "xmm14",
+                       "xmm15", "cc", "memory");
+}
+
+static uint64_t depth_over(int paint)
+{
+    size_t untouched = 0;
+    memset(room, paint, ROOM);
+    on_own_stack(make_wanted_call);
+    while (untouched < ROOM && room[untouched] == paint) {
+        untouched++;
+    }
+    return ROOM - untouched;
+}
+
+/* Over two paints, since a byte may be written that equals one of them. */
+uint64_t stack_depth(uint32_t call, const uint8_t *file, size_t file_len, uint8_t *buffer, size_t buffer_len, uint32_t done)
+{
+    uint64_t one, other;
+    wanted.call = call;
+    wanted.file = file;
+    wanted.file_len = file_len;
+    wanted.buffer = buffer;
+    wanted.buffer_len = buffer_len;
+    wanted.done = done;
+    one = depth_over(0xA5);
+    other = depth_over(0x5A);
+    return one > other ? one : other;
+}

@@ -1,0 +1,19 @@
+/* One call of the library, plain or on a painted stack. */
+#ifndef STACK_H
+#define STACK_H
+
+#include <stddef.h>
+#include <stdint.h>
+
+enum call { CHECK, START, STEP };
+
+typedef uint64_t call_maker(uint32_t call, const uint8_t *file, size_t file_len, uint8_t *buffer, size_t buffer_len,
+                            uint32_t done);
+
+/* Tells the call's result. */
+call_maker plain_call;
+
+/* Makes the call twice, on a painted stack of its own, and tells by how many bytes it wrote down into that. */
+call_maker stack_depth;
+
+#endif

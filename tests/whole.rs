@@ -1,0 +1,85 @@
+//! The stack that each call needs, and the example host as it is shipped.
+
+use crate::bench::Bench;
+use crate::calls::Request;
+use crate::inputs::file_of;
+use crate::program;
+use crate::reference::{self, Task, TASKS};
+
+const STACK_LIMIT: u64 = 16_384;
+const HOST_RUNS: &[&[&str]] = &[
+    &["tables/b.table", "40"],
+    &["tables/g.table"],
+    &["tables/c.table"],
+    &["tables/f.table", "6"],
+    &["tables/i.table", "12"],
+    &["tables/b37.table", "3"],
+    &["tables/refused_21.table"],
+    &["tables/refused_22_empty.table"],
+    &["tables/too_long.table"],
+];
+
+fn deepest(bench: &mut Bench, name: &str, requests: &[Request]) {
+    let depth = requests.iter().map(|request| bench.calls.depth(request)).max().unwrap();
+    println!("stack of {name}: {depth} bytes");
+    bench.count(depth <= STACK_LIMIT, || format!("{name} writes {depth} bytes deep, more than {STACK_LIMIT}"));
+    requests.iter().cloned().for_each(|request| bench.ask(request));
+}
+
+/// Sixteen tasks of the longest numbers: they pass, are late after a search over all starts, ask for too much, or are
+/// refused at the end.
+fn hard_tables() -> [Vec<Task>; 6] {
+    let passes = vec![Task { offset: 60_000, cost: 3_750, deadline: 60_000, period: 60_000 }; TASKS];
+    let (mut late, mut long, mut bad) = (passes.clone(), passes.clone(), passes.clone());
+    late.iter_mut().for_each(|task| (task.offset, task.deadline) = (0, 59_999));
+    long[15] = Task { offset: 0, cost: 1, deadline: 1, period: 59_999 };
+    bad[15].offset = 60_001;
+    let whole = |period| Task { offset: 60_000, cost: period, deadline: period, period };
+    let heavy = (0..TASKS as u32).map(|task| whole(31_622 + task % 2)).collect();
+    [passes, late, heavy, long, bad, Vec::new()]
+}
+
+fn hard_files() -> Vec<Vec<u8>> {
+    let mut files: Vec<Vec<u8>> = hard_tables().iter().map(|tasks| file_of(u64::MAX, tasks)).collect();
+    files.extend([files[0][..280].to_vec(), vec![3; 300]]);
+    files
+}
+
+pub fn stack(bench: &mut Bench) {
+    let files = hard_files();
+    let checks: Vec<Request> = files.iter().cloned().map(Request::check).collect();
+    let starts: Vec<Request> = files.iter().cloned().map(Request::start).collect();
+    let steps: Vec<Request> = files.iter().cloned().flat_map(hard_steps).collect();
+    deepest(bench, "check", &checks);
+    deepest(bench, "start", &starts);
+    deepest(bench, "step", &steps);
+    bench.end_group("stack of each call, on the hardest inputs");
+}
+
+/// From the start, from a state with every job at its deadline, from one that is refused.
+fn hard_steps(file: Vec<u8>) -> Vec<Request> {
+    let tasks = reference::read_file(&file).map_or(Vec::new(), |(_, tasks)| tasks);
+    let first = reference::start(&tasks);
+    let (mut due, mut strange) = (first, first);
+    for (number, task) in tasks.iter().enumerate() {
+        due.left[number] = task.cost;
+        due.wait[number] = task.period - task.deadline.min(task.period);
+    }
+    strange.last = 99;
+    [first, due, strange].iter().map(|state| Request::step(file.clone(), state.to_bytes(), 1)).collect()
+}
+
+fn host_run(words: &[&str]) -> String {
+    let output = program("host").args(words).output().expect("the example host starts");
+    let status = output.status.code().map_or("no status".to_string(), |code| format!("status {code}"));
+    format!("$ host {}\n{}{status}\n", words.join(" "), String::from_utf8_lossy(&output.stdout))
+}
+
+/// What it wrote stays in target/host/host.written, to be looked at or, once judged right, stored.
+pub fn example_host(bench: &mut Bench) {
+    let written: String = HOST_RUNS.iter().map(|words| host_run(words)).collect();
+    let stored = std::fs::read_to_string("examples/host.expected").unwrap_or_default();
+    std::fs::write("target/host/host.written", &written).expect("target/host can be written");
+    bench.count(written == stored, || "target/host/host.written is not examples/host.expected".to_string());
+    bench.end_group("the example host");
+}
