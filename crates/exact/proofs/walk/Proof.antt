@@ -52,6 +52,10 @@ is-late {b} = go b
 facts : (c : tie.At-search Inv-loop μ-loop Inv-search μ-search) → let s = c .before .before .before .before .before .before .before .before in WellFormed (s .args .t) (s .args .m)
 facts c = well-formed _ _ (c .before .before .before .before .before .before .before .before .pre .0)
 
+-- Where the search stood before the turn.
+abbrev home : tie.After-struct-known Inv-loop μ-loop Inv-search μ-search → tie.At-search Inv-loop μ-loop Inv-search μ-search
+home c = c .before .before .before .before .before .before .before .before
+
 smaller-requires : tie.Need-smaller-requires Inv-loop μ-loop Inv-search μ-search
 smaller-requires c κs = search needs
 
@@ -88,14 +92,14 @@ first-empty-requires : tie.Need-first-empty-requires Inv-loop μ-loop Inv-search
 first-empty-requires c κs = search needs
 
 add-at : tie.Need-add-at Inv-loop μ-loop Inv-search μ-search
-add-at c = let a = c .before .before .before .before .before .before .before .before .before .before .before .before .before .before .before .before in let f = facts a in omega (arith, f .horizon-is, f .horizon-le, a .search .inv .0 .end-is)
+add-at c = let a = home (c .before .before .before .before .before .before .before .before) in let f = facts a in omega (arith, f .horizon-is, f .horizon-le, a .search .inv .0 .end-is)
 
 search-less : tie.Need-search-less Inv-loop μ-loop Inv-search μ-search
 search-less c = search needs
 
 search-again : tie.Need-search-again Inv-loop μ-loop Inv-search μ-search
 search-again c =
-    let a = c .before .before .before .before .before .before .before .before .before .before .before .before .before .before .before .before in
+    let a = home (c .before .before .before .before .before .before .before .before) in
     let i = a .search .inv in
     let f = facts a in
     let more = c .before .before .before .before .before .before .if2 .left in (
@@ -108,7 +112,7 @@ search-again c =
 -- A late deadline has a start: the search for it does not come to its end.
 found : (c : tie.After-loop Inv-loop μ-loop Inv-search μ-search) → ⊥
 found c =
-    let a = c .before .before .before .before .before .before .before .before .before .before .before .before .before in
+    let a = home (c .before .before .before .before .before) in
     let i = a .search .inv in
     let f = facts a in
     let h = one-found _ (f .ranged) _ (f .horizon-is) (i .0) (i .3) (c .before .before .before .before .before .before .turn .ensures) (is-late (c .before .before .before .before .if1 .left)) in
@@ -116,14 +120,14 @@ found c =
     c .before .loop .inv .1 from (omega arith) (too-much-iff _ from _ .0 x .0) x
 
 offsets-requires-2 : tie.Need-offsets-requires-2 Inv-loop μ-loop Inv-search μ-search
-offsets-requires-2 c κs = facts (c .before .before .before .before .before .before .before .before .before) .ranged .few
+offsets-requires-2 c κs = facts (home (c .before)) .ranged .few
 
 marks-requires : tie.Need-marks-requires Inv-loop μ-loop Inv-search μ-search
-marks-requires c κs = let a = c .before .before .before .before .before .before .before .before .before .before in let f = facts a in (f .ranged, omega (arith, f .horizon-is, f .horizon-le, a .search .inv .0 .end-is, a .search .inv .1))
+marks-requires c κs = let a = home (c .before .before) in let f = facts a in (f .ranged, omega (arith, f .horizon-is, f .horizon-le, a .search .inv .0 .end-is, a .search .inv .1))
 
 loop-holds : tie.Need-loop-holds Inv-loop μ-loop Inv-search μ-search
 loop-holds c =
-    let a = c .before .before .before .before .before .before .before .before .before .before .before in
+    let a = home (c .before .before .before) in
     let f = facts a in
     (omega arith, λ later x y. absurd (omega arith), c .marks .ensures ∙ marks-start _ (f .ranged) _, a .search .inv .2 ∙ sym (demand-start _ (f .ranged) _), c .before .offsets2 .ensures)
 
@@ -134,21 +138,21 @@ search-again-2 : tie.Need-search-again-2 Inv-loop μ-loop Inv-search μ-search
 search-again-2 c = absurd (found c)
 
 cast-count-back : tie.Need-cast-count-back Inv-loop μ-loop Inv-search μ-search
-cast-count-back c = let a = c .before .before .before .before .before .before .before .before .before .before .before .before .before .before .before .before .before in let f = facts a in omega (arith, f .horizon-is, f .horizon-le, a .search .inv .0 .end-is, a .search .inv .1, c .before .before .before .before .before .loop .inv .0)
+cast-count-back c = let a = home (c .before .before .before .before .before .before .before .before .before) in let f = facts a in omega (arith, f .horizon-is, f .horizon-le, a .search .inv .0 .end-is, a .search .inv .1, c .before .before .before .before .before .loop .inv .0)
 
 count-back-requires : tie.Need-count-back-requires Inv-loop μ-loop Inv-search μ-search
-count-back-requires c κs = facts (c .before .before .before .before .before .before .before .before .before .before .before .before .before .before .before .before .before) .ranged .few
+count-back-requires c κs = facts (home (c .before .before .before .before .before .before .before .before .before)) .ranged .few
 
 -- What the pass counts makes the demand of the next start.
-counted : (c : tie.After-count-back Inv-loop μ-loop Inv-search μ-search) → let a = c .before .before .before .before .before .before .before .before .before .before .before .before .before .before .before .before .before .before in let l = c .before .before .before .before .before .before .loop in l .asked + c .count-back .result ≡ demand (a .before .before .before .before .before .before .before .before .args .t) (l .from - 1) (a .search .at)
+counted : (c : tie.After-count-back Inv-loop μ-loop Inv-search μ-search) → let a = home (c .before .before .before .before .before .before .before .before .before .before) in let l = c .before .before .before .before .before .before .loop in l .asked + c .count-back .result ≡ demand (a .before .before .before .before .before .before .before .before .args .t) (l .from - 1) (a .search .at)
 counted c =
-    let a = c .before .before .before .before .before .before .before .before .before .before .before .before .before .before .before .before .before .before in
+    let a = home (c .before .before .before .before .before .before .before .before .before .before) in
     let l = c .before .before .before .before .before .before .loop in
     let i = a .search .inv in
     asked-down _ (facts a .ranged) _ (l .inv .2) (l .inv .4) (i .0 .periods) (i .0 .costs) (omega arith) (l .inv .3) (c .count-back .ensures .0)
 
 add-asked : tie.Need-add-asked Inv-loop μ-loop Inv-search μ-search
-add-asked c = let a = c .before .before .before .before .before .before .before .before .before .before .before .before .before .before .before .before .before .before in let f = facts a in omega (arith, counted c, demand-le (a .before .before .before .before .before .before .before .before .args .t) (f .ranged) (c .before .before .before .before .before .before .loop .from - 1) (a .search .at) (omega (arith, f .horizon-is, f .horizon-le, a .search .inv .0 .end-is, a .search .inv .1)))
+add-asked c = let a = home (c .before .before .before .before .before .before .before .before .before .before) in let f = facts a in omega (arith, counted c, demand-le (a .before .before .before .before .before .before .before .before .args .t) (f .ranged) (c .before .before .before .before .before .before .loop .from - 1) (a .search .at) (omega (arith, f .horizon-is, f .horizon-le, a .search .inv .0 .end-is, a .search .inv .1)))
 
 sub-from : tie.Need-sub-from Inv-loop μ-loop Inv-search μ-search
 sub-from c = search needs
@@ -163,7 +167,7 @@ loop-again : tie.Need-loop-again Inv-loop μ-loop Inv-search μ-search
 loop-again c =
     let b = c .before in
     let l = b .before .before .before .before .before .before .loop in
-    let a = b .before .before .before .before .before .before .before .before .before .before .before .before .before .before .before .before .before .before in
+    let a = home (b .before .before .before .before .before .before .before .before .before .before) in
     let i = a .search .inv in
     let t = a .before .before .before .before .before .before .before .before .args .t in (
       omega (arith, l .inv .0),
@@ -181,7 +185,7 @@ conclude-requires c κs = search needs
 
 returns : tie.Need-returns Inv-loop μ-loop Inv-search μ-search
 returns c =
-    let a = c .before .before .before .before .before .before .before .before .before .before in
+    let a = home (c .before .before) in
     let s = a .before .before .before .before .before .before .before .before in
     let i = a .search .inv in
     let f = facts a in
