@@ -1,3 +1,5 @@
+pub mod Back
 pub mod Closed
+pub mod Turn
 pub mod Walked
 pub mod Walking

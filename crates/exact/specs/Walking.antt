@@ -1,48 +1,45 @@
 -- The walk, slot by slot: what holds before each slot, and that what it says at its end is the permitted answer.
-use mathlib.Core.Path.{_≡_, refl, sym, ap, subst, _∙_}
-use mathlib.Core.Logic.{_⊎_, inl, inr, _↔_}
+use mathlib.Core.Path.{_≡_, refl, sym, subst, _∙_}
+use mathlib.Core.Logic.{_⊎_, inl, inr}
 use mathlib.Core.List.{List}
-use mathlib.Core.Bool.{Bool, true, false, cond, _&&_}
-use Prim.Native.Nat.{ℕ, zero, suc, _+_, _-_, _*_, _^_, _≤_, _<_, min}
+use mathlib.Core.Bool.{Bool, true, false, cond}
+use Prim.Native.Nat.{ℕ, suc, _+_, _-_, _≤_, _<_, min}
 use native.Mathlib.Nat.{le-refl, le-step}
-use lib.Pow.{pow-pos}
 use native.Mathlib.Numerals.{add-one}
-use native.Mathlib.Decide.{decLt, decLe, ℕ-discrete}
+use native.Mathlib.Decide.{decLt, ℕ-discrete}
 use native.Mathlib.Omega.{arith}
-use borrow.Author.Tests.{lt-ltb, le-ltb, eq-eqb, ne-eqb}
-use lib.Dec.{T, ltb, eqb, ltb→lt, eqb→eq}
-use lib.ListN.{getD, replicate}
+use borrow.Author.Tests.{lt-ltb, le-ltb}
+use lib.Dec.{T, ltb, eqb, eqb→eq}
+use lib.ListN.{replicate}
 use Rattle.model.specs.declared.Table.{Table}
 use Rattle.model.specs.declared.Measure.{Measure}
 use Rattle.model.specs.declared.Judgement.{Judgement}
 use Rattle.model.specs.declared.Verdict.{Verdict}
-use Rattle.model.specs.declared.Empty.{Empty}
 use Rattle.model.specs.declared.Answer.{Answer}
-use Rattle.model.specs.Notation.{bit, sum, some, bits, first}
+use Rattle.model.specs.Notation.{first}
 use Rattle.model.specs.Limits.{taskLimit}
 use Rattle.model.specs.Tasks.{task, round, load, horizon, judged}
 use Rattle.model.specs.Demand.{demand, asksTooMuch, lateAt}
 use Rattle.model.specs.Run.{tieOrder, firstEmpty}
-use Rattle.model.specs.Verdict.{needed, lateStart, verdict, settledBy, emptyIn, Worsts, Answers, Judged, Permitted}
-use Rattle.model.specs.Dispatcher.{State, startOf, waitOf, leftOf, isLate, leftLate, ownerNow, after}
+use Rattle.model.specs.Verdict.{needed, lateStart, verdict, emptyIn, Worsts, Answers, Permitted}
+use Rattle.model.specs.Dispatcher.{State, startOf, waitOf, isLate, leftLate, ownerNow, after}
 use Rattle.model.specs.History.{stateAt, ownerAt}
-use Rattle.counting.specs.Count.{is-true, is-false, and-iff, eq→eqb, decT, bit-yes, some-iff}
-use Rattle.counting.specs.Sum.{sum-member}
+use Rattle.counting.specs.Count.{is-false, eq→eqb, decT}
 use Rattle.counting.specs.Search.{NoneFrom, first-le, first-longer, first-is, first-none, first-before}
-use Rattle.counting.specs.Bits.{bits-past, bits-none}
 use Rattle.wellformed.specs.Ranges.{Ranged}
 use Rattle.wellformed.specs.WellFormed.{WellFormed, well-formed}
 use Rattle.backlog.specs.Decided.{too-much-iff}
-use Rattle.backlog.specs.Verdicts.{needed-is, needed-le, none-before, none-late, start-is, is-undecided, is-late, is-passed}
+use Rattle.backlog.specs.Verdicts.{needed-is, needed-le, none-late, start-is, is-undecided, is-late, is-passed}
 use Rattle.backlog.specs.Answers.{light-of-passed, met-of-passed}
 use Rattle.backlog.specs.Stepping.{sound}
 use Rattle.backlog.specs.Walk.{quiet, Clear, late-iff}
 use Rattle.backlog.specs.WalkWorst.{worstBy, walk-worsts, walk-empty}
 use Rattle.slots.specs.Slot as slot
-use Rattle.slots.specs.Slot.{Served}
 use Rattle.slots.specs.Columns.{columnsOf}
 use Rattle.slots.specs.Laws as slots-laws
-use Rattle.slots.specs.Laws.{Has, fill-has, slack-has, table-slotted}
+use Rattle.slots.specs.Laws.{Has, fill-has, slack-has, table-turned}
+use Rattle.exact.specs.declared.Seen.{Seen}
+use Rattle.exact.specs.Turn.{Turned}
 use Rattle.exact.specs.Walked.{notedOf, emptied, emptyOf, concluded}
 
 -- The first empty slot before n, or the end.
@@ -68,7 +65,7 @@ module _ (t : Table) (r : Ranged t) (n : ℕ) where
   abbrev st : State
   st = stateAt t quiet n
 
-  -- The set of bits that the walk looks at is that of the jobs that step n would close as late.
+  -- The jobs that the walk looks for are those that step n would close as late.
   abbrev seen : ℕ → Bool
   seen = slot.isLate (st .wait) (st .left) (columnsOf t .slack) (t .count)
 
@@ -78,33 +75,22 @@ module _ (t : Table) (r : Ranged t) (n : ℕ) where
     | no l ↦ rw (le-ltb i (t .count) (omega arith))
   ]
 
-  -- A set with a member is not 0.
-  member-pos : (p : ℕ → Bool) (m i : ℕ) → i < m → T (p i) → bits p m ≡ 0 → ⊥
-  unfolding bits
-  member-pos p m i l h e = omega (arith, sum-member m (λ k. bit (p k) * 2 ^ k) i l, ap (λ (x : ℕ). x * 2 ^ i) (bit-yes (p i) h), pow-pos i)
-
-  pub clear-more : Clear t n → bits seen taskLimit ≡ 0 → Clear t (suc n)
-  clear-more c e u l h = elim (ℕ-discrete u n) [
+  pub clear-more : Clear t n → ((i : ℕ) → i < t .count → T (seen i) → ⊥) → Clear t (suc n)
+  clear-more c none u l h = elim (ℕ-discrete u n) [
     | no q ↦ c u (omega arith) h
-    | yes q ↦ (let (i, m, x) = late-iff t r n c .1 (subst (λ (v : ℕ). T (lateAt t v)) q h) in member-pos seen taskLimit i (omega (arith, r .few)) (subst T (sym (same-late i)) x) e)
+    | yes q ↦ (let (i, m, x) = late-iff t r n c .1 (subst (λ (v : ℕ). T (lateAt t v)) q h) in none i m (subst T (sym (same-late i)) x))
   ]
 
-  pub late-found : Clear t n → (bits seen taskLimit ≡ 0 → ⊥) → T (lateAt t n)
-  late-found c h = go (decT (some seen taskLimit))
-    where
-      go : Dec (T (some seen taskLimit)) → T (lateAt t n)
-      go (yes p) =
-          let (i, l, x) = some-iff seen taskLimit .0 p in
-          late-iff t r n c .0 (i, ltb→lt i (t .count) (and-iff (ltb i (t .count)) _ .0 x .0), subst T (same-late i) x)
-      go (no p) = absurd (h (bits-past seen 0 taskLimit (omega arith) (λ i a b x. p (some-iff seen taskLimit .1 (i, b, x))) ∙ sym (bits-none seen)))
+  pub late-found : Clear t n → (i : ℕ) × (i < t .count) × T (seen i) → T (lateAt t n)
+  late-found c h = let (i, l, x) = h in late-iff t r n c .0 (i, l, subst T (same-late i) x)
 
   -- A served slot is step n.
-  module _ (clear : Clear t (suc n)) {wait′ left′ : List ℕ} {owner : ℕ} (s : Served (st .wait) (st .left) (columnsOf t .period) (columnsOf t .cost) (columnsOf t .slack) (columnsOf t .rank) (t .count) wait′ left′ owner) where
+  module _ (clear : Clear t (suc n)) {wait′ left′ : List ℕ} {owner : ℕ} (s : slots-laws.Slotted (t .count) (slot.at (st .wait)) (slot.at (st .left)) (slot.at (columnsOf t .period)) (slot.at (columnsOf t .cost)) (slot.at (columnsOf t .slack)) (slot.at (columnsOf t .rank)) (st .wait) (st .left) wait′ left′ owner) where
     lefts-have : Has (t .count) (st .left) (leftLate t st false)
     lefts-have i l = rw (is-false (isLate t st false i) (λ h. clear n (le-refl (suc n)) (late-iff t r n (λ u m. clear u (le-step m)) .0 (i, l, h)))) refl
 
     slotted : slots-laws.Slotted (t .count) (waitOf st) (leftLate t st false) (λ i. task t i .period) (λ i. task t i .cost) (λ i. task t i .period - task t i .deadline) (tieOrder t) (st .wait) (st .left) wait′ left′ owner
-    slotted = table-slotted t (r .few) (st .wait) (st .left) (waitOf st) (leftLate t st false) (sound t r quiet n .waits) (sound t r quiet n .lefts) (λ i l. refl) lefts-have s
+    slotted = table-turned t (r .few) (st .wait) (st .left) (waitOf st) (leftLate t st false) (λ i l. refl) lefts-have s
 
     pub owner-is : owner ≡ ownerAt t quiet n
     unfolding ownerNow
@@ -227,22 +213,19 @@ pub record Setting (t : Table) (m : Measure) (budget n end : ℕ) (period cost s
   pub slacks : slack ≡ columnsOf t .slack
   pub ranks : rank ≡ columnsOf t .rank
 
--- One turn of the walk, in the lists that it holds: the late jobs as a set, and then a slot.
+-- One turn of the walk, in the lists that it holds.
 module _
     (t : Table) (r : Ranged t) (m : Measure) (horizon-is : m .horizon ≡ horizon t) {budget end n : ℕ} {period cost slack rank : List ℕ} (setting : Setting t m budget (t .count) end period cost slack rank)
-    {wait left worst : List ℕ} {empty tasks : ℕ} (w : Walking t n wait left worst empty) (late : tasks ≡ bits (slot.isLate wait left slack (t .count)) taskLimit)
+    {wait left worst wait′ left′ : List ℕ} {empty : ℕ} {now : Seen} (w : Walking t n wait left worst empty) (turned : Turned wait left period cost slack rank (t .count) wait′ left′ now)
   where
-    late-set : tasks ≡ bits (seen t r n) taskLimit
-    late-set = late ∙ rw (w .waits, w .lefts, setting .slacks)
+    pub none-found : now .late ≡ false → Clear t (suc n)
+    none-found e = clear-more t r n (w .clear) (rw (w .waits, w .lefts, setting .slacks) at (turned .quiet e))
 
-    pub none-found : tasks ≡ 0 → Clear t (suc n)
-    none-found e = clear-more t r n (w .clear) (sym late-set ∙ e)
+    pub one-found : now .late ≡ true → T (lateAt t n)
+    one-found e = late-found t r n (w .clear) (rw (w .waits, w .lefts, setting .slacks) at (turned .found e))
 
-    pub one-found : (tasks ≡ 0 → ⊥) → T (lateAt t n)
-    one-found h = late-found t r n (w .clear) (λ e. h (late-set ∙ e))
-
-    pub walk-slot : {wait′ left′ worst′ : List ℕ} {empty′ owner : ℕ} → tasks ≡ 0 → Served wait left period cost slack rank (t .count) wait′ left′ owner → n < horizon t
-        → worst′ ≡ notedOf worst owner period wait′ left′ → empty′ ≡ emptied empty (m .horizon) owner n → Walking t (n + 1) wait′ left′ worst′ empty′
-    walk-slot e s h f g =
+    pub walk-slot : {worst′ : List ℕ} {empty′ : ℕ} → now .late ≡ false → n < horizon t
+        → worst′ ≡ notedOf worst (now .owner) period wait′ left′ → empty′ ≡ emptied empty (m .horizon) (now .owner) n → Walking t (n + 1) wait′ left′ worst′ empty′
+    walk-slot e h f g =
         rw (f, g, setting .periods, horizon-is)
-        (walking-next t r n (none-found e) (rw (w .waits, w .lefts, setting .periods, setting .costs, setting .slacks, setting .ranks) at s) (w .worsts) (w .empties) h)
+        (walking-next t r n (none-found e) (rw (w .waits, w .lefts, setting .periods, setting .costs, setting .slacks, setting .ranks) at (turned .slot e)) (w .worsts) (w .empties) h)

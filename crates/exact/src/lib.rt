@@ -1,12 +1,16 @@
 // The exact test: a walk slot by slot, and at the first late deadline a search for the largest start.
 ghost use mathlib.Core.Path.{_≡_};
 ghost use Prim.Native.Nat.{_-_, _≤_, _<_, max, min};
+ghost use lib.ListN.{set};
 ghost use Rattle.model.specs.declared.Judgement.{Judgement};
-ghost use Rattle.model.specs.Limits.{horizonLimit};
 ghost use Rattle.model.specs.Tasks.{judged};
-ghost use Rattle.model.specs.Demand.{jobsIn, demand};
+ghost use Rattle.model.specs.Limits.{taskLimit, horizonLimit};
+ghost use Rattle.model.specs.Notation.{sum, fill};
 ghost use Rattle.model.specs.Verdict.{brief as briefly, Permitted};
 ghost use Rattle.wellformed.specs.Ranges.{InRange, Ranged};
+ghost use Rattle.slots.specs.Slot.{waitReleased, leftReleased};
+ghost use Rattle.exact.specs.Back.{markOf, earlierMark, dueBy, marksAt, markThen, askedAt};
+ghost use Rattle.exact.specs.Turn.{Turned};
 ghost use Rattle.exact.specs.Walked.{notedOf, emptied, emptyOf, concluded};
 use model::Answer;
 use model::Empty;
@@ -17,8 +21,10 @@ use model::TASK_LIMIT;
 use model::Table;
 use model::Task;
 use model::Verdict;
+use slots::NO_KEY;
 use slots::NO_TASK;
 use slots::Numbers;
+use slots::Ranks;
 
 // The difference, or 0.
 fn less(x: u64, y: u64) -> u64
@@ -33,32 +39,67 @@ fn to_u64(x: u32) -> u64
     x as u64
 }
 
-// The jobs of a task inside an interval: those due by its end, less those released before its start.
-fn jobs_in(k: Task, from: u64, to: u64) -> u64
+// What is kept of a task while the start goes down: one more than the release of its latest job that is due by the end and not
+// yet counted, or 0. This is the one before.
+fn earlier(mark: u32, offset: u32, period: u32) -> u32
+    ensures { λ r. ⌜ r ≡ earlierMark mark offset period ⌝ }
+{
+    if offset < slots::less(mark, 1) {
+        slots::less(mark, period)
+    } else {
+        0
+    }
+}
+
+// Where no job is counted yet.
+fn mark_at(k: Task, to: u64) -> u32
     requires { ⌜ InRange k ⌝ }
-    requires { ⌜ (from ≤ to) × (to ≤ horizonLimit) ⌝ }
-    ensures { λ r. ⌜ r ≡ jobsIn k from to ⌝ }
+    requires { ⌜ to ≤ horizonLimit ⌝ }
+    ensures { λ r. ⌜ r ≡ markOf k (dueBy k to) ⌝ }
 {
     let period = to_u64(k.period);
     let offset = to_u64(k.offset);
     let due = less(to + period, offset + to_u64(k.deadline)) / period;
-    let released = (less(from, offset) + (period - 1)) / period;
-    less(due, released)
+    if due == 0 {
+        return 0;
+    }
+    (offset + (due - 1) * period + 1) as u32
 }
 
-// The slots that an interval asks for.
-fn demand(t: Table, from: u64, to: u64) -> u64
+fn marks(t: Table, to: u64) -> Numbers
     requires { ⌜ Ranged t ⌝ }
-    requires { ⌜ (from ≤ to) × (to ≤ horizonLimit) ⌝ }
-    ensures { λ r. ⌜ r ≡ demand t from to ⌝ }
+    requires { ⌜ to ≤ horizonLimit ⌝ }
+    ensures { λ r. ⌜ r ≡ marksAt t to ⌝ }
 {
     let n = t.count;
-    let mut asked: u64 = 0;
+    let mut mark = [0u32; TASK_LIMIT];
     for i in 0..n {
-        let task = t.tasks[i];
-        asked = asked + to_u64(task.cost) * jobs_in(task, from, to);
+        mark[i] = mark_at(t.tasks[i], to);
     }
-    asked
+    mark
+}
+
+// The start goes down by one, from `from`: the jobs released there are counted, and what they ask for is handed back.
+fn count_back(
+    mark: &mut Numbers,
+    offset: &Numbers,
+    period: &Numbers,
+    cost: &Numbers,
+    n: usize,
+    from: u32,
+) -> u64
+    requires { ⌜ n ≤ taskLimit ⌝ }
+    ensures { λ r. ⌜ (r ≡ sum n (askedAt (now (mark .entry)) (now (cost .entry)) from)) × (now (mark .exit) ≡ fill n (markThen (now (mark .entry)) (now (offset .entry)) (now (period .entry)) from) (now (mark .entry))) ⌝ }
+{
+    let mut more: u64 = 0;
+    for i in 0..n {
+        let m = mark[i];
+        if m == from {
+            mark[i] = earlier(m, offset[i], period[i]);
+            more = more + to_u64(cost[i]);
+        }
+    }
+    more
 }
 
 fn larger(x: u32, y: u32) -> u32
@@ -142,6 +183,93 @@ fn smaller(x: u64, y: u64) -> u64
     if x < y { x } else { y }
 }
 
+// What one pass over the tasks sees at a slot: an open job at its deadline, or else the slot's owner.
+struct Seen {
+    late: bool,
+    owner: u32,
+}
+
+// The wait and the slots left of one task once its job, if one is due, is released.
+struct Renewed {
+    wait: u32,
+    left: u32,
+}
+
+// One task in a slot: the release, if its wait is 0, and then the wait one lower.
+fn renew(
+    wait: &mut Numbers,
+    left: &mut Numbers,
+    period: &Numbers,
+    cost: &Numbers,
+    i: usize,
+) -> Renewed
+    requires { ⌜ i < taskLimit ⌝ }
+    ensures { λ r. ⌜ (r .wait ≡ waitReleased (now (wait .entry)) (now (period .entry)) i) × (r .left ≡ leftReleased (now (wait .entry)) (now (left .entry)) (now (cost .entry)) i) × (now (wait .exit) ≡ set (now (wait .entry)) i (r .wait - 1)) × (now (left .exit) ≡ set (now (left .entry)) i (r .left)) ⌝ }
+{
+    let w = wait[i];
+    if w == 0 {
+        let next = period[i];
+        let fresh = cost[i];
+        left[i] = fresh;
+        wait[i] = slots::less(next, 1);
+        return Renewed {
+            wait: next,
+            left: fresh,
+        };
+    }
+    wait[i] = w - 1;
+    Renewed {
+        wait: w,
+        left: left[i],
+    }
+}
+
+// The slot in one pass, up to the first job at its deadline.
+fn turn(
+    wait: &mut Numbers,
+    left: &mut Numbers,
+    period: &Numbers,
+    cost: &Numbers,
+    slack: &Numbers,
+    rank: &Ranks,
+    n: usize,
+) -> Seen
+    requires { ⌜ n ≤ taskLimit ⌝ }
+    ensures { λ r. ⌜ Turned (now (wait .entry)) (now (left .entry)) (now (period .entry)) (now (cost .entry)) (now (slack .entry)) (now (rank .entry)) n (now (wait .exit)) (now (left .exit)) r ⌝ }
+{
+    let mut owner = NO_TASK;
+    let mut least = NO_KEY;
+    let mut rest: u32 = 0;
+    for i in 0..n {
+        if 0 < left[i] {
+            if wait[i] == slack[i] {
+                return Seen {
+                    late: true,
+                    owner: NO_TASK,
+                };
+            }
+        }
+        let task = renew(wait, left, period, cost, i);
+        let open = task.left;
+        if 0 < open {
+            let key = slots::key_of(open, slots::less(task.wait, slack[i]), rank[i]);
+            if key < least {
+                least = key;
+                owner = i as u32;
+                rest = open - 1;
+            }
+        }
+    }
+    if owner < NO_TASK {
+        let i = owner as usize;
+        left[i] = rest;
+    }
+    Seen {
+        late: false,
+        owner: owner,
+    }
+}
+
 // Slot by slot to the end, or to the first late deadline: there, downwards, to the largest start that asks too much.
 fn walk(t: Table, m: Measure, budget: u64) -> Answer
     requires { ⌜ judged t ≡ Judgement.WellFormed m ⌝ }
@@ -163,19 +291,22 @@ fn walk(t: Table, m: Measure, budget: u64) -> Answer
     let mut asked: u64 = 0;
     let mut at: u64 = 0;
     'search: loop {
-        if slots::late_set(&wait, &left, &slack, n) == 0 {
+        let seen = turn(&mut wait, &mut left, &period, &cost, &slack, &rank, n);
+        if !seen.late {
             if at == end {
                 break 'search;
             }
-            let owner = slots::serve(&mut wait, &mut left, &period, &cost, &slack, &rank, n);
+            let owner = seen.owner;
             note(&mut worst, owner, &period, &wait, &left);
             empty = first_empty(empty, m.horizon, owner, at);
             at = at + 1;
         } else {
+            let offset = slots::offsets(t);
+            let mut mark = marks(t, at);
             from = at;
             while from > 0 {
+                asked = asked + count_back(&mut mark, &offset, &period, &cost, n, from as u32);
                 from = from - 1;
-                asked = demand(t, from, at);
                 if asked > at - from {
                     break 'search;
                 }

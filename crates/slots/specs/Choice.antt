@@ -83,6 +83,11 @@ module _ (open? : ℕ → Bool) (deadline : ℕ → ℕ) (rank : Order) where
       λ l. record { owned = more (le-ltb key least l); none = best .none; some = best .some },
     )
 
+  -- A turn past a task that is not open.
+  pub best-skip : (i : ℕ) {owner least : ℕ} → Best i owner least → open? i ≡ false → Best (i + 1) owner least
+  unfolding choose
+  best-skip i best e = record { owned = rw (add-one, e) (best .owned); none = best .none; some = best .some }
+
   -- The choice is no task, or one of those below n.
   pub choose-range : (n : ℕ) → (choose open? deadline rank n ≡ taskLimit) ⊎ (choose open? deadline rank n < n)
   unfolding choose

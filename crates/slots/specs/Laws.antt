@@ -45,7 +45,7 @@ pub fill-has : (n : ℕ) (f : ℕ → ℕ) (l : List ℕ) → n ≤ length l →
 fill-has n f l h i a = fill-passed n f l i 0 a (omega arith)
 
 -- One task's number is changed: none of them, if it is no task.
-store-fill : (n : ℕ) (f g : ℕ → ℕ) (w : List ℕ) (task v : ℕ) → n ≤ taskLimit → (task ≡ taskLimit) ⊎ (task < n) → (task < n → v ≡ g task) → ((i : ℕ) → i < n → (i ≡ task → ⊥) → f i ≡ g i)
+pub store-fill : (n : ℕ) (f g : ℕ → ℕ) (w : List ℕ) (task v : ℕ) → n ≤ taskLimit → (task ≡ taskLimit) ⊎ (task < n) → (task < n → v ≡ g task) → ((i : ℕ) → i < n → (i ≡ task → ⊥) → f i ≡ g i)
     → cond (ltb task taskLimit) (set (fill n f w) task v) (fill n f w) ≡ fill n g w
 store-fill n f g w task v h (inl e) q s = rw (le-ltb task taskLimit (omega arith)) (fill-eq n f g w (λ i l. s i l (omega arith)))
 store-fill n f g w task v h (inr l) q s = rw (lt-ltb task taskLimit (omega arith)) (fill-set n f g w task l (q l) s)
@@ -69,6 +69,19 @@ pub record Slotted (n : ℕ) (W L P C S : ℕ → ℕ) (R : Order) (wait left wa
   pub owned : owner ≡ choose (λ i. ltb 0 (leftThen W L C i)) (λ i. waitThen W P i - S i) R n
   pub waits : wait′ ≡ fill n (λ i. waitThen W P i - 1) wait
   pub lefts : left′ ≡ fill n (λ i. leftThen W L C i - cond (eqb owner i) 1 0) left
+
+-- The same slot in numbers that the lists have.
+pub slotted-has :
+    (n : ℕ) (wait left period cost slack rank : List ℕ) (W L P C S : ℕ → ℕ) (R : Order) {wait′ left′ : List ℕ} {owner : ℕ}
+    → Has n wait W → Has n left L → Has n period P → Has n cost C → Has n slack S → Has n rank R
+    → Slotted n (at wait) (at left) (at period) (at cost) (at slack) (at rank) wait left wait′ left′ owner
+    → Slotted n W L P C S R wait left wait′ left′ owner
+slotted-has n wait left period cost slack rank W L P C S R w l p c s r x =
+    record {
+      owned = x .owned ∙ choose-eq _ _ _ _ _ _ n (λ i a. rw (w i a, l i a, c i a)) (λ i a. rw (w i a, p i a, s i a)) r;
+      waits = x .waits ∙ fill-eq n _ _ wait (λ i a. rw (w i a, p i a));
+      lefts = x .lefts ∙ fill-eq n _ _ left (λ i a. rw (w i a, l i a, c i a));
+    }
 
 module _
     (n : ℕ) (wait left period cost slack rank : List ℕ) (W L P C S : ℕ → ℕ) (R : Order)
@@ -138,3 +151,9 @@ module _ (t : Table) (few : t .count ≤ taskLimit) where
       → Slotted (t .count) W L (λ i. task t i .period) (λ i. task t i .cost) (λ i. task t i .period - task t i .deadline) (tieOrder t) wait left wait′ left′ owner
   table-slotted wait left W L wait-long left-long wait-has left-has =
       slotted (t .count) wait left _ _ _ _ W L _ _ _ _ few wait-long left-long wait-has left-has period-has cost-has slack-has rank-has
+
+  pub table-turned :
+      (wait left : List ℕ) (W L : ℕ → ℕ) {wait′ left′ : List ℕ} {owner : ℕ} → Has (t .count) wait W → Has (t .count) left L
+      → Slotted (t .count) (at wait) (at left) (at (columnsOf t .period)) (at (columnsOf t .cost)) (at (columnsOf t .slack)) (at (columnsOf t .rank)) wait left wait′ left′ owner
+      → Slotted (t .count) W L (λ i. task t i .period) (λ i. task t i .cost) (λ i. task t i .period - task t i .deadline) (tieOrder t) wait left wait′ left′ owner
+  table-turned wait left W L wait-has left-has = slotted-has (t .count) wait left (columnsOf t .period) (columnsOf t .cost) (columnsOf t .slack) (columnsOf t .rank) W L _ _ _ _ wait-has left-has period-has cost-has slack-has rank-has

@@ -26,7 +26,7 @@ pub type Ranks = [u16; TASK_LIMIT];
 const RANKS: u64 = 0x1_0000;
 
 // What a task that is not open is compared by.
-const NO_KEY: u64 = 0xffff_ffff_ffff_ffff;
+pub const NO_KEY: u64 = 0xffff_ffff_ffff_ffff;
 
 // What a slot reads of a table, a list for each number. The slack is T - D: the wait of a job at its deadline.
 pub struct Columns {
@@ -182,7 +182,7 @@ pub fn choose(wait: &Numbers, left: &Numbers, slack: &Numbers, rank: &Ranks, n: 
     owner
 }
 
-fn key_of(left: u32, due: u32, rank: u16) -> u64
+pub fn key_of(left: u32, due: u32, rank: u16) -> u64
     ensures { λ r. ⌜ (r ≡ keyOf (ltb 0 left) due rank) × (due < 2 ^ 32) × (rank < ranks) ⌝ }
 {
     if 0 < left {

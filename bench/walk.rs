@@ -1,0 +1,132 @@
+// The plain walk that the proved one is compared with: slot by slot, the released job with the earliest deadline, ties to the
+// lower number; worst responses, the first empty slot, and the first deadline that a job misses. It is written in two ways.
+#[derive(Clone, Copy)]
+pub struct Task {
+    pub offset: u32,
+    pub cost: u32,
+    pub deadline: u32,
+    pub period: u32,
+}
+
+#[derive(Clone, Copy, Debug, PartialEq)]
+pub enum End {
+    Late(u64),
+    Reached(u64),
+}
+
+#[derive(Debug, PartialEq)]
+pub struct Walk {
+    pub end: End,
+    pub worst: [u32; 16],
+    pub empty: Option<u64>,
+}
+
+// Late jobs are looked for in the pass that makes the slot, as the proved walk does it.
+#[inline(never)]
+pub fn one_pass(tasks: &[Task], end: u64) -> Walk {
+    let n = tasks.len();
+    let mut wait = [0u32; 16];
+    let mut left = [0u32; 16];
+    let mut slack = [0u32; 16];
+    let mut worst = [0u32; 16];
+    let mut empty = None;
+    for i in 0..n {
+        wait[i] = tasks[i].offset;
+        slack[i] = tasks[i].period - tasks[i].deadline;
+    }
+    let mut at = 0;
+    loop {
+        let mut owner = None;
+        let mut earliest = u32::MAX;
+        for i in 0..n {
+            if left[i] > 0 && wait[i] == slack[i] {
+                return Walk { end: End::Late(at), worst, empty };
+            }
+            if wait[i] == 0 {
+                wait[i] = tasks[i].period;
+                left[i] = tasks[i].cost;
+            }
+            if left[i] > 0 {
+                let due = wait[i] - slack[i];
+                if due < earliest {
+                    earliest = due;
+                    owner = Some(i);
+                }
+            }
+            wait[i] -= 1;
+        }
+        if at == end {
+            return Walk { end: End::Reached(at), worst, empty };
+        }
+        match owner {
+            Some(i) => {
+                left[i] -= 1;
+                if left[i] == 0 {
+                    worst[i] = worst[i].max(tasks[i].period - wait[i]);
+                }
+            }
+            None => {
+                if empty.is_none() {
+                    empty = Some(at);
+                }
+            }
+        }
+        at += 1;
+    }
+}
+
+// Late jobs are looked for first, and then the slot is made.
+#[inline(never)]
+pub fn two_passes(tasks: &[Task], end: u64) -> Walk {
+    let n = tasks.len();
+    let mut wait = [0u32; 16];
+    let mut left = [0u32; 16];
+    let mut slack = [0u32; 16];
+    let mut worst = [0u32; 16];
+    let mut empty = None;
+    for i in 0..n {
+        wait[i] = tasks[i].offset;
+        slack[i] = tasks[i].period - tasks[i].deadline;
+    }
+    let mut at = 0;
+    loop {
+        for i in 0..n {
+            if left[i] > 0 && wait[i] == slack[i] {
+                return Walk { end: End::Late(at), worst, empty };
+            }
+        }
+        if at == end {
+            return Walk { end: End::Reached(at), worst, empty };
+        }
+        let mut owner = None;
+        let mut earliest = u32::MAX;
+        for i in 0..n {
+            if wait[i] == 0 {
+                wait[i] = tasks[i].period;
+                left[i] = tasks[i].cost;
+            }
+            if left[i] > 0 {
+                let due = wait[i] - slack[i];
+                if due < earliest {
+                    earliest = due;
+                    owner = Some(i);
+                }
+            }
+            wait[i] -= 1;
+        }
+        match owner {
+            Some(i) => {
+                left[i] -= 1;
+                if left[i] == 0 {
+                    worst[i] = worst[i].max(tasks[i].period - wait[i]);
+                }
+            }
+            None => {
+                if empty.is_none() {
+                    empty = Some(at);
+                }
+            }
+        }
+        at += 1;
+    }
+}

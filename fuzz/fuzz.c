@@ -1,0 +1,171 @@
+// The exported calls on any bytes, under AddressSanitizer and libFuzzer. Built and run by fuzz/run.
+// Every buffer is a heap block of exactly its size. A property that fails ends the run.
+#include <stddef.h>
+#include <stdint.h>
+#include <stdio.h>
+#include <stdlib.h>
+#include <string.h>
+
+uint64_t yolizadwa_check(const uint8_t *file, size_t file_len, uint8_t *report, size_t report_len);
+uint64_t yolizadwa_start(const uint8_t *file, size_t file_len, uint8_t *state, size_t state_len);
+uint64_t yolizadwa_step(const uint8_t *file, size_t file_len, uint8_t *state, size_t state_len, uint32_t done);
+
+enum { REPORT = 512, STATE = 144, REFUSED = 65536, NONE = 16 };
+
+#define HOLDS(fact)                                                       \
+    do {                                                                  \
+        if (!(fact)) {                                                    \
+            fprintf(stderr, "line %d does not hold: %s\n", __LINE__, #fact); \
+            abort();                                                      \
+        }                                                                 \
+    } while (0)
+
+static uint8_t *block(size_t bytes, int with) {
+    uint8_t *b = malloc(bytes ? bytes : 1);
+    HOLDS(b);
+    memset(b, with, bytes);
+    return b;
+}
+
+static int all(const uint8_t *b, size_t from, size_t to, int with) {
+    for (size_t i = from; i < to; i++)
+        if (b[i] != with) return 0;
+    return 1;
+}
+
+static uint32_t word(const uint8_t *b, size_t at) {
+    return b[at] | (uint32_t)b[at + 1] << 8 | (uint32_t)b[at + 2] << 16 | (uint32_t)b[at + 3] << 24;
+}
+
+static void put_word(uint8_t *b, size_t at, uint32_t w) {
+    for (int i = 0; i < 4; i++) b[at + i] = w >> 8 * i;
+}
+
+// A report buffer of this size, filled with this byte: the result, and the report in `out`.
+static uint64_t check(const uint8_t *file, size_t len, size_t bytes, int with, uint8_t *out) {
+    uint8_t *report = block(bytes, with);
+    uint64_t r = yolizadwa_check(file, len, report, bytes);
+    if (bytes < REPORT) HOLDS(r == (uint64_t)30 * REFUSED + bytes);
+    if (r < REFUSED) {
+        HOLDS(r <= REPORT && r > 0);
+        HOLDS(all(report, r, bytes, with));
+        HOLDS(report[r - 1] == '\n');
+        if (out) memcpy(out, report, r);
+    } else {
+        HOLDS(all(report, 0, bytes, with));
+        HOLDS(r >> 16 <= 30 && r >> 16 != 2);
+    }
+    free(report);
+    return r;
+}
+
+// A step on a copy of the state, twice: the result, and the next state in place.
+static uint64_t step(const uint8_t *file, size_t len, uint8_t *state, uint32_t done) {
+    uint8_t *before = block(STATE, 0), *again = block(STATE, 0);
+    memcpy(before, state, STATE);
+    memcpy(again, state, STATE);
+    uint64_t r = yolizadwa_step(file, len, state, STATE, done);
+    HOLDS(yolizadwa_step(file, len, again, STATE, done) == r);
+    HOLDS(memcmp(state, again, STATE) == 0);
+    if (r < REFUSED) {
+        uint32_t late = word(state, 132), closed = word(state, 136), lowest = word(state, 140);
+        HOLDS(r <= NONE && word(state, 128) == r);
+        HOLDS(late >> 16 == 0 && closed == (uint32_t)__builtin_popcount(late));
+        HOLDS(lowest == (late ? (uint32_t)__builtin_ctz(late) : NONE));
+    } else {
+        HOLDS(memcmp(state, before, STATE) == 0);
+    }
+    free(before);
+    free(again);
+    return r;
+}
+
+static void try_file(const uint8_t *bytes, size_t len, const uint8_t *more, size_t more_len) {
+    uint8_t *file = block(len, 0);
+    memcpy(file, bytes, len);
+    // a budget below 2^16, so that a run is short
+    if (len >= 9 && file[0] == 1) memset(file + 3, 0, 6);
+    uint8_t *kept = block(len, 0);
+    memcpy(kept, file, len);
+
+    uint8_t text[REPORT + 1] = {0}, second[REPORT] = {0};
+    uint64_t r = check(file, len, REPORT, 0xa5, text);
+    HOLDS(check(file, len, REPORT, 0x3c, second) == r);
+    HOLDS(memcmp(text, second, REPORT) == 0);
+    HOLDS(check(file, len, REPORT + 88, 0x77, second) == r);
+    HOLDS(memcmp(text, second, REPORT) == 0);
+    check(file, len, REPORT - 1, 0xa5, 0);
+    check(file, len, more_len ? more[0] : 0, 0xa5, 0);
+
+    size_t strange = more_len ? more[0] : STATE - 1;
+    uint8_t *odd = block(strange, 0x5a);
+    if (strange != STATE) {
+        HOLDS(yolizadwa_start(file, len, odd, strange) == (uint64_t)50 * REFUSED + strange);
+        HOLDS(yolizadwa_step(file, len, odd, strange, 1) == (uint64_t)50 * REFUSED + strange);
+        HOLDS(all(odd, 0, strange, 0x5a));
+    }
+    free(odd);
+
+    // any bytes as a state
+    uint8_t *state = block(STATE, 0);
+    memcpy(state, more, more_len < STATE ? more_len : STATE);
+    step(file, len, state, more_len & 1);
+
+    // the start, and steps from it; what is told of a table that passes holds without done reports
+    memset(state, 0xee, STATE);
+    uint64_t s = yolizadwa_start(file, len, state, STATE);
+    HOLDS((s == 0) == (r < REFUSED));
+    if (s != 0) {
+        HOLDS(s == r);
+        HOLDS(all(state, 0, STATE, 0xee));
+    } else {
+        int passes = strstr((char *)text, "verdict passes\n") != 0, reports = 0;
+        size_t tasks = (len - 10) / 17;
+        for (int i = 0; i < 200; i++) {
+            uint32_t done = more_len ? more[i % more_len] & 1 : 0;
+            reports |= done;
+            uint64_t owner = step(file, len, state, done);
+            HOLDS(owner == NONE || owner < tasks);
+            if (passes && !reports) HOLDS(word(state, 132) == 0);
+        }
+    }
+    HOLDS(memcmp(file, kept, len) == 0);
+    free(state);
+    free(kept);
+    free(file);
+}
+
+int LLVMFuzzerTestOneInput(const uint8_t *data, size_t size) {
+    if (size < 2) return 0;
+    uint8_t form = data[0], cut = data[1];
+    data += 2;
+    size -= 2;
+    if (form & 1) {
+        // the bytes as they are: the first as the file, the rest for what else is asked
+        size_t len = size * (cut + 1) / 256;
+        try_file(data, len, data + len, size - len);
+        return 0;
+    }
+    // the bytes as the numbers of a table that is mostly well-formed
+    uint8_t file[10 + 17 * 16];
+    size_t at = 0, used = 0, tasks = 1 + (form >> 1) % 16;
+    uint32_t longest = 1u << (cut % 12);
+    file[at++] = 1;
+    for (int i = 0; i < 8; i++) file[at++] = i < 2 ? (used < size ? data[used++] : 0xff) : 0;
+    for (size_t i = 0; i < tasks; i++) {
+        uint32_t n[4] = {0};
+        for (int k = 0; k < 4; k++)
+            for (int b = 0; b < 2; b++) n[k] = n[k] << 8 | (used < size ? data[used++] : 1);
+        uint32_t period = 1 + n[0] % longest, deadline = period - (n[1] & 7 ? n[1] % period / 4 : 0), cost = 1 + n[2] % deadline;
+        if (tasks > 1 && cost > 1 + period / tasks) cost = 1 + period / tasks;
+        file[at++] = 2;
+        put_word(file, at, n[3] % 300);
+        put_word(file, at + 4, cost);
+        put_word(file, at + 8, deadline);
+        put_word(file, at + 12, period);
+        at += 16;
+    }
+    file[at++] = 3;
+    try_file(file, at, data + used, size - used);
+    return 0;
+}
