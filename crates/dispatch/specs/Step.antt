@@ -1,13 +1,13 @@
 -- A step by what the slot's rules make of the lists.
-use mathlib.Core.Path.{_≡_, refl, sym, ap, _∙_}
+use mathlib.Core.Path.{_≡_, refl, sym, ap, subst, _∙_}
 use mathlib.Core.List.{List}
-use mathlib.Core.Bool.{Bool, true, false, cond}
+use mathlib.Core.Bool.{Bool, true, false, cond, _&&_}
 use Prim.Native.Nat.{ℕ, _-_, _<_}
 use native.Mathlib.Decide.{decLt}
 use native.Mathlib.Omega.{arith}
 use borrow.Author.Tests.{le-ltb}
 use lib.Count.{ones, trailingZeros}
-use lib.Dec.{ltb, eqb}
+use lib.Dec.{T, ltb, eqb}
 use lib.ListN.{length}
 use Rattle.model.specs.declared.Table.{Table}
 use Rattle.model.specs.declared.Turn.{Turn}
@@ -17,12 +17,15 @@ use Rattle.model.specs.Notation.{bits, fill}
 use Rattle.model.specs.Tasks.{task}
 use Rattle.model.specs.Run.{tieOrder}
 use Rattle.model.specs.Dispatcher.{State, Stepped, waitOf, firstStrange, lastStrange, leftDone, isLate, leftLate, leftReleased, ownerNow, after, turn, refuse}
-use Rattle.counting.specs.Fill.{fill-length, fill-eq, fill-same, fill-again}
+use Rattle.counting.specs.Count.{and-iff}
+use Rattle.counting.specs.Fill.{fill-eq, fill-same, fill-again}
 use Rattle.counting.specs.Bits.{bits-eq, ones-bits, trailing-bits}
 use Rattle.slots.specs.declared.Columns.{Columns}
 use Rattle.slots.specs.Columns.{columnsOf}
-use Rattle.slots.specs.Slot.{closed, isLate as isLateIn, closedAll, Served}
-use Rattle.slots.specs.Laws.{Has, fill-has, closed-fill, member-is, slack-has, Slotted, table-slotted}
+use Rattle.slots.specs.declared.Seen.{Seen}
+use Rattle.slots.specs.Slot.{closed, isLate as isLateIn, closedAll}
+use Rattle.slots.specs.Serve.{Served}
+use Rattle.slots.specs.Laws.{Has, fill-has, closed-fill, member-is, slack-has, Slotted, table-served}
 use Rattle.dispatch.specs.Strange.{Belongs}
 
 -- A step that nothing refuses.
@@ -71,19 +74,34 @@ module _ (t : Table) (d : State) (done : Bool) (belongs : Belongs t d) (whole : 
       ∙ fill-eq (t .count) _ _ (d .left) (λ i l. rw (q, member-is (isLate t d done) i (omega (arith, belongs .few)), filled-has (leftDone t d done) e i l))
 
   -- Rules 3 and 4.
-  module _ {left wait′ left′ : List ℕ} {owner : ℕ} (e : left ≡ fill (t .count) (leftLate t d done) (d .left))
-      (s : Served (d .wait) left (columnsOf t .period) (columnsOf t .cost) (columnsOf t .slack) (columnsOf t .rank) (t .count) wait′ left′ owner) where
-    slot : Slotted (t .count) (waitOf d) (leftLate t d done) (λ i. task t i .period) (λ i. task t i .cost) (λ i. task t i .period - task t i .deadline) (tieOrder t) (d .wait) left wait′ left′ owner
-    slot = table-slotted t (belongs .few) (d .wait) left (waitOf d) (leftLate t d done) (whole .waits) (ap length e ∙ fill-length (t .count) _ (d .left) ∙ whole .lefts) (λ i l. refl) (filled-has (leftLate t d done) e) s
+  module _ {left wait′ left′ : List ℕ} {seen : Seen} (e : left ≡ fill (t .count) (leftLate t d done) (d .left))
+      (s : Served (d .wait) left (columnsOf t .period) (columnsOf t .cost) (columnsOf t .slack) (columnsOf t .rank) (t .count) wait′ left′ seen) where
+    -- Once the late jobs are closed none is left.
+    calm : (i : ℕ) → i < t .count → T (isLateIn (d .wait) left (columnsOf t .slack) (t .count) i) → ⊥
+    calm i l h = go (isLate t d done i) refl (rw (filled-has (leftLate t d done) e i l, slack-has t (belongs .few) i l) at h)
+      where
+        go : (b : Bool) → isLate t d done i ≡ b → T (ltb i (t .count) && (ltb 0 (cond b 0 (leftDone t d done i)) && eqb (waitOf d i) (task t i .period - task t i .deadline))) → ⊥
+        go true q x = and-iff (ltb i (t .count)) false .0 x .1
+        go false q x = subst T q x
 
-    owner-is : owner ≡ ownerNow t d done
+    none-late : seen .late ≡ false
+    none-late = go (seen .late) refl
+      where
+        go : (b : Bool) → seen .late ≡ b → seen .late ≡ false
+        go true q = let (i, l, h) = s .found q in absurd (calm i l h)
+        go false q = q
+
+    slot : Slotted (t .count) (waitOf d) (leftLate t d done) (λ i. task t i .period) (λ i. task t i .cost) (λ i. task t i .period - task t i .deadline) (tieOrder t) (d .wait) left wait′ left′ (seen .owner)
+    slot = table-served t (belongs .few) (d .wait) left (waitOf d) (leftLate t d done) (λ i l. refl) (filled-has (leftLate t d done) e) (s .slot none-late)
+
+    owner-is : seen .owner ≡ ownerNow t d done
     unfolding ownerNow
     owner-is = slot .owned
 
     lefts-are : left′ ≡ fill (t .count) (λ i. leftReleased t d done i - cond (eqb (ownerNow t d done) i) 1 0) (d .left)
     lefts-are = rw owner-is at (slot .lefts ∙ ap (fill (t .count) _) e ∙ fill-again (t .count) _ _ (d .left))
 
-    state-is : record { wait = wait′; left = left′; last = owner } ≡ after t d done
+    state-is : record { wait = wait′; left = left′; last = seen .owner } ≡ after t d done
     unfolding after
     state-is = rw (slot .waits, lefts-are, owner-is)
 
@@ -94,13 +112,13 @@ module _ (t : Table) (d : State) (done : Bool) (belongs : Belongs t d) (whole : 
 
   -- All four, from the lists that the code makes.
   pub taken-is :
-      {columns : Columns} {left left₂ wait′ left′ : List ℕ} {late owner : ℕ} {answer : Turn} → columns ≡ columnsOf t
+      {columns : Columns} {left left₂ wait′ left′ : List ℕ} {late : ℕ} {seen : Seen} {answer : Turn} → columns ≡ columnsOf t
       → left ≡ cond done (closed (d .left) (d .last)) (d .left)
       → late ≡ bits (isLateIn (d .wait) left (columns .slack) (t .count)) taskLimit
       → left₂ ≡ closedAll left late (t .count)
-      → Served (d .wait) left₂ (columns .period) (columns .cost) (columns .slack) (columns .rank) (t .count) wait′ left′ owner
-      → answer ≡ turnOf owner late
-      → record { given = Given.Slot answer; state = record { wait = wait′; left = left′; last = owner } } ≡ taken t d done
+      → Served (d .wait) left₂ (columns .period) (columns .cost) (columns .slack) (columns .rank) (t .count) wait′ left′ seen
+      → answer ≡ turnOf (seen .owner) late
+      → record { given = Given.Slot answer; state = record { wait = wait′; left = left′; last = seen .owner } } ≡ taken t d done
   taken-is c a b e s w =
       let first = done-fill a in
       let late = late-bits first (rw c at b) in

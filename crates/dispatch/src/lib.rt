@@ -163,7 +163,8 @@ fn step_taken(d: Dispatcher, t: Table, done: bool) -> Stepped
     let mut open = after_report(left, d.last, done);
     let late = slots::late_set(&wait, &open, &slack, n);
     slots::close_all(&mut open, late, n);
-    let owner = slots::serve(&mut wait, &mut open, &period, &cost, &slack, &rank, n);
+    let seen = slots::serve(&mut wait, &mut open, &period, &cost, &slack, &rank, n);
+    let owner = seen.owner;
     Stepped {
         given: Given::Slot(turn_of(owner, late)),
         next: Dispatcher {

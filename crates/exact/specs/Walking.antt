@@ -37,9 +37,9 @@ use Rattle.backlog.specs.WalkWorst.{worstBy, walk-worsts, walk-empty}
 use Rattle.slots.specs.Slot as slot
 use Rattle.slots.specs.Columns.{columnsOf}
 use Rattle.slots.specs.Laws as slots-laws
-use Rattle.slots.specs.Laws.{Has, fill-has, slack-has, table-turned}
-use Rattle.exact.specs.declared.Seen.{Seen}
-use Rattle.exact.specs.Turn.{Turned}
+use Rattle.slots.specs.Laws.{Has, fill-has, slack-has, table-served}
+use Rattle.slots.specs.declared.Seen.{Seen}
+use Rattle.slots.specs.Serve.{Served}
 use Rattle.exact.specs.Walked.{notedOf, emptied, emptyOf, concluded}
 
 -- The first empty slot before n, or the end.
@@ -90,7 +90,7 @@ module _ (t : Table) (r : Ranged t) (n : ℕ) where
     lefts-have i l = rw (is-false (isLate t st false i) (λ h. clear n (le-refl (suc n)) (late-iff t r n (λ u m. clear u (le-step m)) .0 (i, l, h)))) refl
 
     slotted : slots-laws.Slotted (t .count) (waitOf st) (leftLate t st false) (λ i. task t i .period) (λ i. task t i .cost) (λ i. task t i .period - task t i .deadline) (tieOrder t) (st .wait) (st .left) wait′ left′ owner
-    slotted = table-turned t (r .few) (st .wait) (st .left) (waitOf st) (leftLate t st false) (λ i l. refl) lefts-have s
+    slotted = table-served t (r .few) (st .wait) (st .left) (waitOf st) (leftLate t st false) (λ i l. refl) lefts-have s
 
     pub owner-is : owner ≡ ownerAt t quiet n
     unfolding ownerNow
@@ -216,7 +216,7 @@ pub record Setting (t : Table) (m : Measure) (budget n end : ℕ) (period cost s
 -- One turn of the walk, in the lists that it holds.
 module _
     (t : Table) (r : Ranged t) (m : Measure) (horizon-is : m .horizon ≡ horizon t) {budget end n : ℕ} {period cost slack rank : List ℕ} (setting : Setting t m budget (t .count) end period cost slack rank)
-    {wait left worst wait′ left′ : List ℕ} {empty : ℕ} {now : Seen} (w : Walking t n wait left worst empty) (turned : Turned wait left period cost slack rank (t .count) wait′ left′ now)
+    {wait left worst wait′ left′ : List ℕ} {empty : ℕ} {now : Seen} (w : Walking t n wait left worst empty) (turned : Served wait left period cost slack rank (t .count) wait′ left′ now)
   where
     pub none-found : now .late ≡ false → Clear t (suc n)
     none-found e = clear-more t r n (w .clear) (rw (w .waits, w .lefts, setting .slacks) at (turned .quiet e))

@@ -1,16 +1,13 @@
 // The exact test: a walk slot by slot, and at the first late deadline a search for the largest start.
 ghost use mathlib.Core.Path.{_≡_};
 ghost use Prim.Native.Nat.{_-_, _≤_, _<_, max, min};
-ghost use lib.ListN.{set};
 ghost use Rattle.model.specs.declared.Judgement.{Judgement};
 ghost use Rattle.model.specs.Tasks.{judged};
 ghost use Rattle.model.specs.Limits.{taskLimit, horizonLimit};
 ghost use Rattle.model.specs.Notation.{sum, fill};
 ghost use Rattle.model.specs.Verdict.{brief as briefly, Permitted};
 ghost use Rattle.wellformed.specs.Ranges.{InRange, Ranged};
-ghost use Rattle.slots.specs.Slot.{waitReleased, leftReleased};
 ghost use Rattle.exact.specs.Back.{markOf, earlierMark, dueBy, marksAt, markThen, askedAt};
-ghost use Rattle.exact.specs.Turn.{Turned};
 ghost use Rattle.exact.specs.Walked.{notedOf, emptied, emptyOf, concluded};
 use model::Answer;
 use model::Empty;
@@ -21,10 +18,8 @@ use model::TASK_LIMIT;
 use model::Table;
 use model::Task;
 use model::Verdict;
-use slots::NO_KEY;
 use slots::NO_TASK;
 use slots::Numbers;
-use slots::Ranks;
 
 // The difference, or 0.
 fn less(x: u64, y: u64) -> u64
@@ -183,93 +178,6 @@ fn smaller(x: u64, y: u64) -> u64
     if x < y { x } else { y }
 }
 
-// What one pass over the tasks sees at a slot: an open job at its deadline, or else the slot's owner.
-struct Seen {
-    late: bool,
-    owner: u32,
-}
-
-// The wait and the slots left of one task once its job, if one is due, is released.
-struct Renewed {
-    wait: u32,
-    left: u32,
-}
-
-// One task in a slot: the release, if its wait is 0, and then the wait one lower.
-fn renew(
-    wait: &mut Numbers,
-    left: &mut Numbers,
-    period: &Numbers,
-    cost: &Numbers,
-    i: usize,
-) -> Renewed
-    requires { ⌜ i < taskLimit ⌝ }
-    ensures { λ r. ⌜ (r .wait ≡ waitReleased (now (wait .entry)) (now (period .entry)) i) × (r .left ≡ leftReleased (now (wait .entry)) (now (left .entry)) (now (cost .entry)) i) × (now (wait .exit) ≡ set (now (wait .entry)) i (r .wait - 1)) × (now (left .exit) ≡ set (now (left .entry)) i (r .left)) ⌝ }
-{
-    let w = wait[i];
-    if w == 0 {
-        let next = period[i];
-        let fresh = cost[i];
-        left[i] = fresh;
-        wait[i] = slots::less(next, 1);
-        return Renewed {
-            wait: next,
-            left: fresh,
-        };
-    }
-    wait[i] = w - 1;
-    Renewed {
-        wait: w,
-        left: left[i],
-    }
-}
-
-// The slot in one pass, up to the first job at its deadline.
-fn turn(
-    wait: &mut Numbers,
-    left: &mut Numbers,
-    period: &Numbers,
-    cost: &Numbers,
-    slack: &Numbers,
-    rank: &Ranks,
-    n: usize,
-) -> Seen
-    requires { ⌜ n ≤ taskLimit ⌝ }
-    ensures { λ r. ⌜ Turned (now (wait .entry)) (now (left .entry)) (now (period .entry)) (now (cost .entry)) (now (slack .entry)) (now (rank .entry)) n (now (wait .exit)) (now (left .exit)) r ⌝ }
-{
-    let mut owner = NO_TASK;
-    let mut least = NO_KEY;
-    let mut rest: u32 = 0;
-    for i in 0..n {
-        if 0 < left[i] {
-            if wait[i] == slack[i] {
-                return Seen {
-                    late: true,
-                    owner: NO_TASK,
-                };
-            }
-        }
-        let task = renew(wait, left, period, cost, i);
-        let open = task.left;
-        if 0 < open {
-            let key = slots::key_of(open, slots::less(task.wait, slack[i]), rank[i]);
-            if key < least {
-                least = key;
-                owner = i as u32;
-                rest = open - 1;
-            }
-        }
-    }
-    if owner < NO_TASK {
-        let i = owner as usize;
-        left[i] = rest;
-    }
-    Seen {
-        late: false,
-        owner: owner,
-    }
-}
-
 // Slot by slot to the end, or to the first late deadline: there, downwards, to the largest start that asks too much.
 fn walk(t: Table, m: Measure, budget: u64) -> Answer
     requires { ⌜ judged t ≡ Judgement.WellFormed m ⌝ }
@@ -291,7 +199,7 @@ fn walk(t: Table, m: Measure, budget: u64) -> Answer
     let mut asked: u64 = 0;
     let mut at: u64 = 0;
     'search: loop {
-        let seen = turn(&mut wait, &mut left, &period, &cost, &slack, &rank, n);
+        let seen = slots::serve(&mut wait, &mut left, &period, &cost, &slack, &rank, n);
         if !seen.late {
             if at == end {
                 break 'search;

@@ -16,7 +16,7 @@ use Rattle.model.specs.Run.{Order, tieOrder, choose}
 use Rattle.counting.specs.Count.{and-iff}
 use Rattle.counting.specs.Fill.{at-end, fill-passed, fill-eq, fill-same, fill-again, fill-set}
 use Rattle.counting.specs.Bits.{bits-at, bits-past}
-use Rattle.slots.specs.Slot.{at, isLate, isMember, closed, waitReleased, leftReleased, waitsReleased, leftsReleased, chosen, given, passed, Served}
+use Rattle.slots.specs.Slot.{at, isLate, isMember, closed}
 use Rattle.slots.specs.Columns.{columnsOf}
 use Rattle.slots.specs.Choice.{choose-range, choose-eq}
 
@@ -83,49 +83,6 @@ slotted-has n wait left period cost slack rank W L P C S R w l p c s r x =
       lefts = x .lefts ∙ fill-eq n _ _ left (λ i a. rw (w i a, l i a, c i a));
     }
 
-module _
-    (n : ℕ) (wait left period cost slack rank : List ℕ) (W L P C S : ℕ → ℕ) (R : Order)
-    (few : n ≤ taskLimit) (wait-long : length wait ≡ taskLimit) (left-long : length left ≡ taskLimit)
-    (wait-has : Has n wait W) (left-has : Has n left L)
-    (period-has : Has n period P) (cost-has : Has n cost C) (slack-has : Has n slack S) (rank-has : Has n rank R)
-  where
-    wait-then : (i : ℕ) → i < n → waitReleased wait period i ≡ waitThen W P i
-    wait-then i l = rw (wait-has i l, period-has i l)
-
-    left-then : (i : ℕ) → i < n → leftReleased wait left cost i ≡ leftThen W L C i
-    left-then i l = rw (wait-has i l, cost-has i l, left-has i l)
-
-    waits-have : Has n (waitsReleased wait period n) (waitThen W P)
-    unfolding waitsReleased
-    waits-have i l = fill-has n (waitReleased wait period) wait (omega arith) i l ∙ wait-then i l
-
-    lefts-have : Has n (leftsReleased wait left cost n) (leftThen W L C)
-    unfolding leftsReleased
-    lefts-have i l = fill-has n (leftReleased wait left cost) left (omega arith) i l ∙ left-then i l
-
-    owned-by : {owner : ℕ} → owner ≡ chosen (waitsReleased wait period n) (leftsReleased wait left cost n) slack rank n → owner ≡ choose (λ i. ltb 0 (leftThen W L C i)) (λ i. waitThen W P i - S i) R n
-    unfolding chosen
-    owned-by e = e ∙ choose-eq _ _ _ _ _ _ n (λ i l. ap (ltb 0) (lefts-have i l)) (λ i l. rw (waits-have i l, slack-has i l)) rank-has
-
-    waits-passed : passed (waitsReleased wait period n) n ≡ fill n (λ i. waitThen W P i - 1) wait
-    unfolding passed waitsReleased
-    waits-passed = fill-again n _ _ wait ∙ fill-eq n _ _ wait (λ i l. rw (waits-have i l))
-
-    left-given : (owner : ℕ) → (owner ≡ taskLimit) ⊎ (owner < n) → given (leftsReleased wait left cost n) owner ≡ fill n (λ i. leftThen W L C i - cond (eqb owner i) 1 0) left
-    unfolding given leftsReleased
-    left-given owner r =
-        store-fill n _ _ left owner _ few r (λ l. rw (lefts-have owner l, eq-eqb owner owner refl))
-        (λ i l q. left-then i l ∙ rw (ne-eqb owner i (λ e. q (sym e))) (omega arith))
-
-    -- The served slot, in those numbers.
-    pub slotted : {wait′ left′ : List ℕ} {owner : ℕ} → Served wait left period cost slack rank n wait′ left′ owner → Slotted n W L P C S R wait left wait′ left′ owner
-    slotted {owner = owner} s =
-        record {
-          owned = owned-by (s .owned);
-          waits = s .waits ∙ waits-passed;
-          lefts = s .lefts ∙ left-given owner (rw (owned-by (s .owned)) (choose-range _ _ _ n));
-        }
-
 -- What the columns of a table have for its tasks.
 module _ (t : Table) (few : t .count ≤ taskLimit) where
   period-has : Has (t .count) (columnsOf t .period) (λ i. task t i .period)
@@ -145,15 +102,8 @@ module _ (t : Table) (few : t .count ≤ taskLimit) where
   rank-has = fill-has (t .count) _ (replicate taskLimit 0) few
 
   -- A slot of the table's tasks.
-  pub table-slotted :
-      (wait left : List ℕ) (W L : ℕ → ℕ) {wait′ left′ : List ℕ} {owner : ℕ} → length wait ≡ taskLimit → length left ≡ taskLimit → Has (t .count) wait W → Has (t .count) left L
-      → Served wait left (columnsOf t .period) (columnsOf t .cost) (columnsOf t .slack) (columnsOf t .rank) (t .count) wait′ left′ owner
-      → Slotted (t .count) W L (λ i. task t i .period) (λ i. task t i .cost) (λ i. task t i .period - task t i .deadline) (tieOrder t) wait left wait′ left′ owner
-  table-slotted wait left W L wait-long left-long wait-has left-has =
-      slotted (t .count) wait left _ _ _ _ W L _ _ _ _ few wait-long left-long wait-has left-has period-has cost-has slack-has rank-has
-
-  pub table-turned :
+  pub table-served :
       (wait left : List ℕ) (W L : ℕ → ℕ) {wait′ left′ : List ℕ} {owner : ℕ} → Has (t .count) wait W → Has (t .count) left L
       → Slotted (t .count) (at wait) (at left) (at (columnsOf t .period)) (at (columnsOf t .cost)) (at (columnsOf t .slack)) (at (columnsOf t .rank)) wait left wait′ left′ owner
       → Slotted (t .count) W L (λ i. task t i .period) (λ i. task t i .cost) (λ i. task t i .period - task t i .deadline) (tieOrder t) wait left wait′ left′ owner
-  table-turned wait left W L wait-has left-has = slotted-has (t .count) wait left (columnsOf t .period) (columnsOf t .cost) (columnsOf t .slack) (columnsOf t .rank) W L _ _ _ _ wait-has left-has period-has cost-has slack-has rank-has
+  table-served wait left W L wait-has left-has = slotted-has (t .count) wait left (columnsOf t .period) (columnsOf t .cost) (columnsOf t .slack) (columnsOf t .rank) W L _ _ _ _ wait-has left-has period-has cost-has slack-has rank-has

@@ -3,3 +3,4 @@ pub mod Columns
 pub mod Choice
 pub mod Slot
 pub mod Laws
+pub mod Serve

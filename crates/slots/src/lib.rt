@@ -3,13 +3,15 @@ ghost use mathlib.Core.Path.{_≡_};
 ghost use mathlib.Core.Bool.{cond, _&&_};
 ghost use Prim.Native.Nat.{_+_, _-_, _*_, _^_, _≤_, _<_};
 ghost use lib.Dec.{ltb, eqb};
+ghost use lib.ListN.{set};
 ghost use Rattle.model.specs.Limits.{taskLimit};
 ghost use Rattle.model.specs.Notation.{bit, bits};
 ghost use Rattle.model.specs.Run.{tieOrder};
 ghost use Rattle.model.specs.Dispatcher.{startOf};
 ghost use Rattle.slots.specs.Columns.{columnsOf};
 ghost use Rattle.slots.specs.Choice.{ranks, keyOf};
-ghost use Rattle.slots.specs.Slot.{closed, isLate, isMember, closedAll, Released, chosen, given, passed, Served};
+ghost use Rattle.slots.specs.Serve.{Served};
+ghost use Rattle.slots.specs.Slot.{closed, isLate, isMember, closedAll, waitReleased, leftReleased};
 use model::TASK_LIMIT;
 use model::Table;
 
@@ -26,7 +28,7 @@ pub type Ranks = [u16; TASK_LIMIT];
 const RANKS: u64 = 0x1_0000;
 
 // What a task that is not open is compared by.
-pub const NO_KEY: u64 = 0xffff_ffff_ffff_ffff;
+const NO_KEY: u64 = 0xffff_ffff_ffff_ffff;
 
 // What a slot reads of a table, a list for each number. The slack is T - D: the wait of a job at its deadline.
 pub struct Columns {
@@ -147,42 +149,7 @@ pub fn close(left: &mut Numbers, task: u32)
     }
 }
 
-// A task whose wait is 0 has a job released, and waits a period.
-pub fn release(wait: &mut Numbers, left: &mut Numbers, period: &Numbers, cost: &Numbers, n: usize)
-    requires { ⌜ n ≤ taskLimit ⌝ }
-    ensures { λ _. ⌜ Released (now (wait .entry)) (now (left .entry)) (now (period .entry)) (now (cost .entry)) n (now (wait .exit)) (now (left .exit)) ⌝ }
-{
-    for i in 0..n {
-        let w = wait[i];
-        left[i] = at_release(w, cost[i], left[i]);
-        wait[i] = at_release(w, period[i], w);
-    }
-}
-
-fn at_release(wait: u32, new: u32, old: u32) -> u32
-    ensures { λ r. ⌜ r ≡ cond (eqb wait 0) new old ⌝ }
-{
-    if wait == 0 { new } else { old }
-}
-
-// The open task that comes first by its slots to the deadline and then its rank, or no task.
-pub fn choose(wait: &Numbers, left: &Numbers, slack: &Numbers, rank: &Ranks, n: usize) -> u32
-    requires { ⌜ n ≤ taskLimit ⌝ }
-    ensures { λ r. ⌜ r ≡ chosen (now (wait .entry)) (now (left .entry)) (now (slack .entry)) (now (rank .entry)) n ⌝ }
-{
-    let mut owner = NO_TASK;
-    let mut least = NO_KEY;
-    for i in 0..n {
-        let key = key_of(left[i], less(wait[i], slack[i]), rank[i]);
-        if key < least {
-            least = key;
-            owner = i as u32;
-        }
-    }
-    owner
-}
-
-pub fn key_of(left: u32, due: u32, rank: u16) -> u64
+fn key_of(left: u32, due: u32, rank: u16) -> u64
     ensures { λ r. ⌜ (r ≡ keyOf (ltb 0 left) due rank) × (due < 2 ^ 32) × (rank < ranks) ⌝ }
 {
     if 0 < left {
@@ -192,27 +159,48 @@ pub fn key_of(left: u32, due: u32, rank: u16) -> u64
     }
 }
 
-// The task has one slot fewer left.
-pub fn give(left: &mut Numbers, task: u32)
-    ensures { λ _. ⌜ now (left .exit) ≡ given (now (left .entry)) task ⌝ }
+// What one pass over the tasks sees at a slot: an open job at its deadline, or else the slot's owner.
+pub struct Seen {
+    pub late: bool,
+    pub owner: u32,
+}
+
+// The wait and the slots left of one task once its job, if one is due, is released.
+struct Renewed {
+    wait: u32,
+    left: u32,
+}
+
+// One task in a slot: the release, if its wait is 0, and then the wait one lower.
+fn renew(
+    wait: &mut Numbers,
+    left: &mut Numbers,
+    period: &Numbers,
+    cost: &Numbers,
+    i: usize,
+) -> Renewed
+    requires { ⌜ i < taskLimit ⌝ }
+    ensures { λ r. ⌜ (r .wait ≡ waitReleased (now (wait .entry)) (now (period .entry)) i) × (r .left ≡ leftReleased (now (wait .entry)) (now (left .entry)) (now (cost .entry)) i) × (now (wait .exit) ≡ set (now (wait .entry)) i (r .wait - 1)) × (now (left .exit) ≡ set (now (left .entry)) i (r .left)) ⌝ }
 {
-    if task < NO_TASK {
-        let i = task as usize;
-        left[i] = less(left[i], 1);
+    let w = wait[i];
+    if w == 0 {
+        let next = period[i];
+        let fresh = cost[i];
+        left[i] = fresh;
+        wait[i] = less(next, 1);
+        return Renewed {
+            wait: next,
+            left: fresh,
+        };
+    }
+    wait[i] = w - 1;
+    Renewed {
+        wait: w,
+        left: left[i],
     }
 }
 
-// Every wait goes down by one.
-pub fn pass(wait: &mut Numbers, n: usize)
-    requires { ⌜ n ≤ taskLimit ⌝ }
-    ensures { λ _. ⌜ now (wait .exit) ≡ passed (now (wait .entry)) n ⌝ }
-{
-    for i in 0..n {
-        wait[i] = less(wait[i], 1);
-    }
-}
-
-// The slot itself: releases, the choice, and the slot given. Its owner is handed back, or no task.
+// The slot itself, in one pass up to the first job at its deadline: releases, the choice, and the slot given.
 pub fn serve(
     wait: &mut Numbers,
     left: &mut Numbers,
@@ -221,13 +209,39 @@ pub fn serve(
     slack: &Numbers,
     rank: &Ranks,
     n: usize,
-) -> u32
+) -> Seen
     requires { ⌜ n ≤ taskLimit ⌝ }
     ensures { λ r. ⌜ Served (now (wait .entry)) (now (left .entry)) (now (period .entry)) (now (cost .entry)) (now (slack .entry)) (now (rank .entry)) n (now (wait .exit)) (now (left .exit)) r ⌝ }
 {
-    release(wait, left, period, cost, n);
-    let owner = choose(wait, left, slack, rank, n);
-    give(left, owner);
-    pass(wait, n);
-    owner
+    let mut owner = NO_TASK;
+    let mut least = NO_KEY;
+    let mut rest: u32 = 0;
+    for i in 0..n {
+        if 0 < left[i] {
+            if wait[i] == slack[i] {
+                return Seen {
+                    late: true,
+                    owner: NO_TASK,
+                };
+            }
+        }
+        let task = renew(wait, left, period, cost, i);
+        let open = task.left;
+        if 0 < open {
+            let key = key_of(open, less(task.wait, slack[i]), rank[i]);
+            if key < least {
+                least = key;
+                owner = i as u32;
+                rest = open - 1;
+            }
+        }
+    }
+    if owner < NO_TASK {
+        let i = owner as usize;
+        left[i] = rest;
+    }
+    Seen {
+        late: false,
+        owner: owner,
+    }
 }

@@ -82,8 +82,8 @@ search-holds c =
       rw (c .offsets .ensures, well-formed _ _ (s .pre .0) .horizon-is) (walking-start (s .args .t)),
     )
 
-turn-requires : tie.Need-turn-requires Inv-loop μ-loop Inv-search μ-search
-turn-requires c κs = facts (c .before .before .before .before .before .before) .ranged .few
+serve-requires : tie.Need-serve-requires Inv-loop μ-loop Inv-search μ-search
+serve-requires c κs = facts (c .before .before .before .before .before .before) .ranged .few
 
 note-requires : tie.Need-note-requires Inv-loop μ-loop Inv-search μ-search
 note-requires c κs = search needs
@@ -106,7 +106,7 @@ search-again c =
       i .0,
       omega (arith, i .1, more),
       i .2,
-      walk-slot _ (f .ranged) _ (f .horizon-is) (i .0) (i .3) (c .before .before .before .before .before .before .before .before .before .turn .ensures) (not-late (c .before .before .before .before .before .before .before .if1 .taken)) (omega (arith, i .0 .end-is, f .horizon-is, i .1, more)) (c .before .note .ensures) (c .first-empty .ensures),
+      walk-slot _ (f .ranged) _ (f .horizon-is) (i .0) (i .3) (c .before .before .before .before .before .before .before .before .before .serve .ensures) (not-late (c .before .before .before .before .before .before .before .if1 .taken)) (omega (arith, i .0 .end-is, f .horizon-is, i .1, more)) (c .before .note .ensures) (c .first-empty .ensures),
     )
 
 -- A late deadline has a start: the search for it does not come to its end.
@@ -115,7 +115,7 @@ found c =
     let a = home (c .before .before .before .before .before) in
     let i = a .search .inv in
     let f = facts a in
-    let h = one-found _ (f .ranged) _ (f .horizon-is) (i .0) (i .3) (c .before .before .before .before .before .before .turn .ensures) (is-late (c .before .before .before .before .if1 .left)) in
+    let h = one-found _ (f .ranged) _ (f .horizon-is) (i .0) (i .3) (c .before .before .before .before .before .before .serve .ensures) (is-late (c .before .before .before .before .if1 .left)) in
     let (from, x) = late-at-iff _ _ .0 h in
     c .before .loop .inv .1 from (omega arith) (too-much-iff _ from _ .0 x .0) x
 
@@ -189,7 +189,7 @@ returns c =
     let s = a .before .before .before .before .before .before .before .before in
     let i = a .search .inv in
     let f = facts a in
-    let seen = c .before .before .before .turn .ensures in
+    let seen = c .before .before .before .serve .ensures in
     rw (c .conclude .ensures) (elim (c .before .if1 .came) [
       | inl (if1, if2, from, asked) ↦ rw (asked, i .2) (permitted-quiet (s .args .t) (s .args .m) (s .args .budget) (s .pre .0) (s .pre .1) (i .3) (c .before .if1 .from) (none-found _ (f .ranged) _ (f .horizon-is) (i .0) (i .3) seen (not-late (if1 .taken))) (if2 .taken ∙ i .0 .end-is))
       | inr (if1, offsets, marks, loop, test, x1, x2, x3, x4, count, if3, from, asked) ↦ rw (from, asked) (permitted-late (s .args .t) (s .args .m) (s .args .budget) (s .pre .0) (s .pre .1) (i .3) _ _ (omega (arith, i .0 .end-is)) (one-found _ (f .ranged) _ (f .horizon-is) (i .0) (i .3) seen (is-late (if1 .left))) (omega (arith, loop .inv .0, test .taken)) (asked-down (s .args .t) (f .ranged) (a .search .at) (loop .inv .2) (loop .inv .4) (i .0 .periods) (i .0 .costs) (omega (arith, test .taken)) (loop .inv .3) (count .ensures .0)) (if3 .taken) (λ later x y. loop .inv .1 later (omega arith) y))
@@ -207,7 +207,7 @@ walk-spec =
     unpack-requires
     offsets-requires
     search-holds
-    turn-requires
+    serve-requires
     note-requires
     first-empty-requires
     add-at

@@ -3,8 +3,8 @@ use mathlib.Core.Path.{sym}
 use borrow.Author.Tests.{eq-eqb, ne-eqb}
 use lib.Seq.{set-getD}
 use borrow.Author.Needs.{needs}
-use Rattle.exact.proofs.renew.Statement.{statement}
-use Rattle.exact.proofs.renew.Tie as tie
+use Rattle.slots.proofs.renew.Statement.{statement}
+use Rattle.slots.proofs.renew.Tie as tie
 
 mul-w : tie.Need-mul-w
 mul-w c = search needs

@@ -13,13 +13,13 @@ use Rattle.model.specs.Limits.{taskLimit}
 use Rattle.model.specs.Notation.{fill}
 use Rattle.counting.specs.Count.{and-iff}
 use Rattle.counting.specs.Fill.{fill-none, fill-put}
 use Rattle.slots.specs.Slot.{at, isLate, waitReleased, leftReleased}
 use Rattle.slots.specs.Choice.{ranks, keyOf, Best, best-none, best-skip, best-turn, choose-range}
 use Rattle.slots.specs.Laws.{Slotted, store-fill}
-use Rattle.exact.specs.declared.Seen.{Seen}
+use Rattle.slots.specs.declared.Seen.{Seen}
 
 -- A late job is one of the n; where none is, the lists after it and its owner are those of the slot.
-pub record Turned (wait left period cost slack rank : List ℕ) (n : ℕ) (wait′ left′ : List ℕ) (s : Seen) : Type 0 where
+pub record Served (wait left period cost slack rank : List ℕ) (n : ℕ) (wait′ left′ : List ℕ) (s : Seen) : Type 0 where
   pub found : s .late ≡ true → (i : ℕ) × (i < n) × T (isLate wait left slack n i)
   pub quiet : s .late ≡ false → (i : ℕ) → i < n → T (isLate wait left slack n i) → ⊥
   pub slot : s .late ≡ false → Slotted n (at wait) (at left) (at period) (at cost) (at slack) (at rank) wait left wait′ left′ (s .owner)
@@ -29,15 +29,15 @@ module _ (wait₀ left₀ period cost slack rank : List ℕ) (n : ℕ) where
   BestOf = Best (λ k. ltb 0 (leftReleased wait₀ left₀ cost k)) (λ k. waitReleased wait₀ period k - at slack k) (at rank)
 
   -- What holds before task i.
-  pub record Turning (i owner least rest : ℕ) (wait left : List ℕ) : Type 0 where
+  pub record Serving (i owner least rest : ℕ) (wait left : List ℕ) : Type 0 where
     pub waits : wait ≡ fill i (λ k. waitReleased wait₀ period k - 1) wait₀
     pub lefts : left ≡ fill i (leftReleased wait₀ left₀ cost) left₀
     pub best : BestOf i owner least
     pub rests : (owner ≡ taskLimit → ⊥) → rest ≡ leftReleased wait₀ left₀ cost owner - 1
     pub quiet : (k : ℕ) → k < i → T (isLate wait₀ left₀ slack n k) → ⊥
 
-  pub turning-start : (rest : ℕ) → Turning 0 taskLimit (2 ^ 64 - 1) rest wait₀ left₀
-  turning-start rest =
+  pub serving-start : (rest : ℕ) → Serving 0 taskLimit (2 ^ 64 - 1) rest wait₀ left₀
+  serving-start rest =
       record {
         waits = fill-none _ _;
         lefts = fill-none _ _;
@@ -62,7 +62,7 @@ module _ (wait₀ left₀ period cost slack rank : List ℕ) (n : ℕ) where
 
   -- A task more, with its wait w and slots left l once its job is released.
   module _
-      {i owner least rest : ℕ} {wait left : List ℕ} (v : Turning i owner least rest wait left) {w l : ℕ}
+      {i owner least rest : ℕ} {wait left : List ℕ} (v : Serving i owner least rest wait left) {w l : ℕ}
       (wait-is : w ≡ waitReleased wait₀ period i) (left-is : l ≡ leftReleased wait₀ left₀ cost i) (calm : 0 < at left₀ i → at wait₀ i ≡ at slack i → ⊥)
     where
       next-waits : set wait i (w - 1) ≡ fill (i + 1) (λ k. waitReleased wait₀ period k - 1) wait₀
@@ -71,8 +71,8 @@ module _ (wait₀ left₀ period cost slack rank : List ℕ) (n : ℕ) where
       next-lefts : set left i l ≡ fill (i + 1) (leftReleased wait₀ left₀ cost) left₀
       next-lefts = fill-put i _ left₀ (v .lefts) left-is
 
-      pub turn-closed : l ≤ 0 → Turning (i + 1) owner least rest (set wait i (w - 1)) (set left i l)
-      turn-closed h =
+      pub serve-closed : l ≤ 0 → Serving (i + 1) owner least rest (set wait i (w - 1)) (set left i l)
+      serve-closed h =
           record {
             waits = next-waits;
             lefts = next-lefts;
@@ -85,8 +85,8 @@ module _ (wait₀ left₀ period cost slack rank : List ℕ) (n : ℕ) where
         turn : (key < least → BestOf (i + 1) i key) × (least ≤ key → BestOf (i + 1) owner least)
         turn = best-turn _ _ _ i {key = key} few (v .best) (is ∙ rw (wait-is, left-is)) (record { due = rw wait-is at small; low = low })
 
-        pub turn-first : key < least → Turning (i + 1) i key (l - 1) (set wait i (w - 1)) (set left i l)
-        turn-first h =
+        pub serve-first : key < least → Serving (i + 1) i key (l - 1) (set wait i (w - 1)) (set left i l)
+        serve-first h =
             record {
               waits = next-waits;
               lefts = next-lefts;
@@ -95,8 +95,8 @@ module _ (wait₀ left₀ period cost slack rank : List ℕ) (n : ℕ) where
               quiet = quiet-more i (v .quiet) calm;
             }
 
-        pub turn-later : least ≤ key → Turning (i + 1) owner least rest (set wait i (w - 1)) (set left i l)
-        turn-later h =
+        pub serve-later : least ≤ key → Serving (i + 1) owner least rest (set wait i (w - 1)) (set left i l)
+        serve-later h =
             record {
               waits = next-waits;
               lefts = next-lefts;
@@ -106,8 +106,8 @@ module _ (wait₀ left₀ period cost slack rank : List ℕ) (n : ℕ) where
             }
 
   -- A pass that met a late job.
-  pub turned-late : (i : ℕ) {wait′ left′ : List ℕ} {owner : ℕ} → i < n → T (isLate wait₀ left₀ slack n i) → Turned wait₀ left₀ period cost slack rank n wait′ left′ (record { late = true; owner = owner })
-  turned-late i l h =
+  pub served-late : (i : ℕ) {wait′ left′ : List ℕ} {owner : ℕ} → i < n → T (isLate wait₀ left₀ slack n i) → Served wait₀ left₀ period cost slack rank n wait′ left′ (record { late = true; owner = owner })
+  served-late i l h =
       record {
         found = λ e. (i, l, h);
         quiet = λ e. absurd (subst T e tt);
@@ -115,7 +115,7 @@ module _ (wait₀ left₀ period cost slack rank : List ℕ) (n : ℕ) where
       }
 
   -- The lists after the pass, with the owner's slot taken off.
-  module _ {i owner least rest : ℕ} {wait left : List ℕ} (few : n ≤ taskLimit) (done : i ≡ n) (w : Turning i owner least rest wait left) where
+  module _ {i owner least rest : ℕ} {wait left : List ℕ} (few : n ≤ taskLimit) (done : i ≡ n) (w : Serving i owner least rest wait left) where
     pub left-end : cond (ltb owner taskLimit) (set left owner rest) left ≡ fill n (λ k. leftReleased wait₀ left₀ cost k - cond (eqb owner k) 1 0) left₀
     left-end =
         rw (w .lefts, done)
@@ -125,19 +125,19 @@ module _ (wait₀ left₀ period cost slack rank : List ℕ) (n : ℕ) where
         range : (owner ≡ taskLimit) ⊎ (owner < n)
         range = rw (w .best .owned, done) (choose-range _ _ _ n)
 
-    pub turned-slot : {left′ : List ℕ} → left′ ≡ cond (ltb owner taskLimit) (set left owner rest) left
+    pub served-slot : {left′ : List ℕ} → left′ ≡ cond (ltb owner taskLimit) (set left owner rest) left
         → Slotted n (at wait₀) (at left₀) (at period) (at cost) (at slack) (at rank) wait₀ left₀ wait left′ owner
-    turned-slot e =
+    served-slot e =
         record {
           owned = w .best .owned ∙ rw done;
           waits = w .waits ∙ rw done;
           lefts = e ∙ left-end;
         }
 
-    pub turned-quiet : {left′ : List ℕ} → left′ ≡ cond (ltb owner taskLimit) (set left owner rest) left → Turned wait₀ left₀ period cost slack rank n wait left′ (record { late = false; owner = owner })
-    turned-quiet e =
+    pub served-quiet : {left′ : List ℕ} → left′ ≡ cond (ltb owner taskLimit) (set left owner rest) left → Served wait₀ left₀ period cost slack rank n wait left′ (record { late = false; owner = owner })
+    served-quiet e =
         record {
           found = λ q. absurd (subst T (sym q) tt);
           quiet = λ q k l. w .quiet k (omega arith);
-          slot = λ q. turned-slot e;
+          slot = λ q. served-slot e;
         }
