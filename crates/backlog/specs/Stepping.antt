@@ -1,5 +1,5 @@
 -- The dispatcher's states: a wait tells the next release, an open job is the last released and not past its deadline, and no step is refused.
-use mathlib.Core.Path.{_≡_, refl, ap, _∙_}
+use mathlib.Core.Path.{_≡_, refl, ap, subst, _∙_}
 use mathlib.Core.Logic.{_⊎_, inl, inr, _≢_}
 use mathlib.Core.Bool.{Bool, true, false, cond, _&&_, _||_}
 use Prim.Native.Nat.{ℕ, zero, suc, _+_, _-_, _≤_, _<_, max}
@@ -188,6 +188,16 @@ module _ (t : Table) (r : Ranged t) (done : ℕ → Bool) where
       nothing : (i : ℕ) → i < t .count → getD {A = ℕ} (replicate taskLimit 0) i 0 ≡ 0
       nothing i l = getD-replicate taskLimit i 0 0 (omega (arith, r .few))
   sound (suc n) = sound-after n (sound n)
+
+  -- A slot that task i owns is its last released job's, and lies before that job's deadline.
+  pub owned-ready : (n i : ℕ) → i < t .count → ownerAt t done n ≡ i → (j : ℕ) × (releaseOf S i j ≤ n) × (n < dueOf S i j)
+  owned-ready n i l e = elim (chosen n (sound n)) [
+    | inl c ↦ absurd (omega (arith, c .none, r .few))
+    | inr c ↦
+        (let (j, b, d, early) = ready-is n i (sound n) l (ltb→lt 0 (leftReleased t (before n) (done n) i) (subst (λ (k : ℕ). T (ltb 0 (leftReleased t (before n) (done n) k))) e (c .opened))) in
+        let first : releaseOf S i j < suc n = lt-below (releaseOf S i) ((jobs S) .rel-grows i l) (suc n) j .0 (omega arith) in
+        (j, omega arith, early))
+  ]
 
   -- The three ways in which a task of a state can be strange.
   module _ (n i : ℕ) where

@@ -15,6 +15,7 @@ use Rattle.model.specs.Verdict.{needed, lateStart, verdict, settledBy, e
 use Rattle.model.specs.TableFile.{found, recordAt, tableOf, readFrom, formOf, loadedFrom}
 use Rattle.model.specs.Dispatcher.{State, firstStrange, startOf, started, ownerNow, after, turn, stepped}
 use Rattle.model.specs.Report.{worstLines, reportOf, refused, written, Checked, refusalLine}
+use Rattle.model.specs.StateBuffer.{bytesOf, bufferOf, stateIn, startExported, stepExported}
 
 -- A task as document 01 writes it, and its tables.
 abbrev pub of : ℕ → ℕ → ℕ → ℕ → Task
@@ -301,3 +302,38 @@ wide-numbers = (refl, refl)
 refusal-line : refusalLine (record { number = 21; place = 9 }) ≡ text "refused 21 at 9\n"
 unfolding text decimal digits
 refusal-line = refl
+
+-- ---- the state buffer
+
+-- The first wait stands at byte 0, the slots left from byte 64 on, the last-run task at 128, and behind it what the step told.
+layout :
+    bufferOf (record { wait = 258 ∷ replicate 15 0; left = 3 ∷ replicate 15 0; last = 4 }) (record { owner = 4; late = 5; closed = 6; lowest = 7 })
+    ≡ 2 ∷ 1 ∷ replicate 62 0 ++ word 3 ++ replicate 60 0 ++ word 4 ++ word 5 ++ word 6 ++ word 7
+unfolding bufferOf bytesOf
+layout = refl
+
+-- A start on b; a buffer of another length is 50 at its length, also with a broken file; a damaged file and a table's refusal write nowhere.
+camera-starts :
+    (startExported file-b (replicate 144 9) ≡ record { number = 0; buffer = word 8 ++ replicate 124 0 ++ word 16 ++ word 0 ++ word 0 ++ word 16 })
+    × (startExported (9 ∷ []) (7 ∷ []) ≡ record { number = 3276801; buffer = 7 ∷ [] })
+    × (startExported (9 ∷ []) (replicate 144 7) ≡ record { number = 1376256; buffer = replicate 144 7 })
+    × (startExported (budgetOf 0 ++ (3 ∷ [])) (replicate 144 7) ≡ record { number = 65536; buffer = replicate 144 7 })
+unfolding bufferOf bytesOf started startOf fill formOf readFrom recordAt judged firstFaulty taskFault first round product load horizon largest sum count
+camera-starts = (refl, refl, refl, refl)
+
+-- g with task 0 done after one slot, as above: a done report is any number but 0.
+abbrev pub file-g : List ℕ
+file-g = budgetOf 0 ++ rowOf (of 0 2 4 4) ++ rowOf (of 0 2 4 4) ++ (3 ∷ [])
+
+camera-owners : List ℕ → List ℕ → List ℕ
+camera-owners buffer [] = []
+camera-owners buffer (done ∷ more) = let e = stepExported file-g buffer done in e .number ∷ camera-owners (e .buffer) more
+
+camera-steps : camera-owners (startExported file-g (replicate 144 9) .buffer) (0 ∷ 2 ∷ 0 ∷ 0 ∷ 0 ∷ []) ≡ 0 ∷ 1 ∷ 1 ∷ 16 ∷ 0 ∷ []
+unfolding camera-owners stateIn bufferOf bytesOf started startOf stepped after turn ownerNow choose fill bits firstStrange formOf readFrom recordAt judged firstFaulty taskFault first round product load horizon largest sum count
+camera-steps = refl
+
+-- A state that is not g's is 8, and stays.
+camera-stranger : stepExported file-g (replicate 144 7) 0 ≡ record { number = 524288; buffer = replicate 144 7 }
+unfolding stateIn stepped fill firstStrange formOf readFrom recordAt judged firstFaulty taskFault first round product load horizon largest sum count
+camera-stranger = refl

@@ -1,24 +1,25 @@
 -- DEMANDS 1 and 3 at the exported start and step: one permitted result for every file and buffer, a refusal changes no byte,
 -- and a camera's own loop in a lent buffer is the dispatcher's history, of which Demand3 speaks.
-use mathlib.Core.Path.{_≡_, refl, sym, _∙_}
+use mathlib.Core.Path.{_≡_, refl, sym, ap, _∙_}
 use mathlib.Core.Logic.{_⊎_, inl, inr}
 use mathlib.Core.List.{List}
 use mathlib.Core.Bool.{Bool, true, false, cond, not}
 use Prim.Native.Nat.{ℕ, suc, _≤_, _<_}
 use native.Mathlib.Omega.{arith}
 use lib.Dec.{eqb, ltb}
-use lib.ListN.{length}
+use lib.ListN.{length, replicate, length-replicate}
 use Rattle.model.specs.declared.Table.{Table}
 use Rattle.model.specs.declared.Measure.{Measure}
 use Rattle.model.specs.declared.Judgement.{Judgement}
 use Rattle.model.specs.declared.Admission.{Admission}
-use Rattle.model.specs.declared.Given.{Given}
 use Rattle.model.specs.declared.Loaded.{Loaded}
 use Rattle.model.specs.Limits.{taskLimit, stateBytes}
-use Rattle.model.specs.Tasks.{judged}
-use Rattle.model.specs.TableFile.{formOf}
-use Rattle.model.specs.Dispatcher.{State, Stepped, Started, firstStrange, lastStrange, ownerNow, turn, started, stepJudged, stepped}
+use Rattle.model.specs.Notation.{sum, product, largest, count, first}
+use Rattle.model.specs.Tasks.{taskFault, firstFaulty, round, load, horizon, judged}
+use Rattle.model.specs.TableFile.{recordAt, readFrom, formOf}
+use Rattle.model.specs.Dispatcher.{State, Started, firstStrange, lastStrange, ownerNow, turn, started, stepJudged, stepped}
 use Rattle.model.specs.Report.{Exported, refused}
+use Rattle.model.specs.Examples.{table-g, file-g}
 use Rattle.model.specs.History.{stateAt, ownerAt}
 use Rattle.model.specs.StateBuffer.{bufferOf, stateIn, quiet, startWritten, stepWritten, startTable, stepTable, strangeBuffer, onForm, onFile, startExported, stepExported, handed}
 use Rattle.wellformed.specs.WellFormed.{well-formed}
@@ -106,3 +107,11 @@ module _ (file : List ℕ) (t : Table) (m : Measure) (formed : formOf file .admi
 
   pub camera-steps : (n : ℕ) → stepExported file (handed file lent done n) (done n) ≡ record { number = ownerAt t reports n; buffer = bufferOf (stateAt t reports (suc n)) (turn t (stateAt t reports n) (reports n)) }
   camera-steps = loop.steps file t m formed held well lent size done
+
+-- What is asked of the file is met by table g's.
+g-formed : (formOf file-g .admission ≡ Admission.Admitted) × (formOf file-g .table ≡ table-g) × (judged table-g ≡ Judgement.WellFormed (record { round = 4; load = 4; horizon = 8 }))
+unfolding formOf readFrom recordAt judged firstFaulty taskFault first round product load horizon largest sum count
+g-formed = (refl, refl, refl)
+
+pub g-camera : (done : ℕ → ℕ) → startExported file-g (replicate stateBytes 0) .number ≡ 0
+g-camera done = ap (λ (e : Exported). e .number) (camera-starts file-g table-g _ (g-formed .0) (g-formed .1) (g-formed .2) (replicate stateBytes 0) (length-replicate {A = ℕ} stateBytes 0) done)

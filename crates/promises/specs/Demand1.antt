@@ -2,24 +2,28 @@
 -- That no call traps or runs on is what being proved means, and is not said again. Each contract is an equation with, or a
 -- permission by, the model's own word, for every input; so the theorems here speak of these words.
 use mathlib.Core.Path.{_≡_, refl, sym, subst, _∙_}
-use mathlib.Core.List.{List}
+use mathlib.Core.List.{List, [], _∷_}
 use mathlib.Core.Bool.{Bool, true, false, cond}
-use Prim.Native.Nat.{ℕ}
+use Prim.Native.Nat.{ℕ, _+_, _≤_, _<_}
 use native.Mathlib.Omega.{arith}
-use lib.Dec.{ltb}
-use lib.ListN.{length}
+use borrow.Author.Tests.{eqb-true, lt-ltb, le-ltb}
+use lib.Dec.{leb, ltb, eqb}
+use lib.ListN.{length, getD}
 use Rattle.model.specs.declared.Table.{Table}
 use Rattle.model.specs.declared.Refusal.{Refusal}
+use Rattle.model.specs.declared.Measure.{Measure}
 use Rattle.model.specs.declared.Judgement.{Judgement}
 use Rattle.model.specs.declared.Outcome.{Outcome}
 use Rattle.model.specs.declared.Admission.{Admission}
 use Rattle.model.specs.declared.Given.{Given}
 use Rattle.model.specs.declared.Answer.{Answer}
 use Rattle.model.specs.declared.Loaded.{Loaded}
-use Rattle.model.specs.Limits.{reportBytes}
+use Rattle.model.specs.declared.Record.{Record}
+use Rattle.model.specs.Limits.{taskLimit, reportBytes, budgetKind, taskKind, endKind}
+use Rattle.model.specs.Values.{recordSaid, refusalSaid, judgementSaid, admissionSaid, givenSaid}
 use Rattle.model.specs.Tasks.{judged}
 use Rattle.model.specs.Verdict.{brief, Permitted}
-use Rattle.model.specs.TableFile.{loadedFrom}
+use Rattle.model.specs.TableFile.{eight, taskIn, nothing, unknown, found, recordAt, formOf, loadedFrom}
 use Rattle.model.specs.Dispatcher as model
 use Rattle.model.specs.Dispatcher.{State, firstStrange, lastStrange, stepJudged, started, stepped}
 use Rattle.dispatch.specs.declared.Dispatcher.{Dispatcher}
@@ -82,15 +86,49 @@ refused-export file buffer e r long q x = file-refused buffer (loadedFrom file) 
 pub short-buffer : (file buffer : List ℕ) (e : Exported) → ltb (length buffer) reportBytes ≡ true → Checked file buffer e → e ≡ refused (record { number = 30; place = length buffer }) buffer
 short-buffer file buffer e short x = subst (CheckedBuffer file buffer e) short x
 
--- A table that is refused starts no dispatcher.
-pub refused-start : (t : Table) (r : Refusal) → judged t ≡ Judgement.Refused r → started t .admission ≡ Admission.Refused r
+-- A refused table is told by document 01's number and place: by its judge, of a file whose form is good, and by a start.
+pub refused-table : (t : Table) (r : Refusal) → judged t ≡ Judgement.Refused r → judgementSaid (judged t) ≡ refusalSaid r
+refused-table t r e = rw e refl
+
+pub refused-load : (file : List ℕ) (r : Refusal) → formOf file .admission ≡ Admission.Admitted → judged (formOf file .table) ≡ Judgement.Refused r → admissionSaid (loadedFrom file .admission) ≡ refusalSaid r
+unfolding loadedFrom
+refused-load file r good e = rw (good, e) refl
+
+pub refused-start : (t : Table) (r : Refusal) → judged t ≡ Judgement.Refused r → admissionSaid (started t .admission) ≡ refusalSaid r
 unfolding started
 refused-start t r e = rw e refl
+
+-- A file whose form is bad is refused for it, whatever its table.
+pub refused-form : (file : List ℕ) (r : Refusal) → formOf file .admission ≡ Admission.Refused r → admissionSaid (loadedFrom file .admission) ≡ refusalSaid r
+unfolding loadedFrom
+refused-form file r e = rw e refl
+
+-- A record is of the kind that its first byte says.
+pub record-kind : (s : List ℕ) (at : ℕ) (k : Record) → recordAt s at ≡ found k → recordSaid k .number ≡ getD s at 0
+unfolding recordAt
+record-kind s at k = by (leb (length s) at) (eqb (getD s at 0) budgetKind) (eqb (getD s at 0) taskKind) (eqb (getD s at 0) endKind) refl refl refl
+  where
+    by : (past budget task end : Bool) → eqb (getD s at 0) budgetKind ≡ budget → eqb (getD s at 0) taskKind ≡ task → eqb (getD s at 0) endKind ≡ end
+        → cond past nothing (cond budget (found (Record.Budget (eight s (at + 1)))) (cond task (found (Record.OneTask (taskIn s (at + 1)))) (cond end (found Record.End) unknown))) ≡ found k → recordSaid k .number ≡ getD s at 0
+    by true b c d x y z e = let z : _≡_ {A = ℕ} 0 1 = cc in absurd (omega arith)
+    by false true c d x y z e = let q : Record.Budget (eight s (at + 1)) ≡ k = cc in rw (← q) (sym (eqb-true _ _ x))
+    by false false true d x y z e = let q : Record.OneTask (taskIn s (at + 1)) ≡ k = cc in rw (← q) (sym (eqb-true _ _ y))
+    by false false false true x y z e = let q : Record.End ≡ k = cc in rw (← q) (sym (eqb-true _ _ z))
+    by false false false false x y z e = let z : _≡_ {A = ℕ} 0 1 = cc in absurd (omega arith)
 
 -- A table that is refused is refused by the test with the same number and place, and nothing else is told.
 pub refused-answer : (t : Table) (budget : ℕ) (r : Refusal) → judged t ≡ Judgement.Refused r → Permitted t budget (brief (Outcome.Refused r) (record { round = 0; load = 0; horizon = 0 }) 0)
 unfolding Permitted
 refused-answer t budget r e = rw e refl
+
+-- A state that does not belong to the table is refused by 8 with the first such task, or with 16 for the last-run number.
+pub strange-state : (t : Table) (m : Measure) (d : State) (done : Bool) → judged t ≡ Judgement.WellFormed m → firstStrange t d < t .count → givenSaid (stepped t d done .given) ≡ record { number = 8; values = firstStrange t d ∷ [] }
+unfolding stepped
+strange-state t m d done well h = rw (well, lt-ltb (firstStrange t d) (t .count) h) refl
+
+pub strange-last : (t : Table) (m : Measure) (d : State) (done : Bool) → judged t ≡ Judgement.WellFormed m → t .count ≤ firstStrange t d → lastStrange t d ≡ true → givenSaid (stepped t d done .given) ≡ record { number = 8; values = taskLimit ∷ [] }
+unfolding stepped
+strange-last t m d done well h last = rw (well, le-ltb (firstStrange t d) (t .count) h, last) refl
 
 -- A refused step hands the state back as it came.
 pub refused-step : (t : Table) (d : State) (done : Bool) (r : Refusal) → stepped t d done .given ≡ Given.Refused r → stepped t d done .state ≡ d

@@ -13,7 +13,7 @@ use Rattle.model.specs.declared.Admission.{Admission}
 use Rattle.model.specs.declared.Given.{Given}
 use Rattle.model.specs.declared.Answer.{Answer}
 use Rattle.model.specs.Limits.{taskLimit}
-use Rattle.model.specs.Tasks.{task, release, judged}
+use Rattle.model.specs.Tasks.{task, release, due, judged}
 use Rattle.model.specs.Verdict.{Permitted}
 use Rattle.model.specs.Dispatcher.{Started, Stepped, started, turn, stepped}
 use Rattle.model.specs.History.{stateAt, ownerAt, had, Finished}
@@ -35,6 +35,10 @@ module _ (t : Table) (m : Measure) (well : judged t ≡ Judgement.WellFormed m) 
   -- No job gets more slots than its cost. Of any well-formed table.
   pub none-too-much : (i j n : ℕ) → i < t .count → n ≤ release (task t i) (suc j) → had t done i (release (task t i) j) n ≤ task t i .cost
   none-too-much = history.never-more t (well-formed t m well .ranged) done
+
+  -- A slot goes to a released job only, and before its deadline. Of any well-formed table.
+  pub none-early : (n i : ℕ) → i < t .count → ownerAt t done n ≡ i → (j : ℕ) × (release (task t i) j ≤ n) × (n < due (task t i) j)
+  none-early = stepping.owned-ready t (well-formed t m well .ranged) done
 
   -- On a table that the test passed, with the worst responses that it reported:
   module _ (budget : ℕ) (a : Answer) (answer : Permitted t budget a) (pass : a .outcome ≡ Outcome.Tested Verdict.Passes) where

@@ -152,7 +152,7 @@ fn start_file(file: &[u8], state: &mut [u8]) -> u64
 // Any file and any buffer: the buffer is looked at before the file.
 #[no_mangle]
 pub extern "C" fn yolizadwa_start(file: &[u8], state: &mut [u8]) -> u64
-    ensures { λ r. ⌜ exported r (now (state .exit)) ≡ startExported (now (file .entry)) (now (state .entry)) ⌝ }
+    ensures { λ r. ⌜ record { number = r; buffer = now (state .exit) } ≡ startExported (now (file .entry)) (now (state .entry)) ⌝ }
 {
     if strange_length(state.len()) {
         return refused_state(state.len());
@@ -201,7 +201,7 @@ fn step_file(file: &[u8], state: &mut [u8], done: u32) -> u64
 
 #[no_mangle]
 pub extern "C" fn yolizadwa_step(file: &[u8], state: &mut [u8], done: u32) -> u64
-    ensures { λ r. ⌜ exported r (now (state .exit)) ≡ stepExported (now (file .entry)) (now (state .entry)) done ⌝ }
+    ensures { λ r. ⌜ record { number = r; buffer = now (state .exit) } ≡ stepExported (now (file .entry)) (now (state .entry)) done ⌝ }
 {
     if strange_length(state.len()) {
         return refused_state(state.len());
