@@ -6,11 +6,9 @@
 #include <stdlib.h>
 #include <string.h>
 
-uint64_t yolizadwa_check(const uint8_t *file, size_t file_len, uint8_t *report, size_t report_len);
-uint64_t yolizadwa_start(const uint8_t *file, size_t file_len, uint8_t *state, size_t state_len);
-uint64_t yolizadwa_step(const uint8_t *file, size_t file_len, uint8_t *state, size_t state_len, uint32_t done);
+#include "yolizadwa.h"
 
-enum { REPORT = 512, STATE = 144, REFUSED = 65536, NONE = 16 };
+enum { REPORT = YOLIZADWA_REPORT_BYTES, STATE = YOLIZADWA_STATE_BYTES, REFUSED = 65536, NONE = YOLIZADWA_TASKS };
 
 #define HOLDS(fact)                                                       \
     do {                                                                  \
@@ -111,7 +109,7 @@ static void try_file(const uint8_t *bytes, size_t len, const uint8_t *more, size
     memcpy(state, more, more_len < STATE ? more_len : STATE);
     step(file, len, state, more_len & 1);
 
-    // the start, and steps from it; what is told of a table that passes holds without done reports
+    // the start, and steps from it; where the report says passes none is late, whichever steps have a done report
     memset(state, 0xee, STATE);
     uint64_t s = yolizadwa_start(file, len, state, STATE);
     HOLDS((s == 0) == (r < REFUSED));
@@ -119,14 +117,13 @@ static void try_file(const uint8_t *bytes, size_t len, const uint8_t *more, size
         HOLDS(s == r);
         HOLDS(all(state, 0, STATE, 0xee));
     } else {
-        int passes = strstr((char *)text, "verdict passes\n") != 0, reports = 0;
+        int passes = strstr((char *)text, "verdict passes\n") != 0;
         size_t tasks = (len - 10) / 17;
         for (int i = 0; i < 200; i++) {
             uint32_t done = more_len ? more[i % more_len] & 1 : 0;
-            reports |= done;
             uint64_t owner = step(file, len, state, done);
             HOLDS(owner == NONE || owner < tasks);
-            if (passes && !reports) HOLDS(word(state, 132) == 0);
+            if (passes) HOLDS(word(state, 132) == 0);
         }
     }
     HOLDS(memcmp(file, kept, len) == 0);

@@ -1,7 +1,10 @@
 //! The exported calls: linked on x86-64, through a bridge program under an emulator elsewhere.
+//!
+//! Either way stack.c makes them, which is compiled against include/yolizadwa.h.
 
 use crate::reference::{REPORT_BYTES, STATE_BYTES};
 
+/// In the order of stack.h.
 #[derive(Clone, Copy, PartialEq, Eq, Debug)]
 pub enum Call {
     Check,
@@ -42,12 +45,10 @@ pub use way::Calls;
 
 #[cfg(target_arch = "x86_64")]
 mod way {
-    use super::{Call, Reply, Request};
+    use super::{Reply, Request};
 
     extern "C" {
-        fn yolizadwa_check(file: *const u8, file_len: usize, report: *mut u8, report_len: usize) -> u64;
-        fn yolizadwa_start(file: *const u8, file_len: usize, state: *mut u8, state_len: usize) -> u64;
-        fn yolizadwa_step(file: *const u8, file_len: usize, state: *mut u8, state_len: usize, done: u32) -> u64;
+        fn plain_call(call: u32, file: *const u8, file_len: usize, buffer: *mut u8, buffer_len: usize, done: u32) -> u64;
         fn stack_depth(call: u32, file: *const u8, file_len: usize, buffer: *mut u8, buffer_len: usize, done: u32) -> u64;
     }
 
@@ -86,13 +87,7 @@ mod way {
         let (file, mut buffer) = (guard(&request.file), guard(&request.buffer));
         let (file_len, buffer_len) = (request.file.len(), request.buffer.len());
         let (from, into) = (file[GUARD..].as_ptr(), buffer[GUARD..].as_mut_ptr());
-        let result = unsafe {
-            match request.call {
-                Call::Check => yolizadwa_check(from, file_len, into, buffer_len),
-                Call::Start => yolizadwa_start(from, file_len, into, buffer_len),
-                Call::Step => yolizadwa_step(from, file_len, into, buffer_len, request.done),
-            }
-        };
+        let result = unsafe { plain_call(request.call as u32, from, file_len, into, buffer_len, request.done) };
         let intact = file == guard(&request.file) && guards_hold(&buffer);
         Reply { result, intact, buffer: buffer[GUARD..GUARD + buffer_len].to_vec() }
     }
@@ -111,7 +106,7 @@ mod way {
 
     impl Calls {
         pub fn open() -> Calls {
-            let mut command = crate::program("bridge");
+            let mut command = crate::program("target/host/bridge");
             let mut child = command.stdin(Stdio::piped()).stdout(Stdio::piped()).spawn().expect("the bridge starts");
             Calls { input: child.stdin.take().unwrap(), output: child.stdout.take().unwrap() }
         }

@@ -1,4 +1,4 @@
-//! Host tests: the exported calls against an independent implementation of document 01.
+//! Host tests: the exported calls and the program judge against an independent implementation of document 01.
 //!
 //! Run by tests/run from the repository's root, with an optional seed and count of inputs for each call.
 
@@ -7,6 +7,7 @@ mod calls;
 mod document;
 mod files;
 mod inputs;
+mod judge;
 mod randoms;
 mod reference;
 mod runs;
@@ -17,11 +18,11 @@ use std::process::{Command, ExitCode};
 const SEED: u64 = 20_241;
 const COUNT: u64 = 100_000;
 
-/// A program of target/host, under the emulator that EMULATOR names where there is one.
-pub fn program(name: &str) -> Command {
+/// A program for x86-64, under the emulator that EMULATOR names where there is one.
+pub fn program(path: &str) -> Command {
     let words = std::env::var("EMULATOR").unwrap_or_default();
     let mut words: Vec<String> = words.split_whitespace().map(str::to_string).collect();
-    words.push(format!("target/host/{name}"));
+    words.push(path.to_string());
     let mut command = Command::new(&words[0]);
     command.args(&words[1..]);
     command
@@ -51,5 +52,7 @@ fn main() -> ExitCode {
     runs::runs(&mut bench, &mut rng, count);
     whole::stack(&mut bench);
     whole::example_host(&mut bench);
+    judge::inputs_by_hand(&mut bench);
+    judge::inputs_at_random(&mut bench, &mut rng);
     ExitCode::from(!bench.end() as u8)
 }

@@ -45,11 +45,13 @@ pub fn field_borders(bench: &mut Bench) {
     bench.end_group("fields at their borders");
 }
 
-/// How many of each verdict, so that a generator that has drifted to one side is seen.
+/// How many of each verdict: a generator that no longer reaches one of them fails.
 #[derive(Default)]
 struct Verdicts([u64; 4]);
 
 const VERDICT_WORDS: [&str; 4] = ["passes", "overload", "late", "undecided"];
+/// Of so many inputs at least one has each verdict.
+const INPUTS_PER_VERDICT: u64 = 1_000;
 
 impl Verdicts {
     fn count(&mut self, permitted: &Permitted) {
@@ -59,9 +61,12 @@ impl Verdicts {
         }
     }
 
-    fn print(&self) {
+    fn hold(&self, bench: &mut Bench, inputs: u64) {
         let counts = VERDICT_WORDS.iter().zip(self.0).map(|(word, count)| format!(" {word} {count}"));
         println!("verdicts:{}", counts.collect::<Vec<_>>().join(","));
+        for (word, count) in VERDICT_WORDS.iter().zip(self.0) {
+            bench.count(count >= inputs / INPUTS_PER_VERDICT, || format!("{word} only {count} times in {inputs} inputs"));
+        }
     }
 }
 
@@ -75,7 +80,7 @@ pub fn checks(bench: &mut Bench, rng: &mut Rng, count: u64) {
         verdicts.count(&permitted);
         bench.ask_knowing(request, permitted);
     }
-    verdicts.print();
+    verdicts.hold(bench, count);
     bench.end_group("check near the border of what passes");
 }
 

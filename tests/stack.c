@@ -1,6 +1,10 @@
-/* How deep a call writes into the stack. For x86-64, as the library itself. */
+/*
+ * Every call of the host tests, made through the header's prototypes, and how deep a call writes into the stack.
+ * For x86-64, as the library itself.
+ */
 #include "stack.h"
 
+#include <stdlib.h>
 #include <string.h>
 
 #include "yolizadwa.h"
@@ -56,10 +60,24 @@ static uint64_t depth_over(int paint)
     return ROOM - untouched;
 }
 
-/* Over two paints, since a byte may be written that equals one of them. */
+static uint8_t *copy_of(const uint8_t *bytes, size_t len)
+{
+    uint8_t *copy = malloc(len + 1);
+    if (copy == NULL) {
+        abort();
+    }
+    memcpy(copy, bytes, len);
+    return copy;
+}
+
+/*
+ * Over two paints, since a byte may be written that equals one of them. The buffer is put back between them, so that both
+ * measure the same call: a step would otherwise begin the second time from the state that the first has left.
+ */
 uint64_t stack_depth(uint32_t call, const uint8_t *file, size_t file_len, uint8_t *buffer, size_t buffer_len, uint32_t done)
 {
     uint64_t one, other;
+    uint8_t *before = copy_of(buffer, buffer_len);
     wanted.call = call;
     wanted.file = file;
     wanted.file_len = file_len;
@@ -67,6 +85,8 @@ uint64_t stack_depth(uint32_t call, const uint8_t *file, size_t file_len, uint8_
     wanted.buffer_len = buffer_len;
     wanted.done = done;
     one = depth_over(0xA5);
+    memcpy(buffer, before, buffer_len);
     other = depth_over(0x5A);
+    free(before);
     return one > other ? one : other;
 }

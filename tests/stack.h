@@ -13,7 +13,10 @@ typedef uint64_t call_maker(uint32_t call, const uint8_t *file, size_t file_len,
 /* Tells the call's result. */
 call_maker plain_call;
 
-/* Makes the call twice, on a painted stack of its own, and tells by how many bytes it wrote down into that. */
+/*
+ * Makes the call twice on the same bytes, each time on a stack of its own in another paint, and tells by how many bytes it
+ * wrote down into that. The buffer is left as one call leaves it.
+ */
 call_maker stack_depth;
 
 #endif
