@@ -73,6 +73,10 @@ impl Draft {
     }
 }
 
+pub fn whole(t: Table) -> Draft {
+    Draft::new().budget(1000).tasks(t).end()
+}
+
 fn low_byte(x: u32) -> u8 {
     (x % 256) as u8
 }

@@ -1,4 +1,5 @@
 // Numbers 20 to 26, the table's refusal from a file, and what is taken.
+use crate::files;
 use crate::files::Draft;
 use crate::say;
 use crate::tables;
@@ -105,7 +106,7 @@ fn unended(t: Table) -> Draft {
 }
 
 fn load_table(vector: &[u8], t: Table) {
-    load(vector, unended(t).end());
+    load(vector, files::whole(t));
 }
 
 fn load_b(vector: &[u8], start: Draft) {

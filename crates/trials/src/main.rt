@@ -1,4 +1,5 @@
 // Runs document 01's vectors through the public calls, a line for each; `stdout` says what document 01 demands of them.
+mod calls;
 mod dispatching;
 mod files;
 mod judging;
@@ -28,4 +29,9 @@ fn main() {
     dispatching::refused_tables();
     testing::verdicts();
     testing::budgets();
+    calls::checks();
+    calls::lengths();
+    calls::on_g();
+    calls::on_f();
+    calls::refusals();
 }
