@@ -1,13 +1,13 @@
--- THE CRITERION: the run misses a deadline exactly if some interval asks too much, and first where the first such interval ends.
-use mathlib.Core.Path.{_≡_, refl, sym, ap, subst, _∙_}
+-- THE CRITERION: at each instant the run has missed a deadline exactly if some interval that ends there asks too much.
+use mathlib.Core.Path.{_≡_, refl, sym, ap, _∙_}
 use mathlib.Core.Logic.{_⊎_, inl, inr, _↔_}
 use mathlib.Core.Bool.{_&&_}
 use Prim.Native.Nat.{ℕ, zero, suc, _+_, _-_, _*_, _≤_, _<_, min}
 use native.Mathlib.Nat.{eq-zero-or-pos, le-refl, mul-le-mul-left, mul-sub}
-use native.Mathlib.Decide.{ℕ-discrete, decLe}
+use native.Mathlib.Decide.{decLe}
 use native.Mathlib.Omega.{arith}
 use lib.Dec.{leb}
-use Rattle.model.specs.Notation.{sum, count, Least}
+use Rattle.model.specs.Notation.{sum, count}
 use Rattle.counting.specs.Sum.{sum-eq, sum-le, sum-add, sum-pos}
 use Rattle.counting.specs.Below.{Grows, below, lt-below, below-below, below-most, grows-ge, count-between}
 use Rattle.backlog.specs.Queue.{sum-backlog, busy-from}
@@ -33,12 +33,9 @@ demand J D t1 t2 = sum (J .n) (λ i. J .cost i * inInterval J D t1 t2 i)
 abbrev pub Over : (J : Jobs) → Dues J → ℕ → Type 0
 Over J D t2 = (t1 : ℕ) × (t1 < t2) × (t2 - t1 < demand J D t1 t2)
 
--- At t the run has not finished a job that is due by t; that is due at t.
+-- At t the run has not finished a job that is due by t.
 abbrev pub Late : (J : Jobs) → Dues J → (ℕ → ℕ → ℕ) → ℕ → Type 0
 Late J D s t = (i : ℕ) × (j : ℕ) × (i < J .n) × (D .due i j ≤ t) × (s t i < J .cost i * suc j)
-
-abbrev pub Miss : (J : Jobs) → Dues J → (ℕ → ℕ → ℕ) → ℕ → Type 0
-Miss J D s t = (i : ℕ) × (j : ℕ) × (i < J .n) × (D .due i j ≡ t) × (s t i < J .cost i * suc j)
 
 -- Every job is done by its deadline.
 abbrev pub Met : (J : Jobs) → Dues J → (ℕ → ℕ → ℕ) → Type 0
@@ -108,12 +105,6 @@ module _ (J : Jobs) (D : Dues J) (s : ℕ → ℕ → ℕ) (R : Run J s) where
   pub late-iff-over : (t : ℕ) → Late J D s t ↔ Over J D t
   late-iff-over t = (λ h. over-of-left t (left-of-late t h), λ h. late-of-left t (left-of-over t h))
 
-  pub miss-of-late : (t : ℕ) → Late J D s t → (u : ℕ) × (u ≤ t) × Miss J D s u
-  miss-of-late t (i, j, l, d, h) = (D .due i j, d, (i, j, l, refl, omega (arith, served-mono J s R i l (D .due i j) t d)))
-
-  pub late-of-miss : (t : ℕ) → Miss J D s t → Late J D s t
-  late-of-miss t (i, j, l, d, h) = (i, j, l, omega arith, h)
-
   -- The run meets every deadline exactly if no interval asks too much.
   pub criterion :
       Met J D s
@@ -131,20 +122,3 @@ module _ (J : Jobs) (D : Dues J) (s : ℕ → ℕ → ℕ) (R : Run J s) where
       bwd h i j l (no p) =
           let (u, a, q) = late-iff-over (D .due i j) .0 (i, j, l, le-refl _, omega arith) in
           absurd (omega (arith, h u (D .due i j) a))
-
-  -- The first miss is the smallest late deadline.
-  pub first-miss : (t : ℕ) → Least (Miss J D s) t ↔ Least (Over J D) t
-  first-miss t = (fwd, bwd)
-    where
-      fwd : Least (Miss J D s) t → Least (Over J D) t
-      fwd (m, no-earlier) = (late-iff-over t .0 (late-of-miss t m), λ u l o. let (v, k, m') = miss-of-late u (late-iff-over u .1 o) in no-earlier v (omega arith) m')
-
-      bwd : Least (Over J D) t → Least (Miss J D s) t
-      bwd (o, no-earlier) = (at (miss-of-late t (late-iff-over t .1 o)), λ u l m. no-earlier u l (late-iff-over u .0 (late-of-miss u m)))
-        where
-          at : (u : ℕ) × (u ≤ t) × Miss J D s u → Miss J D s t
-          at (u, k, m) = pick (ℕ-discrete u t)
-            where
-              pick : Dec (u ≡ t) → Miss J D s t
-              pick (yes e) = subst (λ (x : ℕ). Miss J D s x) e m
-              pick (no e) = absurd (no-earlier u (omega arith) (late-iff-over u .0 (late-of-miss u m)))
