@@ -1,5 +1,5 @@
 -- A pass means a good schedule, and every table and budget has one permitted answer.
-use mathlib.Core.Path.{_≡_, refl, sym, _∙_}
+use mathlib.Core.Path.{_≡_, sym, _∙_}
 use mathlib.Core.Logic.{_↔_}
 use mathlib.Core.List.{List}
 use Prim.Native.Nat.{ℕ, _≤_, _<_}
@@ -19,7 +19,6 @@ use Rattle.model.specs.Run.{tieOrder, Worst}
 use Rattle.model.specs.Verdict.{needed, verdict, settledBy, Worsts, Answers, Judged, Permitted}
 use Rattle.counting.specs.Fill.{fill-length, fill-passed, fill-ahead}
 use Rattle.wellformed.specs.Ranges.{Ranged}
-use Rattle.wellformed.specs.WellFormed.{well-formed}
 use Rattle.backlog.specs.Criterion.{Met}
 use Rattle.backlog.specs.System.{jobs, dues}
 use Rattle.backlog.specs.ModelRun.{servedOf}

@@ -1,7 +1,6 @@
 -- THE PERMITTED ANSWER, COMPUTED: by a walk to the horizon. So the answers of given tables are found by computing.
 use mathlib.Core.Path.{_≡_, refl}
 use Prim.Native.Nat.{ℕ}
-use native.Mathlib.Omega.{arith}
 use Rattle.model.specs.declared.Table.{Table}
 use Rattle.model.specs.declared.Measure.{Measure}
 use Rattle.model.specs.declared.Judgement.{Judgement}

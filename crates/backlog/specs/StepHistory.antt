@@ -17,7 +17,7 @@ use Rattle.model.specs.declared.Verdict.{Verdict}
 use Rattle.model.specs.Tasks.{task, release}
 use Rattle.model.specs.Verdict.{verdict, Worsts}
 use Rattle.model.specs.Run.{tieOrder, Worst}
-use Rattle.model.specs.Dispatcher.{waitOf, leftOf, isLate, waitReleased, leftReleased, turn}
+use Rattle.model.specs.Dispatcher.{leftOf, isLate, waitReleased, leftReleased, turn}
 use Rattle.model.specs.History.{stateAt, ownerAt, reported, had, Finished}
 use Rattle.counting.specs.Count.{tests, and-iff, bit-no, count-more}
 use Rattle.counting.specs.Search.{NoneFrom, first-none}

@@ -36,7 +36,7 @@ use native.Mathlib.Nat.{
   mul-pos,
 }
 use lib.Dec.{T, ltb, eqb, ltb→lt, lt→ltb, eqb→eq}
-use Rattle.model.specs.Notation.{product, count, every, first}
+use Rattle.model.specs.Notation.{product, every, first}
 use Rattle.counting.specs.Count.{and-iff, every-iff}
 use Rattle.counting.specs.Search.{first-unique}
 

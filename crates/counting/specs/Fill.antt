@@ -2,13 +2,13 @@
 use mathlib.Core.Path.{_≡_, refl, sym, ap, _∙_}
 use mathlib.Core.Logic.{_≢_}
 use mathlib.Core.List.{List}
-use Prim.Native.Nat.{ℕ, zero, suc, _+_, _-_, _≤_, _<_}
-use native.Mathlib.Nat.{le-antisymm, le-of-eq, le-refl, le-step}
-use native.Mathlib.Decide.{ℕ-discrete, decLt, le-ind}
+use Prim.Native.Nat.{ℕ, zero, suc, _+_, _≤_, _<_}
+use native.Mathlib.Nat.{le-antisymm, le-refl, le-step}
+use native.Mathlib.Decide.{ℕ-discrete, decLt}
 use native.Mathlib.Numerals.{add-one}
 use native.Mathlib.Omega.{arith}
-use lib.ListN.{length, getD, set, take, drop, length-drop, length-set}
-use lib.Seq.{take-all, set-out, set-getD, set-set, set-comm, getD-set-same, getD-set-other, ext-getD}
+use lib.ListN.{length, getD, set, length-set}
+use lib.Seq.{set-getD, set-set, set-comm, getD-set-same, getD-set-other, ext-getD}
 use Rattle.model.specs.Notation.{fill}
 
 -- What a loop's invariant says of its counter holds at the end.

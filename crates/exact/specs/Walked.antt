@@ -1,23 +1,17 @@
 -- What the walk has seen before a slot, and what it says at its end.
-use mathlib.Core.Path.{_≡_, refl, sym, ap, _∙_}
 use mathlib.Core.List.{List}
-use mathlib.Core.Bool.{Bool, true, false, cond, _&&_}
-use Prim.Native.Nat.{ℕ, suc, _+_, _-_, _≤_, _<_, max}
-use lib.Dec.{T, ltb, eqb}
-use lib.ListN.{getD, set}
-use Rattle.model.specs.declared.Table.{Table}
+use mathlib.Core.Bool.{cond, _&&_}
+use Prim.Native.Nat.{ℕ, _-_}
+use lib.Dec.{ltb, eqb}
+use lib.ListN.{getD}
 use Rattle.model.specs.declared.Measure.{Measure}
 use Rattle.model.specs.declared.Verdict.{Verdict}
 use Rattle.model.specs.declared.Outcome.{Outcome}
 use Rattle.model.specs.declared.Empty.{Empty}
 use Rattle.model.specs.declared.Answer.{Answer}
-use Rattle.model.specs.Notation.{first}
 use Rattle.model.specs.Limits.{taskLimit}
-use Rattle.model.specs.Tasks.{horizon}
 use Rattle.model.specs.Verdict.{brief}
-use Rattle.model.specs.History.{stateAt, ownerAt}
-use Rattle.backlog.specs.Walk.{quiet, Clear}
-use Rattle.backlog.specs.WalkWorst.{noted, worstBy}
+use Rattle.backlog.specs.WalkWorst.{noted}
 
 -- The responses after a slot of this owner, with the lists after the slot.
 abbrev pub notedOf : List ℕ → ℕ → List ℕ → List ℕ → List ℕ → List ℕ

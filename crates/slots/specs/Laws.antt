@@ -14,11 +14,11 @@ use Rattle.model.specs.Notation.{bit, bits, fill}
 use Rattle.model.specs.Tasks.{task}
 use Rattle.model.specs.Run.{Order, tieOrder, choose}
 use Rattle.counting.specs.Count.{and-iff}
-use Rattle.counting.specs.Fill.{at-end, fill-passed, fill-eq, fill-same, fill-again, fill-set}
+use Rattle.counting.specs.Fill.{at-end, fill-passed, fill-eq, fill-same, fill-set}
 use Rattle.counting.specs.Bits.{bits-at, bits-past}
 use Rattle.slots.specs.Slot.{at, isLate, isMember, closed}
 use Rattle.slots.specs.Columns.{columnsOf}
-use Rattle.slots.specs.Choice.{choose-range, choose-eq}
+use Rattle.slots.specs.Choice.{choose-eq}
 
 -- The end of the loop that finds the late jobs: past the n tasks there are none.
 pub late-done : (wait left slack : List ℕ) {tasks : ℕ} (i n : ℕ) → i ≤ n → n ≤ i → n ≤ taskLimit → tasks ≡ bits (isLate wait left slack n) i → tasks ≡ bits (isLate wait left slack n) taskLimit

@@ -1,9 +1,9 @@
 -- A camera's own loop: a start and steps in one buffer are the dispatcher's history, for ever.
 use mathlib.Core.Path.{_≡_, refl, ap, _∙_}
-use mathlib.Core.Logic.{_⊎_, inl, inr}
+use mathlib.Core.Logic.{inl, inr}
 use mathlib.Core.List.{List}
 use mathlib.Core.Bool.{Bool, not}
-use Prim.Native.Nat.{ℕ, zero, suc, _<_, _≤_}
+use Prim.Native.Nat.{ℕ, zero, suc, _<_}
 use native.Mathlib.Decide.{decLt}
 use native.Mathlib.Omega.{arith}
 use borrow.Author.Tests.{eq-eqb}
@@ -14,16 +14,16 @@ use Rattle.model.specs.declared.Measure.{Measure}
 use Rattle.model.specs.declared.Judgement.{Judgement}
 use Rattle.model.specs.declared.Admission.{Admission}
 use Rattle.model.specs.declared.Turn.{Turn}
-use Rattle.model.specs.Limits.{taskLimit, stateBytes}
+use Rattle.model.specs.Limits.{stateBytes}
 use Rattle.model.specs.Tasks.{judged}
 use Rattle.model.specs.TableFile.{formOf}
-use Rattle.model.specs.Dispatcher.{started, startOf, turn}
+use Rattle.model.specs.Dispatcher.{started, turn}
 use Rattle.model.specs.History.{stateAt, ownerAt}
 use Rattle.model.specs.Report.{Exported}
-use Rattle.model.specs.StateBuffer.{bufferOf, quiet, startTable, stepTable, onForm, onFile, startExported, stepExported, handed}
+use Rattle.model.specs.StateBuffer.{bufferOf, quiet, startTable, stepTable, onFile, startExported, stepExported, handed}
 use Rattle.wellformed.specs.Ranges.{Ranged}
 use Rattle.wellformed.specs.WellFormed.{well-formed}
-use Rattle.backlog.specs.Stepping.{Sound, sound, wait-le, past-none, never-refused}
+use Rattle.backlog.specs.Stepping.{sound, wait-le, past-none, never-refused}
 use Rattle.statebuffer.specs.RoundTrip.{wordLimit, Fits, state-back, buffer-size}
 
 -- Every state of a history fits its buffer.

@@ -7,7 +7,6 @@ use lib.ListN.{length, getD, replicate, length-append, length-replicate, List·g
 use lib.Seq.{ext-getD, getD-append-add}
 use Rattle.model.specs.declared.Turn.{Turn}
 use Rattle.model.specs.Limits.{taskLimit, stateBytes}
-use Rattle.model.specs.Notation.{fill}
 use Rattle.model.specs.TableFile.{four}
 use Rattle.model.specs.Dispatcher.{State}
 use Rattle.model.specs.StateBuffer.{wordBytes, bytesOf, bufferOf, wordsIn, stateIn}

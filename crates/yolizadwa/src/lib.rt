@@ -6,7 +6,7 @@ ghost use lib.Dec.{eqb};
 ghost use lib.ListN.{length};
 ghost use Rattle.model.specs.Limits.{taskLimit, reportBytes, stateBytes};
 ghost use Rattle.model.specs.TableFile.{formOf, loadedFrom};
-ghost use Rattle.model.specs.Report.{Exported, exportOf, CheckedFile, Checked};
+ghost use Rattle.model.specs.Report.{exportOf, CheckedFile, Checked};
 ghost use Rattle.model.specs.StateBuffer.{startTable, stepTable, quiet, onForm, startExported, stepExported};
 ghost use Rattle.report.specs.Put.{exported};
 use dispatch::Dispatcher;

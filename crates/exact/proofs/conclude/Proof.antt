@@ -1,6 +1,6 @@
 -- By cases on what was found and where the walk ended.
 use native.Mathlib.Omega.{arith}
-use borrow.Author.Tests.{lt-ltb, le-ltb, eq-eqb, ne-eqb}
+use borrow.Author.Tests.{lt-ltb, le-ltb}
 use borrow.Author.Needs.{needs}
 use Rattle.exact.proofs.conclude.Statement.{statement}
 use Rattle.exact.proofs.conclude.Tie as tie

@@ -8,9 +8,6 @@ use Rattle.model.specs.Notation.{fill, sum}
 use Rattle.counting.specs.Fill.{fill-none, fill-put, fill-read}
 use Rattle.counting.specs.Sum.{sum-none, sum-more}
 use Rattle.exact.specs.Back.{markThen, askedAt, fill-keep}
-use mathlib.Core.Path.{_≡_, sym, _∙_}
-use Prim.Native.Nat.{_≤_, _-_}
-use native.Mathlib.Omega.{arith}
 use borrow.Author.Needs.{needs}
 use Rattle.exact.proofs.count_back.Statement.{statement}
 use Rattle.exact.proofs.count_back.Tie as tie

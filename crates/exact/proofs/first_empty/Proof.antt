@@ -1,7 +1,6 @@
 -- By cases on the owner and on what was found before.
 use native.Mathlib.Omega.{arith}
-use borrow.Author.Tests.{lt-ltb, le-ltb, eq-eqb, ne-eqb}
-use borrow.Author.Needs.{needs}
+use borrow.Author.Tests.{lt-ltb, le-ltb}
 use Rattle.exact.proofs.first_empty.Statement.{statement}
 use Rattle.exact.proofs.first_empty.Tie as tie
 

@@ -6,9 +6,6 @@ use Rattle.model.specs.Notation.{fill}
 use Rattle.model.specs.Tasks.{task}
 use Rattle.counting.specs.Fill.{fill-none, fill-put, fill-done}
 use Rattle.exact.specs.Back.{markOf, dueBy, marksAt}
-use mathlib.Core.Path.{_≡_}
-use Prim.Native.Nat.{_≤_, _-_}
-use native.Mathlib.Omega.{arith}
 use borrow.Author.Needs.{needs}
 use Rattle.exact.proofs.marks.Statement.{statement}
 use Rattle.exact.proofs.marks.Tie as tie

@@ -1,7 +1,6 @@
 -- By the test against the horizon.
 use native.Mathlib.Omega.{arith}
-use borrow.Author.Tests.{lt-ltb, le-ltb, eq-eqb, ne-eqb}
-use borrow.Author.Needs.{needs}
+use borrow.Author.Tests.{lt-ltb, le-ltb}
 use Rattle.exact.proofs.slot_or_nowhere.Statement.{statement}
 use Rattle.exact.proofs.slot_or_nowhere.Tie as tie
 

@@ -8,9 +8,6 @@ use Rattle.model.specs.Limits.{taskLimit}
 use Rattle.counting.specs.Fill.{fill-read}
 use Rattle.slots.specs.Slot.{at, waitReleased, leftReleased}
 use Rattle.slots.specs.Serve.{Serving, serving-start, late-here, serve-closed, serve-first, serve-later, served-late, served-quiet}
-use mathlib.Core.Path.{_≡_, sym, _∙_}
-use Prim.Native.Nat.{_≤_, _<_, _-_}
-use native.Mathlib.Omega.{arith}
 use borrow.Author.Needs.{needs}
 use Rattle.slots.proofs.serve.Statement.{statement}
 use Rattle.slots.proofs.serve.Tie as tie
