@@ -1,12 +1,11 @@
 -- The jobs inside an interval in closed form, exact before a first release and where the offset is above the period.
 use mathlib.Core.Path.{_≡_}
 use Prim.Native.Nat.{ℕ, suc, _+_, _-_, _*_, _/_, _≤_, _<_}
-use native.Mathlib.Nat.{div-le-self, mul-le-mul, le-trans, le-refl}
-use lib.Dec.{lit≤}
+use native.Mathlib.Nat.{div-le-self, mul-le-mul, le-refl}
 use native.Mathlib.Omega.{arith}
 use Rattle.model.specs.declared.Task.{Task}
 use Rattle.model.specs.declared.Table.{Table}
-use Rattle.model.specs.Limits.{slotLimit, horizonLimit}
+use Rattle.model.specs.Limits.{taskLimit, slotLimit, horizonLimit}
 use Rattle.model.specs.Tasks.{task, release, due}
 use Rattle.model.specs.Demand.{jobsIn, demand}
 use Rattle.counting.specs.Sum.{sum-bound}
@@ -35,13 +34,13 @@ asks t from to i = task t i .cost * jobsIn (task t i) from to
 
 -- It fits a number of 64 bits, sixteen times over.
 abbrev pub asksLimit : ℕ
-asksLimit = 120007200000000
+asksLimit = slotLimit * (horizonLimit + slotLimit)
 
 pub asks-le : (t : Table) → Ranged t → (from to i : ℕ) → i < t .count → to ≤ horizonLimit → asks t from to i ≤ asksLimit
 asks-le t r from to i l h =
     let k = r .each i l in
-    le-trans (mul-le-mul {n₂ = 60000} {m₂ = 2000120000} (omega (arith, k .cost-le, k .deadline-le, k .period-le)) (omega (arith, jobs-le (task t i) k from to))) (lit≤ tt)
+    mul-le-mul {n₂ = slotLimit} {m₂ = horizonLimit + slotLimit} (omega (arith, k .cost-le, k .deadline-le, k .period-le)) (omega (arith, jobs-le (task t i) k from to))
 
-pub demand-le : (t : Table) → Ranged t → (from to : ℕ) → to ≤ horizonLimit → demand t from to ≤ 16 * asksLimit
+pub demand-le : (t : Table) → Ranged t → (from to : ℕ) → to ≤ horizonLimit → demand t from to ≤ taskLimit * asksLimit
 unfolding demand
-demand-le t r from to h = omega (arith, sum-bound (t .count) (asks t from to) asksLimit (λ i l. asks-le t r from to i l h), mul-le-mul {n₂ = 16} {m₂ = asksLimit} (r .few) (le-refl asksLimit))
+demand-le t r from to h = omega (arith, sum-bound (t .count) (asks t from to) asksLimit (λ i l. asks-le t r from to i l h), mul-le-mul {n₂ = taskLimit} {m₂ = asksLimit} (r .few) (le-refl asksLimit))

@@ -4,3 +4,4 @@ pub mod Part
 pub mod Built
 pub mod Steps
 pub mod Loading
+pub mod Admitted

@@ -1,3 +1,2 @@
-pub mod Admitted
 pub mod Length
 pub mod Outcomes

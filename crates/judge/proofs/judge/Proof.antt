@@ -1,7 +1,7 @@
 -- Each return rewrites with what the file turned out to be.
 use borrow.Author.Needs.{needs}
 use Rattle.model.specs.Report.{refusalLine, printOf}
-use Rattle.yolizadwa.specs.Admitted.{few-tasks}
+use Rattle.tablefile.specs.Admitted.{few-tasks}
 use Rattle.judge.specs.Front.{front, counted}
 use Rattle.judge.proofs.judge.Statement.{statement}
 use Rattle.judge.proofs.judge.Tie as tie

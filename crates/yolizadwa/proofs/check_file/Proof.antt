@@ -1,6 +1,6 @@
 -- Each return rewrites with what the file turned out to be.
 use borrow.Author.Needs.{needs}
-use Rattle.yolizadwa.specs.Admitted.{few-tasks}
+use Rattle.tablefile.specs.Admitted.{few-tasks}
 use Rattle.yolizadwa.proofs.check_file.Statement.{statement}
 use Rattle.yolizadwa.proofs.check_file.Tie as tie
 
