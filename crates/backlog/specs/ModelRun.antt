@@ -1,9 +1,9 @@
 -- The model's run is a run of its streams, and there is one run only.
-use mathlib.Core.Path.{_≡_, refl, sym, ap, _∙_}
+use mathlib.Core.Path.{_≡_, refl, ap}
 use mathlib.Core.Logic.{inl, inr, _≢_, _↔_}
 use Prim.Native.Nat.{ℕ, zero, suc, _+_, _*_, _/_, _≤_, _<_}
 use native.Mathlib.Nat.{div-lt-iff-lt-mul, mul-le-mul-right}
-use native.Mathlib.Decide.{ℕ-discrete, decLt}
+use native.Mathlib.Decide.{decLt}
 use native.Mathlib.Omega.{arith}
 use lib.Dec.{T, leb}
 use lib.ListN.{getD, length, set, length-set, length-replicate, getD-replicate}
@@ -11,7 +11,7 @@ use lib.Seq.{getD-set-same, getD-set-other}
 use Rattle.model.specs.Run.{ownerOf, served, owner}
 use Rattle.counting.specs.Count.{tests}
 use Rattle.counting.specs.Below.{below, lt-below}
-use Rattle.backlog.specs.Streams.{Jobs, Run, SlotOf, released, keyAt}
+use Rattle.backlog.specs.Streams.{Run, SlotOf, released, keyAt}
 use Rattle.backlog.specs.Choice.{NoLater, Chosen, choose-is}
 use Rattle.backlog.specs.System.{System, size, costOf, releaseOf, dueOf, jobs}
 
@@ -77,32 +77,3 @@ module _ (S : System) where
           rest = λ i l e. others-served t i e;
         },
       )
-
--- There is one run only.
-pub run-unique : (J : Jobs) (s s' : ℕ → ℕ → ℕ) → Run J s → Run J s' → (t i : ℕ) → i < J .n → s t i ≡ s' t i
-run-unique J s s' R R' zero i l = R .start i l ∙ sym (R' .start i l)
-run-unique J s s' R R' (suc t) i l = go (R .slot t) (R' .slot t) (run-unique J s s' R R' t)
-  where
-    go : SlotOf J t (s t) (s (suc t)) → SlotOf J t (s' t) (s' (suc t)) → ((i : ℕ) → i < J .n → s t i ≡ s' t i) → s (suc t) i ≡ s' (suc t) i
-    go (inl d) (inl d') ih = d .rest i l ∙ ih i l ∙ sym (d' .rest i l)
-    go (inl d) (inr (k, d')) ih = absurd (omega (arith, d .none k (d' .bound), d' .ready, ih k (d' .bound)))
-    go (inr (k, d)) (inl d') ih = absurd (omega (arith, d' .none k (d .bound), d .ready, ih k (d .bound)))
-    go (inr (k, d)) (inr (k', d')) ih = at (ℕ-discrete i k) (ℕ-discrete i k')
-      where
-        here : s t k ≡ s' t k
-        here = ih k (d .bound)
-
-        there : s t k' ≡ s' t k'
-        there = ih k' (d' .bound)
-
-        keys : keyAt J k (s t k) ≡ keyAt J k' (s t k')
-        keys = omega (arith, d .least k' (d' .bound) (omega (arith, d' .ready, there)), d' .least k (d .bound) (omega (arith, d .ready, here)), ap (keyAt J k) here, ap (keyAt J k') there)
-
-        same : k ≡ k'
-        same = J .key-apart k _ k' _ (d .bound) (d' .bound) keys
-
-        at : Dec (i ≡ k) → Dec (i ≡ k') → s (suc t) i ≡ s' (suc t) i
-        at (yes a) (yes b) = rw a (omega (arith, here, d .one, rw (← same) at (d' .one)))
-        at (yes a) (no b) = absurd (b (a ∙ same))
-        at (no a) (yes b) = absurd (a (b ∙ sym same))
-        at (no a) (no b) = omega (arith, d .rest i l a, d' .rest i l b, ih i l)

@@ -47,9 +47,3 @@ pub backlog-bounds : (a r : ℕ → ℕ) → r 0 ≤ backlog a 0 → ((t : ℕ) 
 unfolding backlog
 backlog-bounds a r z s zero = z
 backlog-bounds a r z s (suc t) = omega (arith, s t, backlog-bounds a r z s t)
-
--- Less arrives, and less waits.
-pub backlog-mono : (a b : ℕ → ℕ) → ((t : ℕ) → a t ≤ b t) → (t : ℕ) → backlog a t ≤ backlog b t
-unfolding backlog
-backlog-mono a b h zero = omega arith
-backlog-mono a b h (suc t) = omega (arith, h t, backlog-mono a b h t)

@@ -23,7 +23,7 @@ use Rattle.counting.specs.Search.{first-none}
 use Rattle.counting.specs.Fill.{fill-passed, fill-ahead, fill-length}
 use Rattle.counting.specs.Below.{below, lt-below, below-bound}
 use Rattle.wellformed.specs.Ranges.{Ranged}
-use Rattle.backlog.specs.System.{System, releaseOf, dueOf, jobs, period-pos}
+use Rattle.backlog.specs.System.{System, releaseOf, dueOf, jobs}
 use Rattle.backlog.specs.Choice.{Chosen, choose-is}
 use Rattle.backlog.specs.Domination.{Releases, releases}
 use Rattle.backlog.specs.TableSystem.{tie-ranks, systemOf}
