@@ -4,7 +4,7 @@ use mathlib.Core.Path.{_≡_, refl, sym, ap, _∙_}
 use mathlib.Core.Logic.{_⊎_, inl, inr}
 use mathlib.Core.List.{List}
 use mathlib.Core.Bool.{Bool, true, false, cond, not}
-use Prim.Native.Nat.{ℕ, suc, _≤_, _<_}
+use Prim.Native.Nat.{ℕ, suc, min, _≤_, _<_}
 use native.Mathlib.Omega.{arith}
 use lib.Dec.{eqb, ltb}
 use lib.ListN.{length, replicate, length-replicate}
@@ -26,10 +26,7 @@ use Rattle.wellformed.specs.WellFormed.{well-formed}
 use Rattle.slots.specs.Choice.{choose-range}
 use Rattle.statebuffer.specs.Loop as loop
 
--- Reading a file's form, starting and stepping in a buffer have one permitted result each, for every input.
-pub one-form : (file : List ℕ) (a b : Loaded) → a ≡ formOf file → b ≡ formOf file → a ≡ b
-one-form file a b e f = e ∙ sym f
-
+-- Starting and stepping in a buffer have one permitted result each, for every file and buffer.
 pub one-camera-start : (file buffer : List ℕ) (a b : Exported) → a ≡ startExported file buffer → b ≡ startExported file buffer → a ≡ b
 one-camera-start file buffer a b e f = e ∙ sym f
 
@@ -37,8 +34,11 @@ pub one-camera-step : (file buffer : List ℕ) (done : ℕ) (a b : Exported) →
 one-camera-step file buffer done a b e f = e ∙ sym f
 
 -- A state buffer of another length is refused by 50, before the file is looked at, and stays as it was.
-pub strange-state-buffer : (file buffer : List ℕ) (go : Table → Exported) → eqb (length buffer) stateBytes ≡ false → onFile file buffer go ≡ refused (strangeBuffer buffer) buffer
-strange-state-buffer file buffer go e = rw e
+pub strange-start-buffer : (file buffer : List ℕ) → eqb (length buffer) stateBytes ≡ false → startExported file buffer ≡ refused (record { number = 50; place = min (length buffer) 65535 }) buffer
+strange-start-buffer file buffer e = rw e
+
+pub strange-step-buffer : (file buffer : List ℕ) (done : ℕ) → eqb (length buffer) stateBytes ≡ false → stepExported file buffer done ≡ refused (record { number = 50; place = min (length buffer) 65535 }) buffer
+strange-step-buffer file buffer done e = rw e
 
 -- What goes on after the buffer and the form: a large number is a refusal, which leaves the buffer.
 abbrev Keeps : List ℕ → Exported → Type 0

@@ -34,9 +34,12 @@ use Rattle.model.specs.Report.{Exported, refused, CheckedFile, CheckedBuffer, C
 use Rattle.backlog.specs.Answers.{permitted-unique}
 use Rattle.backlog.specs.Computed.{answerOf, computed}
 
--- Judging a table, loading a file, starting and stepping have one permitted result each, for every input.
+-- Judging a table, reading a file's form, loading it, starting and stepping have one permitted result each, for every input.
 pub one-judgement : (t : Table) (a b : Judgement) → a ≡ judged t → b ≡ judged t → a ≡ b
 one-judgement t a b e f = e ∙ sym f
+
+pub one-form : (file : List ℕ) (a b : Loaded) → a ≡ formOf file → b ≡ formOf file → a ≡ b
+one-form file a b e f = e ∙ sym f
 
 pub one-loading : (file : List ℕ) (a b : Loaded) → a ≡ loadedFrom file → b ≡ loadedFrom file → a ≡ b
 one-loading file a b e f = e ∙ sym f
@@ -86,7 +89,7 @@ refused-export file buffer e r long q x = file-refused buffer (loadedFrom file) 
 pub short-buffer : (file buffer : List ℕ) (e : Exported) → ltb (length buffer) reportBytes ≡ true → Checked file buffer e → e ≡ refused (record { number = 30; place = length buffer }) buffer
 short-buffer file buffer e short x = subst (CheckedBuffer file buffer e) short x
 
--- A refused table is told by document 01's number and place: by its judge, of a file whose form is good, and by a start.
+-- The refusal of a table is handed on as it is: by its judge, of a file whose form is good, by a start and by a step.
 pub refused-table : (t : Table) (r : Refusal) → judged t ≡ Judgement.Refused r → judgementSaid (judged t) ≡ refusalSaid r
 refused-table t r e = rw e refl
 
@@ -97,6 +100,10 @@ refused-load file r good e = rw (good, e) refl
 pub refused-start : (t : Table) (r : Refusal) → judged t ≡ Judgement.Refused r → admissionSaid (started t .admission) ≡ refusalSaid r
 unfolding started
 refused-start t r e = rw e refl
+
+pub refused-table-step : (t : Table) (d : State) (done : Bool) (r : Refusal) → judged t ≡ Judgement.Refused r → givenSaid (stepped t d done .given) ≡ refusalSaid r
+unfolding stepped
+refused-table-step t d done r e = rw e refl
 
 -- A file whose form is bad is refused for it, whatever its table.
 pub refused-form : (file : List ℕ) (r : Refusal) → formOf file .admission ≡ Admission.Refused r → admissionSaid (loadedFrom file .admission) ≡ refusalSaid r
@@ -117,9 +124,9 @@ record-kind s at k = by (leb (length s) at) (eqb (getD s at 0) budgetKind) (eqb 
     by false false false false x y z e = let z : _≡_ {A = ℕ} 0 1 = cc in absurd (omega arith)
 
 -- A table that is refused is refused by the test with the same number and place, and nothing else is told.
-pub refused-answer : (t : Table) (budget : ℕ) (r : Refusal) → judged t ≡ Judgement.Refused r → Permitted t budget (brief (Outcome.Refused r) (record { round = 0; load = 0; horizon = 0 }) 0)
+pub refused-answer : (t : Table) (budget : ℕ) (r : Refusal) (a : Answer) → judged t ≡ Judgement.Refused r → Permitted t budget a → a ≡ brief (Outcome.Refused r) (record { round = 0; load = 0; horizon = 0 }) 0
 unfolding Permitted
-refused-answer t budget r e = rw e refl
+refused-answer t budget r a e p = rw e at p
 
 -- A state that does not belong to the table is refused by 8 with the first such task, or with 16 for the last-run number.
 pub strange-state : (t : Table) (m : Measure) (d : State) (done : Bool) → judged t ≡ Judgement.WellFormed m → firstStrange t d < t .count → givenSaid (stepped t d done .given) ≡ record { number = 8; values = firstStrange t d ∷ [] }

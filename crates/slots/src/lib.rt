@@ -76,7 +76,7 @@ pub fn offsets(t: Table) -> Numbers
 }
 
 // Of two tasks that tie, the one of lower rank goes first.
-pub fn rank_of(t: Table, i: usize) -> u16
+fn rank_of(t: Table, i: usize) -> u16
     requires { ⌜ i < taskLimit ⌝ }
     ensures { λ r. ⌜ r ≡ tieOrder t i ⌝ }
 {

@@ -3,6 +3,7 @@ use native.Mathlib.Omega.{arith}
 use borrow.Author.Tests.{lt-ltb, le-ltb, eq-eqb, ne-eqb}
 use lib.ListN.{getD}
 use borrow.Author.Needs.{needs}
+use Rattle.model.specs.Limits.{taskLimit}
 use Rattle.exact.proofs.note.Statement.{statement}
 use Rattle.exact.proofs.note.Tie as tie
 
@@ -43,13 +44,13 @@ element-write-worst : tie.Need-element-write-worst
 element-write-worst c = search needs
 
 returns : tie.Need-returns
-returns c = let s = c .before .before .before .before .before .before .before .before .args in rw (lt-ltb (s .owner) 16 (omega arith), eq-eqb (getD (s .left .now) (s .owner) 0) 0 (c .before .before .before .before .before .if2 .taken)) (cc)
+returns c = let s = c .before .before .before .before .before .before .before .before .args in rw (lt-ltb (s .owner) taskLimit (omega arith), eq-eqb (getD (s .left .now) (s .owner) 0) 0 (c .before .before .before .before .before .if2 .taken)) (cc)
 
 returns-2 : tie.Need-returns-2
-returns-2 c = let s = c .before .before .before .args in rw (lt-ltb (s .owner) 16 (omega arith), ne-eqb (getD (s .left .now) (s .owner) 0) 0 (c .if2 .left))
+returns-2 c = let s = c .before .before .before .args in rw (lt-ltb (s .owner) taskLimit (omega arith), ne-eqb (getD (s .left .now) (s .owner) 0) 0 (c .if2 .left))
 
 returns-3 : tie.Need-returns-3
-returns-3 c = let s = c .before .args in rw (le-ltb (s .owner) 16 (omega arith))
+returns-3 c = let s = c .before .args in rw (le-ltb (s .owner) taskLimit (omega arith))
 
 pub note-spec : {M : Type 1} → statement M
 note-spec =
