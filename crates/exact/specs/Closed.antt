@@ -1,25 +1,30 @@
 -- The jobs inside an interval in closed form, exact before a first release and where the offset is above the period.
 use mathlib.Core.Path.{_≡_}
 use Prim.Native.Nat.{ℕ, suc, _+_, _-_, _*_, _/_, _≤_, _<_}
-use native.Mathlib.Nat.{div-le-self, mul-le-mul, le-refl}
+use native.Mathlib.Nat.{div-le-self, mul-le-mul}
 use native.Mathlib.Omega.{arith}
 use Rattle.model.specs.declared.Task.{Task}
 use Rattle.model.specs.declared.Table.{Table}
-use Rattle.model.specs.Limits.{taskLimit, slotLimit, horizonLimit}
+use Rattle.model.specs.Limits.{slotLimit, horizonLimit}
 use Rattle.model.specs.Tasks.{task, release, due}
-use Rattle.model.specs.Demand.{jobsIn, demand}
-use Rattle.counting.specs.Sum.{sum-bound}
-use Rattle.counting.specs.Below.{below-most, below-period, upto-period, grows-ge, count-between}
+use Rattle.model.specs.Demand.{jobsIn}
+use Rattle.counting.specs.Below.{Grows, below-most, below-period, upto-period, grows-ge, count-between}
 use Rattle.wellformed.specs.Ranges.{InRange, Ranged}
 
 module _ (k : Task) (r : InRange k) where
+  pub releases : Grows (release k)
+  releases j = omega (arith, r .period-pos)
+
+  pub dues : Grows (due k)
+  dues j = omega (arith, r .period-pos)
+
   pub jobs-closed : (from to : ℕ) → jobsIn k from to ≡ (to + k .period - (k .offset + k .deadline)) / k .period - (from - k .offset + (k .period - 1)) / k .period
   unfolding jobsIn
   jobs-closed from to =
       omega (
         arith,
-        count-between (release k) (due k) (λ j. omega (arith, r .period-pos)) (λ j. omega (arith, r .period-pos)) from to to,
-        below-most (due k) (λ j. omega (arith, r .period-pos)) (suc to) to (λ j h. omega (arith, r .deadline-pos, grows-ge (release k) (λ j. omega (arith, r .period-pos)) j)),
+        count-between (release k) (due k) releases dues from to to,
+        below-most (due k) dues (suc to) to (λ j h. omega (arith, r .deadline-pos, grows-ge (release k) releases j)),
         below-period (k .offset) (k .period) (r .period-pos) from,
         upto-period (k .offset) (k .period) (r .period-pos) (k .deadline) to (r .deadline-le) (r .deadline-pos),
       )
@@ -40,7 +45,3 @@ pub asks-le : (t : Table) → Ranged t → (from to i : ℕ) → i < t .count �
 asks-le t r from to i l h =
     let k = r .each i l in
     mul-le-mul {n₂ = slotLimit} {m₂ = horizonLimit + slotLimit} (omega (arith, k .cost-le, k .deadline-le, k .period-le)) (omega (arith, jobs-le (task t i) k from to))
-
-pub demand-le : (t : Table) → Ranged t → (from to : ℕ) → to ≤ horizonLimit → demand t from to ≤ taskLimit * asksLimit
-unfolding demand
-demand-le t r from to h = omega (arith, sum-bound (t .count) (asks t from to) asksLimit (λ i l. asks-le t r from to i l h), mul-le-mul {n₂ = taskLimit} {m₂ = asksLimit} (r .few) (le-refl asksLimit))

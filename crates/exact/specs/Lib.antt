@@ -1,4 +1,4 @@
-pub mod Back
 pub mod Closed
+pub mod Starts
 pub mod Walked
 pub mod Walking

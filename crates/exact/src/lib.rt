@@ -1,13 +1,13 @@
 // The exact test: a walk slot by slot, and at the first late deadline a search for the largest start.
 ghost use mathlib.Core.Path.{_≡_};
-ghost use Prim.Native.Nat.{_-_, _≤_, _<_, max, min};
+ghost use Prim.Native.Nat.{ℕ, _-_, _≤_, _<_, max, min};
 ghost use Rattle.model.specs.declared.Judgement.{Judgement};
-ghost use Rattle.model.specs.Tasks.{judged};
-ghost use Rattle.model.specs.Limits.{taskLimit, horizonLimit};
-ghost use Rattle.model.specs.Notation.{sum, fill};
+ghost use Rattle.model.specs.Tasks.{task, judged};
+ghost use Rattle.model.specs.Limits.{horizonLimit};
+ghost use Rattle.model.specs.Demand.{jobsIn, demand};
 ghost use Rattle.model.specs.Verdict.{brief as briefly, Permitted};
 ghost use Rattle.wellformed.specs.Ranges.{InRange, Ranged};
-ghost use Rattle.exact.specs.Back.{markOf, earlierMark, dueBy, marksAt, markThen, askedAt};
+ghost use Rattle.exact.specs.Starts.{NoRelease};
 ghost use Rattle.exact.specs.Walked.{notedOf, emptied, emptyOf, concluded};
 use model::Answer;
 use model::Empty;
@@ -34,67 +34,61 @@ fn to_u64(x: u32) -> u64
     x as u64
 }
 
-// What is kept of a task while the start goes down: one more than the release of its latest job that is due by the end and not
-// yet counted, or 0. This is the one before.
-fn earlier(mark: u32, offset: u32, period: u32) -> u32
-    ensures { λ r. ⌜ r ≡ earlierMark mark offset period ⌝ }
-{
-    if offset < slots::less(mark, 1) {
-        slots::less(mark, period)
-    } else {
-        0
-    }
-}
-
-// Where no job is counted yet.
-fn mark_at(k: Task, to: u64) -> u32
+// The jobs of a task inside an interval: those due by its end, less those released before its start.
+fn jobs_in(k: Task, from: u64, to: u64) -> u64
     requires { ⌜ InRange k ⌝ }
-    requires { ⌜ to ≤ horizonLimit ⌝ }
-    ensures { λ r. ⌜ r ≡ markOf k (dueBy k to) ⌝ }
+    requires { ⌜ (from ≤ to) × (to ≤ horizonLimit) ⌝ }
+    ensures { λ r. ⌜ r ≡ jobsIn k from to ⌝ }
 {
     let period = to_u64(k.period);
     let offset = to_u64(k.offset);
     let due = less(to + period, offset + to_u64(k.deadline)) / period;
-    if due == 0 {
-        return 0;
-    }
-    (offset + (due - 1) * period + 1) as u32
+    let released = (less(from, offset) + (period - 1)) / period;
+    less(due, released)
 }
 
-fn marks(t: Table, to: u64) -> Numbers
+// The slots that an interval asks for.
+fn demand(t: Table, from: u64, to: u64) -> u64
     requires { ⌜ Ranged t ⌝ }
-    requires { ⌜ to ≤ horizonLimit ⌝ }
-    ensures { λ r. ⌜ r ≡ marksAt t to ⌝ }
+    requires { ⌜ (from ≤ to) × (to ≤ horizonLimit) ⌝ }
+    ensures { λ r. ⌜ r ≡ demand t from to ⌝ }
 {
     let n = t.count;
-    let mut mark = [0u32; TASK_LIMIT];
+    let mut asked: u64 = 0;
     for i in 0..n {
-        mark[i] = mark_at(t.tasks[i], to);
+        let task = t.tasks[i];
+        asked = asked + to_u64(task.cost) * jobs_in(task, from, to);
     }
-    mark
+    asked
 }
 
-// The start goes down by one, from `from`: the jobs released there are counted, and what they ask for is handed back.
-fn count_back(
-    mark: &mut Numbers,
-    offset: &Numbers,
-    period: &Numbers,
-    cost: &Numbers,
-    n: usize,
-    from: u32,
-) -> u64
-    requires { ⌜ n ≤ taskLimit ⌝ }
-    ensures { λ r. ⌜ (r ≡ sum n (askedAt (now (mark .entry)) (now (cost .entry)) from)) × (now (mark .exit) ≡ fill n (markThen (now (mark .entry)) (now (offset .entry)) (now (period .entry)) from) (now (mark .entry))) ⌝ }
+// The latest release of a task before `from`, or 0.
+fn release_before(k: Task, from: u64) -> u64
+    requires { ⌜ InRange k ⌝ }
+    ensures { λ r. ⌜ (0 < from → r < from) × NoRelease k r from ⌝ }
 {
-    let mut more: u64 = 0;
+    let offset = to_u64(k.offset);
+    if from <= offset {
+        return 0;
+    }
+    let period = to_u64(k.period);
+    offset + (from - offset - 1) / period * period
+}
+
+// The latest release of any task before `from`, or 0. From between the two on, the demand is what it is from `from` on.
+fn start_before(t: Table, from: u64) -> u64
+    requires { ⌜ Ranged t ⌝ }
+    ensures { λ r. ⌜ (0 < from → r < from) × ((i : ℕ) → i < t .count → NoRelease (task t i) r from) ⌝ }
+{
+    let n = t.count;
+    let mut start: u64 = 0;
     for i in 0..n {
-        let m = mark[i];
-        if m == from {
-            mark[i] = earlier(m, offset[i], period[i]);
-            more = more + to_u64(cost[i]);
+        let release = release_before(t.tasks[i], from);
+        if start < release {
+            start = release;
         }
     }
-    more
+    start
 }
 
 fn larger(x: u32, y: u32) -> u32
@@ -209,12 +203,10 @@ fn walk(t: Table, m: Measure, budget: u64) -> Answer
             empty = first_empty(empty, m.horizon, owner, at);
             at = at + 1;
         } else {
-            let offset = slots::offsets(t);
-            let mut mark = marks(t, at);
             from = at;
             while from > 0 {
-                asked = asked + count_back(&mut mark, &offset, &period, &cost, n, from as u32);
-                from = from - 1;
+                from = start_before(t, from);
+                asked = demand(t, from, at);
                 if asked > at - from {
                     break 'search;
                 }

@@ -2,28 +2,27 @@
 use mathlib.Core.Logic.{inl, inr}
 use mathlib.Core.Bool.{Bool, true, false, not}
 use mathlib.Core.Path.{_≡_, refl, sym, ap, subst, _∙_}
-use Prim.Native.Nat.{ℕ, _≤_, _<_, _+_, _-_}
-use native.Mathlib.Decide.{decLe}
+use Prim.Native.Nat.{ℕ, _≤_, _<_, _-_}
+use native.Mathlib.Decide.{decLt}
 use native.Mathlib.Omega.{arith}
 use lib.Dec.{T}
 use borrow.Author.Needs.{needs}
+use Rattle.model.specs.declared.Table.{Table}
 use Rattle.model.specs.Demand.{demand, asksTooMuch}
-use Rattle.model.specs.Dispatcher.{startOf}
 use Rattle.wellformed.specs.WellFormed.{WellFormed, well-formed}
 use Rattle.backlog.specs.Decided.{late-at-iff, too-much-iff}
 use Rattle.slots.specs.declared.Columns.{Columns}
-use Rattle.exact.specs.Back.{marksOf, marks-start, demand-start, marks-down, asked-down}
-use Rattle.exact.specs.Closed.{demand-le}
+use Rattle.exact.specs.Starts.{demand-none, none-between}
 use Rattle.exact.specs.Walking.{Setting, Walking, walking-start, one-found, none-found, walk-slot, permitted-quiet, permitted-late}
 use Rattle.exact.proofs.walk.Statement.{statement}
 use Rattle.exact.proofs.walk.Tie as tie
 
 abbrev Inv-loop : tie.InvT-loop
-Inv-loop t m budget n end period cost slack rank wait left worst empty from₀ asked₀ at offset mark₀ from asked mark =
-    (from ≤ at) × ((later : ℕ) → from ≤ later → later < at → T (asksTooMuch t later at) → ⊥) × (mark ≡ marksOf t from at) × (asked ≡ demand t from at) × (offset ≡ startOf t .wait)
+Inv-loop t m budget n end period cost slack rank wait left worst empty from₀ asked₀ at from asked =
+    (from ≤ at) × (demand t from at ≤ at - from) × ((later : ℕ) → from < later → later < at → T (asksTooMuch t later at) → ⊥)
 
 abbrev μ-loop : tie.MeasureT-loop
-μ-loop t m budget n end period cost slack rank wait left worst empty from₀ asked₀ at offset mark₀ from asked mark = from
+μ-loop t m budget n end period cost slack rank wait left worst empty from₀ asked₀ at from asked = from
 
 abbrev Inv-search : tie.InvT-search
 Inv-search t m budget n end period cost slack rank wait₀ left₀ worst₀ empty₀ from₀ asked₀ at₀ wait left worst empty from asked at =
@@ -51,6 +50,9 @@ is-late {b} = go b
 -- What is known of the table wherever the search stands.
 facts : (c : tie.At-search Inv-loop μ-loop Inv-search μ-search) → let s = c .before .before .before .before .before .before .before .before in WellFormed (s .args .t) (s .args .m)
 facts c = well-formed _ _ (c .before .before .before .before .before .before .before .before .pre .0)
+
+abbrev table : tie.At-search Inv-loop μ-loop Inv-search μ-search → Table
+table c = c .before .before .before .before .before .before .before .before .args .t
 
 -- Where the search stood before the turn.
 abbrev home : tie.After-struct-known Inv-loop μ-loop Inv-search μ-search → tie.At-search Inv-loop μ-loop Inv-search μ-search
@@ -112,24 +114,20 @@ search-again c =
 -- A late deadline has a start: the search for it does not come to its end.
 found : (c : tie.After-loop Inv-loop μ-loop Inv-search μ-search) → ⊥
 found c =
-    let a = home (c .before .before .before .before .before) in
+    let a = home (c .before .before .before) in
     let i = a .search .inv in
     let f = facts a in
-    let h = one-found _ (f .ranged) _ (f .horizon-is) (i .0) (i .3) (c .before .before .before .before .before .before .serve .ensures) (is-late (c .before .before .before .before .if1 .left)) in
+    let v = c .before .loop .inv in
+    let h = one-found _ (f .ranged) _ (f .horizon-is) (i .0) (i .3) (c .before .before .before .before .serve .ensures) (is-late (c .before .before .if1 .left)) in
     let (from, x) = late-at-iff _ _ .0 h in
-    c .before .loop .inv .1 from (omega arith) (too-much-iff _ from _ .0 x .0) x
-
-offsets-requires-2 : tie.Need-offsets-requires-2 Inv-loop μ-loop Inv-search μ-search
-offsets-requires-2 c κs = facts (home (c .before)) .ranged .few
-
-marks-requires : tie.Need-marks-requires Inv-loop μ-loop Inv-search μ-search
-marks-requires c κs = let a = home (c .before .before) in let f = facts a in (f .ranged, omega (arith, f .horizon-is, f .horizon-le, a .search .inv .0 .end-is, a .search .inv .1))
+    let y = too-much-iff _ from _ .0 x in
+    elim (decLt (c .before .loop .from) from) [
+      | yes p ↦ v .2 from p (y .0) x
+      | no p ↦ omega (arith, y .1, v .1, ap (λ (u : ℕ). demand (table a) u (a .search .at)) (let e : from ≡ c .before .loop .from = omega (arith, c .loop-test .left) in e))
+    ]
 
 loop-holds : tie.Need-loop-holds Inv-loop μ-loop Inv-search μ-search
-loop-holds c =
-    let a = home (c .before .before .before) in
-    let f = facts a in
-    (omega arith, λ later x y. absurd (omega arith), c .marks .ensures ∙ marks-start _ (f .ranged) _, a .search .inv .2 ∙ sym (demand-start _ (f .ranged) _), c .before .offsets2 .ensures)
+loop-holds c = let a = home (c .before) in (omega arith, omega (arith, demand-none _ (facts a .ranged) (a .search .at)), λ later x y. absurd (omega arith))
 
 search-less-2 : tie.Need-search-less-2 Inv-loop μ-loop Inv-search μ-search
 search-less-2 c = absurd (found c)
@@ -137,47 +135,34 @@ search-less-2 c = absurd (found c)
 search-again-2 : tie.Need-search-again-2 Inv-loop μ-loop Inv-search μ-search
 search-again-2 c = absurd (found c)
 
-cast-count-back : tie.Need-cast-count-back Inv-loop μ-loop Inv-search μ-search
-cast-count-back c = let a = home (c .before .before .before .before .before .before .before .before .before) in let f = facts a in omega (arith, f .horizon-is, f .horizon-le, a .search .inv .0 .end-is, a .search .inv .1, c .before .before .before .before .before .loop .inv .0)
+start-before-requires : tie.Need-start-before-requires Inv-loop μ-loop Inv-search μ-search
+start-before-requires c κs = facts (home (c .before .before .before)) .ranged
 
-count-back-requires : tie.Need-count-back-requires Inv-loop μ-loop Inv-search μ-search
-count-back-requires c κs = facts (home (c .before .before .before .before .before .before .before .before .before)) .ranged .few
+-- The next start lies before this one.
+down : (c : tie.After-start-before Inv-loop μ-loop Inv-search μ-search) → c .start-before .result < c .before .before .loop .from
+down c = c .start-before .ensures .0 (c .before .loop-test .taken)
 
--- What the pass counts makes the demand of the next start.
-counted : (c : tie.After-count-back Inv-loop μ-loop Inv-search μ-search) → let a = home (c .before .before .before .before .before .before .before .before .before .before) in let l = c .before .before .before .before .before .before .loop in l .asked + c .count-back .result ≡ demand (a .before .before .before .before .before .before .before .before .args .t) (l .from - 1) (a .search .at)
-counted c =
-    let a = home (c .before .before .before .before .before .before .before .before .before .before) in
-    let l = c .before .before .before .before .before .before .loop in
-    let i = a .search .inv in
-    asked-down _ (facts a .ranged) _ (l .inv .2) (l .inv .4) (i .0 .periods) (i .0 .costs) (omega arith) (l .inv .3) (c .count-back .ensures .0)
-
-add-asked : tie.Need-add-asked Inv-loop μ-loop Inv-search μ-search
-add-asked c = let a = home (c .before .before .before .before .before .before .before .before .before .before) in let f = facts a in omega (arith, counted c, demand-le (a .before .before .before .before .before .before .before .before .args .t) (f .ranged) (c .before .before .before .before .before .before .loop .from - 1) (a .search .at) (omega (arith, f .horizon-is, f .horizon-le, a .search .inv .0 .end-is, a .search .inv .1)))
-
-sub-from : tie.Need-sub-from Inv-loop μ-loop Inv-search μ-search
-sub-from c = search needs
+demand-requires : tie.Need-demand-requires Inv-loop μ-loop Inv-search μ-search
+demand-requires c κs =
+    let a = home (c .before .before .before .before) in
+    let f = facts a in
+    (f .ranged, (omega (arith, down c, c .before .before .loop .inv .0), omega (arith, f .horizon-is, f .horizon-le, a .search .inv .0 .end-is, a .search .inv .1)))
 
 sub-if3 : tie.Need-sub-if3 Inv-loop μ-loop Inv-search μ-search
-sub-if3 c = search needs
+sub-if3 c = omega (arith, down (c .before), c .before .before .before .loop .inv .0)
 
 loop-less : tie.Need-loop-less Inv-loop μ-loop Inv-search μ-search
-loop-less c = search needs
+loop-less c = down (c .before .before)
 
 loop-again : tie.Need-loop-again Inv-loop μ-loop Inv-search μ-search
 loop-again c =
-    let b = c .before in
-    let l = b .before .before .before .before .before .before .loop in
-    let a = home (b .before .before .before .before .before .before .before .before .before .before) in
-    let i = a .search .inv in
-    let t = a .before .before .before .before .before .before .before .before .args .t in (
-      omega (arith, l .inv .0),
-      λ later x y z. elim (decLe (l .from) later) [
-        | yes p ↦ l .inv .1 later p y z
-        | no p ↦ (let e : later ≡ l .from - 1 = omega arith in omega (arith, too-much-iff t later (a .search .at) .0 z .1, counted b, c .if3 .left, ap (λ (v : ℕ). demand t v (a .search .at)) e))
-      ],
-      marks-down _ (facts a .ranged) _ (l .inv .2) (l .inv .4) (i .0 .periods) (i .0 .costs) (omega arith) (b .count-back .ensures .1),
-      counted b,
-      l .inv .4,
+    let b = c .before .before in
+    let v = b .before .before .loop .inv in
+    let a = home (b .before .before .before .before) in
+    let asked = c .before .demand .ensures in (
+      omega (arith, down b, v .0),
+      omega (arith, asked, c .if3 .left),
+      none-between (table a) (facts a .ranged) (v .0) (v .1) (v .2) (b .start-before .ensures .1),
     )
 
 conclude-requires : tie.Need-conclude-requires Inv-loop μ-loop Inv-search μ-search
@@ -192,7 +177,7 @@ returns c =
     let seen = c .before .before .before .serve .ensures in
     rw (c .conclude .ensures) (elim (c .before .if1 .came) [
       | inl (if1, if2, from, asked) ↦ rw (asked, i .2) (permitted-quiet (s .args .t) (s .args .m) (s .args .budget) (s .pre .0) (s .pre .1) (i .3) (c .before .if1 .from) (none-found _ (f .ranged) _ (f .horizon-is) (i .0) (i .3) seen (not-late (if1 .taken))) (if2 .taken ∙ i .0 .end-is))
-      | inr (if1, offsets, marks, loop, test, x1, x2, x3, x4, count, if3, from, asked) ↦ rw (from, asked) (permitted-late (s .args .t) (s .args .m) (s .args .budget) (s .pre .0) (s .pre .1) (i .3) _ _ (omega (arith, i .0 .end-is)) (one-found _ (f .ranged) _ (f .horizon-is) (i .0) (i .3) seen (is-late (if1 .left))) (omega (arith, loop .inv .0, test .taken)) (asked-down (s .args .t) (f .ranged) (a .search .at) (loop .inv .2) (loop .inv .4) (i .0 .periods) (i .0 .costs) (omega (arith, test .taken)) (loop .inv .3) (count .ensures .0)) (if3 .taken) (λ later x y. loop .inv .1 later (omega arith) y))
+      | inr (if1, loop, test, start, asks, if3, from, asked) ↦ rw (from, asked) (permitted-late (s .args .t) (s .args .m) (s .args .budget) (s .pre .0) (s .pre .1) (i .3) _ _ (omega (arith, i .0 .end-is)) (one-found _ (f .ranged) _ (f .horizon-is) (i .0) (i .3) seen (is-late (if1 .left))) (omega (arith, loop .inv .0, start .ensures .0 (test .taken))) (asks .ensures) (if3 .taken) (none-between (s .args .t) (f .ranged) (loop .inv .0) (loop .inv .1) (loop .inv .2) (start .ensures .1)))
     ])
 
 pub walk-spec : {M : Type 1} → statement M
@@ -213,15 +198,11 @@ walk-spec =
     add-at
     search-less
     search-again
-    offsets-requires-2
-    marks-requires
     loop-holds
     search-less-2
     search-again-2
-    cast-count-back
-    count-back-requires
-    add-asked
-    sub-from
+    start-before-requires
+    demand-requires
     sub-if3
     loop-less
     loop-again
