@@ -232,9 +232,14 @@ fn walks() -> bool {
     holds
 }
 
+// The task has a release at this instant, so the search looks at it.
+fn released(k: &Task, u: u64) -> bool {
+    u >= k.offset as u64 && (u - k.offset as u64) % k.period as u64 == 0
+}
+
 fn searches() -> bool {
     let mut holds = true;
-    println!("{:<34} {:>8} {:>10} {:>10} {:>10} {:>6} {:>7}", "search for the start, ms", "starts", "walk", "search", "", "ratio", "noise %");
+    println!("{:<34} {:>8} {:>10} {:>10} {:>10} {:>6} {:>7}", "search for the start, ms", "slots", "releases", "walk", "search", "ratio", "noise %");
     for (name, tasks) in late_tables() {
         let End::Late(at) = one_pass(&tasks, horizon(&tasks)).end else { panic!("{name} is not late") };
         let (late, undecided) = (table_file(&tasks, at), table_file(&tasks, at - 1));
@@ -254,7 +259,8 @@ fn searches() -> bool {
         let ratio = search / walk;
         holds &= ratio <= 1.0;
         let noise = all.iter().map(Best::noise).fold(0.0, f64::max);
-        println!("{name:<34} {:>8} {:>10.2} {:>10.2} {:>10} {ratio:>6.2} {noise:>7.1}", at - from, walk / 1e6, search / 1e6, "");
+        let releases = (from..at).filter(|&u| tasks.iter().any(|k| released(k, u))).count();
+        println!("{name:<34} {:>8} {releases:>10} {:>10.2} {:>10.2} {ratio:>6.2} {noise:>7.1}", at - from, walk / 1e6, search / 1e6);
     }
     holds
 }

@@ -75,7 +75,7 @@ fn release_before(k: Task, from: u64) -> u64
     offset + (from - offset - 1) / period * period
 }
 
-// The latest release of any task before `from`, or 0. From between the two on, the demand is what it is from `from` on.
+// The latest release of any task before `from`, or 0: a start between the two has the demand of `from`.
 fn start_before(t: Table, from: u64) -> u64
     requires { ⌜ Ranged t ⌝ }
     ensures { λ r. ⌜ (0 < from → r < from) × ((i : ℕ) → i < t .count → NoRelease (task t i) r from) ⌝ }
