@@ -28,12 +28,7 @@ abbrev pub wordsIn : List ℕ → ℕ → List ℕ
 wordsIn buffer at = fill taskLimit (λ i. four buffer (at + 4 * i)) (replicate taskLimit 0)
 
 unfoldable pub stateIn : List ℕ → State
-stateIn buffer =
-    record {
-      wait = wordsIn buffer 0;
-      left = wordsIn buffer (4 * taskLimit);
-      last = four buffer (8 * taskLimit);
-    }
+stateIn buffer = record { wait = wordsIn buffer 0; left = wordsIn buffer (4 * taskLimit); last = four buffer (8 * taskLimit) }
 
 -- What a start says: no task had a slot, and none was closed.
 abbrev pub quiet : Turn
