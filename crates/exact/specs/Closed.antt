@@ -5,12 +5,13 @@ use native.Mathlib.Nat.{div-le-self, mul-le-mul, le-refl}
 use native.Mathlib.Omega.{arith}
 use Rattle.model.specs.declared.Task.{Task}
 use Rattle.model.specs.declared.Table.{Table}
-use Rattle.model.specs.Limits.{taskLimit, slotLimit, horizonLimit}
+use Rattle.model.specs.Limits.{taskLimit, slotLimit}
 use Rattle.model.specs.Tasks.{task, release, due}
 use Rattle.model.specs.Demand.{jobsIn, demand}
 use Rattle.counting.specs.Sum.{sum-bound}
 use Rattle.counting.specs.Below.{below-most, below-period, upto-period, grows-ge, count-between}
 use Rattle.wellformed.specs.Ranges.{InRange, Ranged}
+use Rattle.wellformed.specs.WellFormed.{horizonLimit}
 
 module _ (k : Task) (r : InRange k) where
   pub jobs-closed : (from to : ℕ) → jobsIn k from to ≡ (to + k .period - (k .offset + k .deadline)) / k .period - (from - k .offset + (k .period - 1)) / k .period

@@ -6,10 +6,14 @@ use lib.Dec.{eqb}
 use lib.ListN.{length, replicate}
 use Rattle.model.specs.Values.{Table, Refusal, Admission, Loaded, Turn, Given}
 use Rattle.model.specs.Notation.{fill}
-use Rattle.model.specs.Limits.{taskLimit, stateBytes}
+use Rattle.model.specs.Limits.{taskLimit}
 use Rattle.model.specs.TableFile.{four, formOf}
 use Rattle.model.specs.Dispatcher.{State, Started, Stepped, started, stepped}
 use Rattle.model.specs.Report.{Exported, refused}
+
+-- The bytes of a state buffer: four for each wait, for each number of slots left, and for the four words after them.
+abbrev pub stateBytes : ℕ
+stateBytes = 4 * (taskLimit + taskLimit + 4)
 
 -- A word in four bytes, the lowest first; words one after another.
 abbrev pub wordBytes : ℕ → List ℕ

@@ -14,6 +14,10 @@ use Rattle.counting.specs.Search.{le-largest, largest-le}
 use Rattle.wellformed.specs.Ranges.{Ranged, ranged, none-faulty}
 use Rattle.wellformed.specs.Round.{round-pos}
 
+-- The largest horizon of a well-formed table.
+abbrev pub horizonLimit : ℕ
+horizonLimit = slotLimit + 2 * roundLimit
+
 -- A well-formed table, and what it measures.
 pub record WellFormed (t : Table) (m : Measure) : Type 0 where
   pub ranged : Ranged t
@@ -22,7 +26,7 @@ pub record WellFormed (t : Table) (m : Measure) : Type 0 where
   pub horizon-is : m .horizon ≡ horizon t
   pub round-pos : 0 < round t
   pub offset-le : (i : ℕ) → i < t .count → task t i .offset + 2 * round t ≤ horizon t
-  pub horizon-le : horizon t ≤ slotLimit + 2 * roundLimit
+  pub horizon-le : horizon t ≤ horizonLimit
 
 -- What a table measures.
 abbrev pub measure : Table → Measure
@@ -46,8 +50,8 @@ passed : (p : Bool) (n place : ℕ) {j : Judgement} {m : Measure} → cond p (re
 passed true n place e = let z : _≡_ {A = ℕ} 0 1 = cc in absurd (omega arith)
 passed false n place e = (refl, e)
 
--- The horizon of a table within its limits.
-horizon-bound : (t : Table) → Ranged t → round t ≤ roundLimit → horizon t ≤ slotLimit + 2 * roundLimit
+-- The horizon keeps its limit.
+horizon-bound : (t : Table) → Ranged t → round t ≤ roundLimit → horizon t ≤ horizonLimit
 unfolding horizon
 horizon-bound t r h = omega (arith, largest-le (t .count) (λ i. task t i .offset) slotLimit (λ i l. r .each i l .offset-le))
 

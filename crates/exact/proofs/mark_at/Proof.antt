@@ -3,7 +3,7 @@ use mathlib.Core.Path.{_≡_, sym, _∙_}
 use Prim.Native.Nat.{_+_, _-_, _*_, _/_, _≤_}
 use native.Mathlib.Omega.{arith}
 use borrow.Author.Tests.{ne-eqb}
-use Rattle.model.specs.Limits.{horizonLimit}
+use Rattle.wellformed.specs.WellFormed.{horizonLimit}
 use Rattle.exact.specs.Back.{dueBy, due-closed, last-due}
 use borrow.Author.Needs.{needs}
 use Rattle.exact.proofs.mark_at.Statement.{statement}
