@@ -5,11 +5,12 @@ use native.Mathlib.Nat.{div-le-self, mul-le-mul}
 use native.Mathlib.Omega.{arith}
 use Rattle.model.specs.declared.Task.{Task}
 use Rattle.model.specs.declared.Table.{Table}
-use Rattle.model.specs.Limits.{slotLimit, horizonLimit}
+use Rattle.model.specs.Limits.{slotLimit}
 use Rattle.model.specs.Tasks.{task, release, due}
 use Rattle.model.specs.Demand.{jobsIn}
 use Rattle.counting.specs.Below.{Grows, below-most, below-period, upto-period, grows-ge, count-between}
 use Rattle.wellformed.specs.Ranges.{InRange, Ranged}
+use Rattle.wellformed.specs.WellFormed.{horizonLimit}
 
 module _ (k : Task) (r : InRange k) where
   pub releases : Grows (release k)

@@ -4,7 +4,7 @@ ghost use Prim.Native.Nat.{_≤_};
 ghost use lib.ListN.{length, take};
 ghost use Rattle.io.specs.Counts.{Counts};
 ghost use Rattle.model.specs.Limits.{taskLimit, reportBytes};
-ghost use Rattle.model.specs.Report.{written, printOf, Printed};
+ghost use Rattle.model.specs.Report.{written, outcomeTold, refusalLine, Printed};
 ghost use Rattle.report.specs.Put.{exported};
 use libc::STDIN_FILENO;
 use libc::STDOUT_FILENO;
@@ -20,7 +20,7 @@ const INPUT_BYTES: usize = LONGEST_FILE + 1;
 fn write_outcome(buffer: &mut [u8], tasks: usize, answer: Answer, outcome: Outcome) -> usize
     requires { ⌜ tasks ≤ taskLimit ⌝ }
     requires { ⌜ reportBytes ≤ length (now buffer) ⌝ }
-    ensures { λ r. ⌜ exported r (now (buffer .exit)) ≡ written (printOf tasks answer outcome) (now (buffer .entry)) ⌝ }
+    ensures { λ r. ⌜ exported r (now (buffer .exit)) ≡ written (outcomeTold refusalLine (λ report. report) tasks answer outcome) (now (buffer .entry)) ⌝ }
     ensures { λ r. ⌜ r ≤ reportBytes ⌝ }
 {
     match outcome {

@@ -51,12 +51,7 @@ lastStrange t d = not (eqb (d .last) taskLimit || ltb (d .last) (t .count))
 
 -- At the start the waits are the offsets, no job is open and no task ran last.
 unfoldable pub startOf : Table → State
-startOf t =
-    record {
-      wait = fill (t .count) (λ i. task t i .offset) (replicate taskLimit 0);
-      left = replicate taskLimit 0;
-      last = taskLimit;
-    }
+startOf t = record { wait = fill (t .count) (λ i. task t i .offset) (replicate taskLimit 0); left = replicate taskLimit 0; last = taskLimit }
 
 abbrev pub startJudged : Table → Judgement → Started
 startJudged t (Judgement.Refused r) = record { admission = Admission.Refused r; state = record { wait = replicate taskLimit 0; left = replicate taskLimit 0; last = 0 } }
@@ -91,21 +86,12 @@ module _ (t : Table) (d : State) (done : Bool) where
   -- It has one slot fewer left, and every wait goes down by one. Entries past the last task stay as they came.
   unfoldable pub after : State
   after =
-      record {
-        wait = fill (t .count) (λ i. waitReleased i - 1) (d .wait);
-        left = fill (t .count) (λ i. leftReleased i - cond (eqb ownerNow i) 1 0) (d .left);
-        last = ownerNow;
-      }
+      let left = fill (t .count) (λ i. leftReleased i - cond (eqb ownerNow i) 1 0) (d .left) in
+      record { wait = fill (t .count) (λ i. waitReleased i - 1) (d .wait); left = left; last = ownerNow }
 
   -- The answer: the owner, which tasks were closed late, how many, and the lowest-numbered of them.
   unfoldable pub turn : Turn
-  turn =
-      record {
-        owner = ownerNow;
-        late = bits isLate taskLimit;
-        closed = count isLate taskLimit;
-        lowest = first isLate 0 taskLimit;
-      }
+  turn = record { owner = ownerNow; late = bits isLate taskLimit; closed = count isLate taskLimit; lowest = first isLate 0 taskLimit }
 
 -- A step on any table and any state: refused by the table's number, then by 8, or taken. A refusal hands the state back as it came.
 abbrev pub refuse : ℕ → ℕ → State → Stepped

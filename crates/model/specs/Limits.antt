@@ -13,17 +13,9 @@ slotLimit = 60000
 abbrev pub roundLimit : ℕ
 roundLimit = 1000000000
 
--- A horizon.
-abbrev pub horizonLimit : ℕ
-horizonLimit = slotLimit + 2 * roundLimit
-
 -- The bytes of a report buffer.
 abbrev pub reportBytes : ℕ
 reportBytes = 512
-
--- The bytes of a state buffer: four for each wait, for each number of slots left, and for the four words after them.
-abbrev pub stateBytes : ℕ
-stateBytes = 4 * (taskLimit + taskLimit + 4)
 
 -- The kinds of the records of a table file.
 abbrev pub budgetKind : ℕ

@@ -1,6 +1,6 @@
 -- The report on an answer, byte for byte; the exported call; the program's output.
 use mathlib.Core.List.{List, [], _++_}
-use mathlib.Core.Bool.{Bool, true, false}
+use mathlib.Core.Bool.{cond}
 use mathlib.Core.Path.{_≡_}
 use Prim.Native.Nat.{ℕ, zero, suc, _+_, _*_}
 use lib.Dec.{ltb}
@@ -61,36 +61,26 @@ refused r buffer = record { number = 65536 * r .number + r .place; buffer = buff
 abbrev pub written : List ℕ → List ℕ → Exported
 written report buffer = record { number = length report; buffer = report ++ drop (length report) buffer }
 
--- A verdict of the exact test, exported.
-abbrev pub exportOf : ℕ → Answer → List ℕ → Outcome → Exported
-exportOf n a buffer (Outcome.Refused r) = refused r buffer
-exportOf n a buffer (Outcome.Tested v) = written (reportOf n a v) buffer
+-- What an outcome is told as: `refuse` of its refusal, or `tell` of the report on it.
+abbrev pub outcomeTold : {A : Type 0} → (Refusal → A) → (List ℕ → A) → ℕ → Answer → Outcome → A
+outcomeTold refuse tell n a (Outcome.Refused r) = refuse r
+outcomeTold refuse tell n a (Outcome.Tested v) = tell (reportOf n a v)
 
--- A file, exported: the refusal of its form or table, or the report on the permitted answer.
-abbrev pub CheckedFile : List ℕ → Loaded → Exported → Admission → Type 0
-CheckedFile buffer l e (Admission.Refused r) = e ≡ refused r buffer
-CheckedFile buffer l e Admission.Admitted = (a : Answer) × Permitted (l .table) (l .budget) a × (e ≡ exportOf (l .table .count) a buffer (a .outcome))
+-- What a file may be told as: the refusal of its form or table, or the outcome of the permitted answer.
+abbrev pub FileTold : {A : Type 0} → (Refusal → A) → (List ℕ → A) → Loaded → A → Admission → Type 0
+FileTold refuse tell l x (Admission.Refused r) = x ≡ refuse r
+FileTold refuse tell l x Admission.Admitted = (a : Answer) × Permitted (l .table) (l .budget) a × (x ≡ outcomeTold refuse tell (l .table .count) a (a .outcome))
 
 -- The one permitted result of the exported call on any file and any buffer. A short buffer is refused by 30 before all else.
-abbrev pub CheckedBuffer : List ℕ → List ℕ → Exported → Bool → Type 0
-CheckedBuffer file buffer e true = e ≡ refused (record { number = 30; place = length buffer }) buffer
-CheckedBuffer file buffer e false = CheckedFile buffer (loadedFrom file) e (loadedFrom file .admission)
-
 abbrev pub Checked : List ℕ → List ℕ → Exported → Type 0
-Checked file buffer e = CheckedBuffer file buffer e (ltb (length buffer) reportBytes)
+Checked file buffer e =
+    let short = Admission.Refused (record { number = 30; place = length buffer }) in
+    FileTold (λ r. refused r buffer) (λ report. written report buffer) (loadedFrom file) e (cond (ltb (length buffer) reportBytes) short (loadedFrom file .admission))
 
--- What the program prints: the report, or one line that names the refusal.
+-- The line that names a refusal.
 abbrev pub refusalLine : Refusal → List ℕ
 refusalLine r = line (text "refused " ++ decimal (r .number) ++ text " at " ++ decimal (r .place))
 
-abbrev pub printOf : ℕ → Answer → Outcome → List ℕ
-printOf n a (Outcome.Refused r) = refusalLine r
-printOf n a (Outcome.Tested v) = reportOf n a v
-
--- The one permitted output of the program on any input.
-abbrev pub PrintedFile : Loaded → List ℕ → Admission → Type 0
-PrintedFile l out (Admission.Refused r) = out ≡ refusalLine r
-PrintedFile l out Admission.Admitted = (a : Answer) × Permitted (l .table) (l .budget) a × (out ≡ printOf (l .table .count) a (a .outcome))
-
+-- The one permitted output of the program on any input: the report, or the line of the refusal.
 abbrev pub Printed : List ℕ → List ℕ → Type 0
-Printed input out = PrintedFile (loadedFrom input) out (loadedFrom input .admission)
+Printed input out = FileTold refusalLine (λ report. report) (loadedFrom input) out (loadedFrom input .admission)

@@ -5,7 +5,7 @@ use mathlib.Core.Bool.{Bool, cond, _&&_, _||_}
 use Prim.Native.Nat.{ℕ, zero, suc, _+_, _-_, _/_, _≤_}
 use lib.Dec.{leb, ltb, eqb}
 use lib.ListN.{getD, set, replicate}
-use Rattle.model.specs.Values.{Task, Table}
+use Rattle.model.specs.Values.{Table}
 use Rattle.model.specs.Notation.{first, Least}
 use Rattle.model.specs.Limits.{taskLimit}
 use Rattle.model.specs.Tasks.{task, release, due, horizon}
@@ -27,39 +27,27 @@ precedes deadline rank i k = ltb (deadline i) (deadline k) || (eqb (deadline i) 
 unfoldable pub choose : (ℕ → Bool) → (ℕ → ℕ) → Order → ℕ → ℕ
 choose open? deadline rank zero = taskLimit
 choose open? deadline rank (suc n) =
-    let best = choose open? deadline rank n in
-    cond (open? n && (eqb best taskLimit || precedes deadline rank n best)) n best
+    let best = choose open? deadline rank n in cond (open? n && (eqb best taskLimit || precedes deadline rank n best)) n best
 
--- The job that a task is at, with s slots given to it: the first that has not had its C slots.
-abbrev pub current : Task → ℕ → ℕ
-current k s = s / k .cost
+-- The job that task i is at, with s the slots given to each task: the first that has not had its C slots.
+abbrev pub current : Table → List ℕ → ℕ → ℕ
+current t s i = getD s i 0 / task t i .cost
 
--- Who owns slot u, with s the slots given to each task before. A task's jobs have growing deadlines, so of its released,
--- unfinished jobs the one it is at has the earliest.
+-- Who owns slot u, with s the slots given to each task before. Of a task's unfinished jobs the one it is at has the earliest deadline.
 unfoldable pub ownerOf : Table → Order → ℕ → List ℕ → ℕ
-ownerOf t rank u s =
-    choose
-    (λ i. leb (release (task t i) (current (task t i) (getD s i 0))) u)
-    (λ i. due (task t i) (current (task t i) (getD s i 0)))
-    rank
-    (t .count)
+ownerOf t rank u s = choose (λ i. leb (release (task t i) (current t s i)) u) (λ i. due (task t i) (current t s i)) rank (t .count)
 
 -- The slots given to each task before slot u.
 unfoldable pub served : Table → Order → ℕ → List ℕ
 served t rank zero = replicate (t .count) 0
-served t rank (suc u) =
-    let s = served t rank u in
-    let k = ownerOf t rank u s in
-    set s k (getD s k 0 + 1)
+served t rank (suc u) = let s = served t rank u in let k = ownerOf t rank u s in set s k (getD s k 0 + 1)
 
 unfoldable pub owner : Table → Order → ℕ → ℕ
 owner t rank u = ownerOf t rank u (served t rank u)
 
 -- The run as a schedule.
 unfoldable pub run : Table → Order → Schedule
-run t rank u =
-    let k = owner t rank u in
-    cond (ltb k (t .count)) (job k (current (task t k) (getD (served t rank u) k 0))) none
+run t rank u = let k = owner t rank u in cond (ltb k (t .count)) (job k (current t (served t rank u) k)) none
 
 -- Job j of task i finishes at f: the end of the last of its C slots.
 unfoldable pub Finishes : Table → Order → ℕ → ℕ → ℕ → Type 0

@@ -6,10 +6,14 @@ use lib.Dec.{eqb}
 use lib.ListN.{length, replicate}
 use Rattle.model.specs.Values.{Table, Refusal, Admission, Loaded, Turn, Given}
 use Rattle.model.specs.Notation.{fill}
-use Rattle.model.specs.Limits.{taskLimit, stateBytes}
+use Rattle.model.specs.Limits.{taskLimit}
 use Rattle.model.specs.TableFile.{four, formOf}
 use Rattle.model.specs.Dispatcher.{State, Started, Stepped, started, stepped}
 use Rattle.model.specs.Report.{Exported, refused}
+
+-- The bytes of a state buffer: four for each wait, for each number of slots left, and for the four words after them.
+abbrev pub stateBytes : ℕ
+stateBytes = 4 * (taskLimit + taskLimit + 4)
 
 -- A word in four bytes, the lowest first; words one after another.
 abbrev pub wordBytes : ℕ → List ℕ
@@ -28,12 +32,7 @@ abbrev pub wordsIn : List ℕ → ℕ → List ℕ
 wordsIn buffer at = fill taskLimit (λ i. four buffer (at + 4 * i)) (replicate taskLimit 0)
 
 unfoldable pub stateIn : List ℕ → State
-stateIn buffer =
-    record {
-      wait = wordsIn buffer 0;
-      left = wordsIn buffer (4 * taskLimit);
-      last = four buffer (8 * taskLimit);
-    }
+stateIn buffer = record { wait = wordsIn buffer 0; left = wordsIn buffer (4 * taskLimit); last = four buffer (8 * taskLimit) }
 
 -- What a start says: no task had a slot, and none was closed.
 abbrev pub quiet : Turn

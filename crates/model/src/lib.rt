@@ -1,6 +1,6 @@
 // The values that pass between the calls. What they mean stands in specs/.
 
-// The limits of the code, each once: they are those of specs/Limits.antt, or the proofs fail.
+// The limits of the code, each once: they are those of specs/, or the proofs fail.
 pub const TASK_LIMIT: usize = 16;
 
 pub const SLOT_LIMIT: u32 = 60_000;

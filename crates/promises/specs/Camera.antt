@@ -13,7 +13,7 @@ use Rattle.model.specs.declared.Measure.{Measure}
 use Rattle.model.specs.declared.Judgement.{Judgement}
 use Rattle.model.specs.declared.Admission.{Admission}
 use Rattle.model.specs.declared.Loaded.{Loaded}
-use Rattle.model.specs.Limits.{taskLimit, stateBytes}
+use Rattle.model.specs.Limits.{taskLimit}
 use Rattle.model.specs.Notation.{sum, product, largest, count, first}
 use Rattle.model.specs.Tasks.{taskFault, firstFaulty, round, load, horizon, judged}
 use Rattle.model.specs.TableFile.{recordAt, readFrom, formOf}
@@ -21,7 +21,7 @@ use Rattle.model.specs.Dispatcher.{State, Started, firstStrange, lastStrange, o
 use Rattle.model.specs.Report.{Exported, refused}
 use Rattle.model.specs.Examples.{table-g, file-g}
 use Rattle.model.specs.History.{stateAt, ownerAt}
-use Rattle.model.specs.StateBuffer.{bufferOf, stateIn, quiet, startWritten, stepWritten, startTable, stepTable, strangeBuffer, onForm, onFile, startExported, stepExported, handed}
+use Rattle.model.specs.StateBuffer.{stateBytes, bufferOf, stateIn, quiet, startWritten, stepWritten, startTable, stepTable, strangeBuffer, onForm, onFile, startExported, stepExported, handed}
 use Rattle.wellformed.specs.WellFormed.{well-formed}
 use Rattle.slots.specs.Choice.{choose-range}
 use Rattle.statebuffer.specs.Loop as loop

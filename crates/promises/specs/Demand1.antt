@@ -2,13 +2,14 @@
 -- That no call traps or runs on is what being proved means, and is not said again. Each contract is an equation with, or a
 -- permission by, the model's own word, for every input; so the theorems here speak of these words.
 use mathlib.Core.Path.{_≡_, refl, sym, subst, _∙_}
+use mathlib.Core.Logic.{_⊎_, inl, inr}
 use mathlib.Core.List.{List, [], _∷_}
 use mathlib.Core.Bool.{Bool, true, false, cond}
-use Prim.Native.Nat.{ℕ, _+_, _≤_, _<_}
+use Prim.Native.Nat.{ℕ, suc, _+_, _≤_, _<_}
 use native.Mathlib.Omega.{arith}
 use borrow.Author.Tests.{eqb-true, lt-ltb, le-ltb}
 use lib.Dec.{leb, ltb, eqb}
-use lib.ListN.{length, getD}
+use lib.ListN.{length, getD, take}
 use Rattle.model.specs.declared.Table.{Table}
 use Rattle.model.specs.declared.Refusal.{Refusal}
 use Rattle.model.specs.declared.Measure.{Measure}
@@ -19,7 +20,7 @@ use Rattle.model.specs.declared.Given.{Given}
 use Rattle.model.specs.declared.Answer.{Answer}
 use Rattle.model.specs.declared.Loaded.{Loaded}
 use Rattle.model.specs.declared.Record.{Record}
-use Rattle.model.specs.Limits.{taskLimit, reportBytes, budgetKind, taskKind, endKind}
+use Rattle.model.specs.Limits.{taskLimit, reportBytes, longestFile, budgetKind, taskKind, endKind}
 use Rattle.model.specs.Values.{recordSaid, refusalSaid, judgementSaid, admissionSaid, givenSaid}
 use Rattle.model.specs.Tasks.{judged}
 use Rattle.model.specs.Verdict.{brief, Permitted}
@@ -30,9 +31,12 @@ use Rattle.dispatch.specs.declared.Dispatcher.{Dispatcher}
 use Rattle.dispatch.specs.declared.Started.{Started}
 use Rattle.dispatch.specs.declared.Stepped.{Stepped}
 use Rattle.dispatch.specs.State.{stateOf, startedOf, steppedOf, one-started, one-stepped}
-use Rattle.model.specs.Report.{Exported, refused, CheckedFile, CheckedBuffer, Checked, PrintedFile, Printed}
+use Rattle.model.specs.Report.{Exported, refused, written, outcomeTold, FileTold, Checked, refusalLine, Printed}
 use Rattle.backlog.specs.Answers.{permitted-unique}
 use Rattle.backlog.specs.Computed.{answerOf, computed}
+use Rattle.tablefile.specs.Longer.{first-bytes}
+use Rattle.tablefile.specs.Refused.{Numbered, load-numbered}
+use Rattle.report.specs.Permitted.{Fitting, permitted-fits}
 
 -- Judging a table, reading a file's form, loading it, starting and stepping have one permitted result each, for every input.
 pub one-judgement : (t : Table) (a b : Judgement) → a ≡ judged t → b ≡ judged t → a ≡ b
@@ -57,37 +61,58 @@ one-answer = permitted-unique
 pub some-answer : (t : Table) (budget : ℕ) → (a : Answer) × Permitted t budget a
 some-answer t budget = (answerOf t budget, computed t budget)
 
+-- A file is told as one thing, and a refused one as its refusal.
+told-once : {A : Type 0} (refuse : Refusal → A) (tell : List ℕ → A) (l : Loaded) (x y : A) (a : Admission) → FileTold refuse tell l x a → FileTold refuse tell l y a → x ≡ y
+told-once refuse tell l x y (Admission.Refused r) e f = e ∙ sym f
+told-once refuse tell l x y Admission.Admitted (a, p, e) (b, q, f) = let s : a ≡ b = permitted-unique (l .table) (l .budget) a b p q in e ∙ rw s (sym f)
+
+told-refused : {A : Type 0} (refuse : Refusal → A) (tell : List ℕ → A) (l : Loaded) (x : A) (r : Refusal) (a : Admission) → a ≡ Admission.Refused r → FileTold refuse tell l x a → x ≡ refuse r
+told-refused refuse tell l x r (Admission.Refused w) q e = let s : w ≡ r = cc in e ∙ rw s
+told-refused refuse tell l x r Admission.Admitted q e = let z : _≡_ {A = ℕ} 0 1 = cc in absurd (omega arith)
+
+-- Whether a buffer and a file are taken: the buffer is looked at first.
+abbrev taken : List ℕ → List ℕ → Admission
+taken file buffer = cond (ltb (length buffer) reportBytes) (Admission.Refused (record { number = 30; place = length buffer })) (loadedFrom file .admission)
+
 -- The exported call has one permitted result, number and buffer, for every file and buffer.
-file-once : (buffer : List ℕ) (l : Loaded) (e f : Exported) (a : Admission) → CheckedFile buffer l e a → CheckedFile buffer l f a → e ≡ f
-file-once buffer l e f (Admission.Refused r) x y = x ∙ sym y
-file-once buffer l e f Admission.Admitted (a, p, x) (b, q, y) = let s : a ≡ b = permitted-unique (l .table) (l .budget) a b p q in x ∙ rw s (sym y)
-
-buffer-once : (file buffer : List ℕ) (e f : Exported) (short : Bool) → CheckedBuffer file buffer e short → CheckedBuffer file buffer f short → e ≡ f
-buffer-once file buffer e f true x y = x ∙ sym y
-buffer-once file buffer e f false x y = file-once buffer (loadedFrom file) e f (loadedFrom file .admission) x y
-
 pub one-export : (file buffer : List ℕ) (e f : Exported) → Checked file buffer e → Checked file buffer f → e ≡ f
-one-export file buffer e f = buffer-once file buffer e f (ltb (length buffer) reportBytes)
+one-export file buffer e f = told-once (λ r. refused r buffer) (λ s. written s buffer) (loadedFrom file) e f (taken file buffer)
+
+-- The number tells a report from a refusal: up to 512 it is the report's length, and from 65,536 on a refusal, of which the
+-- buffer knows nothing.
+abbrev Apart : List ℕ → Exported → Type 0
+Apart buffer e = (e .number ≤ reportBytes) ⊎ ((65536 ≤ e .number) × (e .buffer ≡ buffer))
+
+outcome-apart : (buffer : List ℕ) (n : ℕ) (a : Answer) (o : Outcome) → Fitting n a o → Apart buffer (outcomeTold (λ r. refused r buffer) (λ s. written s buffer) n a o)
+outcome-apart buffer n a (Outcome.Refused r) h = inr (omega arith, refl)
+outcome-apart buffer n a (Outcome.Tested v) h = inl h
+
+told-apart : (buffer : List ℕ) (l : Loaded) (e : Exported) (a : Admission) → Numbered a → FileTold (λ r. refused r buffer) (λ s. written s buffer) l e a → Apart buffer e
+told-apart buffer l e (Admission.Refused r) h q = rw q (inr (omega arith, refl))
+told-apart buffer l e Admission.Admitted h (a, p, q) = rw q (outcome-apart buffer (l .table .count) a (a .outcome) (permitted-fits (l .table) (l .budget) a p))
+
+pub report-or-refusal : (file buffer : List ℕ) (e : Exported) → Checked file buffer e → (e .number ≤ reportBytes) ⊎ ((65536 ≤ e .number) × (e .buffer ≡ buffer))
+report-or-refusal file buffer e = told-apart buffer (loadedFrom file) e (taken file buffer) (numbered (ltb (length buffer) reportBytes))
+  where
+    numbered : (short : Bool) → Numbered (cond short (Admission.Refused (record { number = 30; place = length buffer })) (loadedFrom file .admission))
+    numbered true = omega arith
+    numbered false = load-numbered file
 
 -- So has the program: one permitted output for every input.
-printed-once : (l : Loaded) (out out′ : List ℕ) (a : Admission) → PrintedFile l out a → PrintedFile l out′ a → out ≡ out′
-printed-once l out out′ (Admission.Refused r) x y = x ∙ sym y
-printed-once l out out′ Admission.Admitted (a, p, x) (b, q, y) = let s : a ≡ b = permitted-unique (l .table) (l .budget) a b p q in x ∙ rw s (sym y)
-
 pub one-print : (input out out′ : List ℕ) → Printed input out → Printed input out′ → out ≡ out′
-one-print input out out′ = printed-once (loadedFrom input) out out′ (loadedFrom input .admission)
+one-print input out out′ = told-once refusalLine (λ s. s) (loadedFrom input) out out′ (loadedFrom input .admission)
+
+-- It reads one byte more than the longest legal file has, and what it prints of these is permitted of the whole input.
+pub whole-input : (input out : List ℕ) → Printed (take (suc longestFile) input) out → Printed input out
+whole-input input out = subst (λ (l : Loaded). FileTold refusalLine (λ s. s) l out (l .admission)) (first-bytes input)
 
 -- A refused file leaves the report buffer as it was.
-file-refused : (buffer : List ℕ) (l : Loaded) (e : Exported) (r : Refusal) (a : Admission) → a ≡ Admission.Refused r → CheckedFile buffer l e a → e ≡ refused r buffer
-file-refused buffer l e r (Admission.Refused w) q x = let s : w ≡ r = cc in x ∙ rw s
-file-refused buffer l e r Admission.Admitted q x = let z : _≡_ {A = ℕ} 0 1 = cc in absurd (omega arith)
-
 pub refused-export : (file buffer : List ℕ) (e : Exported) (r : Refusal) → ltb (length buffer) reportBytes ≡ false → loadedFrom file .admission ≡ Admission.Refused r → Checked file buffer e → e ≡ refused r buffer
-refused-export file buffer e r long q x = file-refused buffer (loadedFrom file) e r (loadedFrom file .admission) q (subst (CheckedBuffer file buffer e) long x)
+refused-export file buffer e r long q = told-refused (λ r. refused r buffer) (λ s. written s buffer) (loadedFrom file) e r (taken file buffer) (rw long q)
 
 -- A short buffer is refused by 30 at its length, before the file is looked at, and stays as it was.
 pub short-buffer : (file buffer : List ℕ) (e : Exported) → ltb (length buffer) reportBytes ≡ true → Checked file buffer e → e ≡ refused (record { number = 30; place = length buffer }) buffer
-short-buffer file buffer e short x = subst (CheckedBuffer file buffer e) short x
+short-buffer file buffer e short = told-refused (λ r. refused r buffer) (λ s. written s buffer) (loadedFrom file) e (record { number = 30; place = length buffer }) (taken file buffer) (rw short)
 
 -- The refusal of a table is handed on as it is: by its judge, of a file whose form is good, by a start and by a step.
 pub refused-table : (t : Table) (r : Refusal) → judged t ≡ Judgement.Refused r → judgementSaid (judged t) ≡ refusalSaid r

@@ -14,13 +14,12 @@ use Rattle.model.specs.declared.Measure.{Measure}
 use Rattle.model.specs.declared.Judgement.{Judgement}
 use Rattle.model.specs.declared.Admission.{Admission}
 use Rattle.model.specs.declared.Turn.{Turn}
-use Rattle.model.specs.Limits.{stateBytes}
 use Rattle.model.specs.Tasks.{judged}
 use Rattle.model.specs.TableFile.{formOf}
 use Rattle.model.specs.Dispatcher.{started, turn}
 use Rattle.model.specs.History.{stateAt, ownerAt}
 use Rattle.model.specs.Report.{Exported}
-use Rattle.model.specs.StateBuffer.{bufferOf, quiet, startTable, stepTable, onFile, startExported, stepExported, handed}
+use Rattle.model.specs.StateBuffer.{stateBytes, bufferOf, quiet, startTable, stepTable, onFile, startExported, stepExported, handed}
 use Rattle.wellformed.specs.Ranges.{Ranged}
 use Rattle.wellformed.specs.WellFormed.{well-formed}
 use Rattle.backlog.specs.Stepping.{sound, wait-le, past-none, never-refused}

@@ -6,10 +6,10 @@ use native.Mathlib.Omega.{arith}
 use lib.ListN.{length, getD, replicate, length-append, length-replicate, List·getD-append}
 use lib.Seq.{ext-getD, getD-append-add}
 use Rattle.model.specs.declared.Turn.{Turn}
-use Rattle.model.specs.Limits.{taskLimit, stateBytes}
+use Rattle.model.specs.Limits.{taskLimit}
 use Rattle.model.specs.TableFile.{four}
 use Rattle.model.specs.Dispatcher.{State}
-use Rattle.model.specs.StateBuffer.{wordBytes, bytesOf, bufferOf, wordsIn, stateIn}
+use Rattle.model.specs.StateBuffer.{stateBytes, wordBytes, bytesOf, bufferOf, wordsIn, stateIn}
 use Rattle.counting.specs.Fill.{fill-length, fill-passed}
 use Rattle.statebuffer.specs.Words.{bytes-append, bytes-length}
 

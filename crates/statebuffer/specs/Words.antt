@@ -7,9 +7,9 @@ use native.Mathlib.Omega.{arith}
 use lib.ListN.{length, getD, set, take, length-append}
 use lib.Seq.{sets-eq, take-suc, drop-length}
 use Rattle.model.specs.declared.Turn.{Turn}
-use Rattle.model.specs.Limits.{taskLimit, stateBytes}
+use Rattle.model.specs.Limits.{taskLimit}
 use Rattle.model.specs.Dispatcher.{State}
-use Rattle.model.specs.StateBuffer.{wordBytes, bytesOf, bufferOf}
+use Rattle.model.specs.StateBuffer.{stateBytes, wordBytes, bytesOf, bufferOf}
 use Rattle.counting.specs.Put.{Put, join}
 
 -- Four bytes put one by one.

@@ -2,8 +2,8 @@
 ghost use mathlib.Core.Path.{_≡_};
 ghost use Prim.Native.Nat.{_+_, _*_, _%_, _≤_};
 ghost use lib.ListN.{length};
-ghost use Rattle.model.specs.Limits.{taskLimit, stateBytes};
-ghost use Rattle.model.specs.StateBuffer.{wordBytes, bytesOf, bufferOf, wordsIn, stateIn};
+ghost use Rattle.model.specs.Limits.{taskLimit};
+ghost use Rattle.model.specs.StateBuffer.{stateBytes, wordBytes, bytesOf, bufferOf, wordsIn, stateIn};
 ghost use Rattle.counting.specs.Put.{Put};
 ghost use Rattle.dispatch.specs.State.{stateOf};
 use dispatch::Dispatcher;

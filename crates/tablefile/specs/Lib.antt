@@ -5,3 +5,5 @@ pub mod Built
 pub mod Steps
 pub mod Loading
 pub mod Admitted
+pub mod Longer
+pub mod Refused

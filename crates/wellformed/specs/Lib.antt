@@ -3,3 +3,4 @@ pub mod Ranges
 pub mod Round
 pub mod WellFormed
 pub mod AtLimit
+pub mod Refused

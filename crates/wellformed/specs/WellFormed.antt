@@ -1,8 +1,7 @@
 -- What holds of a table that is judged well-formed.
 use mathlib.Core.Path.{_≡_, refl, ap}
 use mathlib.Core.Bool.{Bool, true, false, cond}
-use Prim.Native.Nat.{ℕ, _+_, _*_, _≤_, _<_, _∣_}
-use native.Mathlib.Nat.{mul-le-mul}
+use Prim.Native.Nat.{ℕ, _+_, _*_, _≤_, _<_}
 use native.Mathlib.Omega.{arith}
 use lib.Dec.{eqb, ltb}
 use borrow.Author.Tests.{eqb-false, ltb-false, ne-eqb, le-ltb, lt-ltb}
@@ -11,10 +10,13 @@ use Rattle.model.specs.declared.Measure.{Measure}
 use Rattle.model.specs.declared.Judgement.{Judgement}
 use Rattle.model.specs.Limits.{taskLimit, slotLimit, roundLimit}
 use Rattle.model.specs.Tasks.{task, taskFault, firstFaulty, round, load, horizon, refuse, judged}
-use Rattle.counting.specs.Sum.{sum-bound}
 use Rattle.counting.specs.Search.{le-largest, largest-le}
 use Rattle.wellformed.specs.Ranges.{Ranged, ranged, none-faulty}
-use Rattle.wellformed.specs.Round.{round-pos, period-divides, share, share-le}
+use Rattle.wellformed.specs.Round.{round-pos}
+
+-- The largest horizon of a well-formed table.
+abbrev pub horizonLimit : ℕ
+horizonLimit = slotLimit + 2 * roundLimit
 
 -- A well-formed table, and what it measures.
 pub record WellFormed (t : Table) (m : Measure) : Type 0 where
@@ -23,11 +25,8 @@ pub record WellFormed (t : Table) (m : Measure) : Type 0 where
   pub load-is : m .load ≡ load t
   pub horizon-is : m .horizon ≡ horizon t
   pub round-pos : 0 < round t
-  pub round-le : round t ≤ roundLimit
-  pub divides : (i : ℕ) → i < t .count → task t i .period ∣ round t
-  pub load-le : load t ≤ taskLimit * roundLimit
   pub offset-le : (i : ℕ) → i < t .count → task t i .offset + 2 * round t ≤ horizon t
-  pub horizon-le : horizon t ≤ slotLimit + 2 * roundLimit
+  pub horizon-le : horizon t ≤ horizonLimit
 
 -- What a table measures.
 abbrev pub measure : Table → Measure
@@ -51,12 +50,8 @@ passed : (p : Bool) (n place : ℕ) {j : Judgement} {m : Measure} → cond p (re
 passed true n place e = let z : _≡_ {A = ℕ} 0 1 = cc in absurd (omega arith)
 passed false n place e = (refl, e)
 
--- Every task asks for at most all slots.
-load-bound : (t : Table) → Ranged t → round t ≤ roundLimit → load t ≤ taskLimit * roundLimit
-unfolding load
-load-bound t r h = omega (arith, sum-bound (t .count) (share t (round t)) (round t) (share-le t r (round t)), mul-le-mul (r .few) h)
-
-horizon-bound : (t : Table) → Ranged t → round t ≤ roundLimit → horizon t ≤ slotLimit + 2 * roundLimit
+-- The horizon keeps its limit.
+horizon-bound : (t : Table) → Ranged t → round t ≤ roundLimit → horizon t ≤ horizonLimit
 unfolding horizon
 horizon-bound t r h = omega (arith, largest-le (t .count) (λ i. task t i .offset) slotLimit (λ i l. r .each i l .offset-le))
 
@@ -82,9 +77,6 @@ well-formed t m e =
       load-is = ap (λ (x : Measure). x .load) same;
       horizon-is = ap (λ (x : Measure). x .horizon) same;
       round-pos = round-pos t r;
-      round-le = h;
-      divides = period-divides t r;
-      load-le = load-bound t r h;
       offset-le = offset-bound t;
       horizon-le = horizon-bound t r h;
     }

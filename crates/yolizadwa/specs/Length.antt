@@ -6,7 +6,7 @@ use Prim.Native.Nat.{ℕ}
 use borrow.Author.Tests.{not-true, not-false}
 use lib.Dec.{eqb}
 use lib.ListN.{length}
-use Rattle.model.specs.Limits.{stateBytes}
+use Rattle.model.specs.StateBuffer.{stateBytes}
 
 pub strange : {r : Bool} (buffer : List ℕ) → r ≡ not (eqb (length buffer) stateBytes) → r ≡ true → eqb (length buffer) stateBytes ≡ false
 strange buffer e taken = not-true _ (sym e ∙ taken)

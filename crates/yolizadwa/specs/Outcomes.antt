@@ -1,10 +1,18 @@
--- An answer is exported by its outcome.
+-- A file and an answer in the report buffer. An answer is exported by its outcome.
 use mathlib.Core.Path.{_≡_, sym, ap, _∙_}
 use mathlib.Core.List.{List}
 use Prim.Native.Nat.{ℕ}
+use Rattle.model.specs.declared.Admission.{Admission}
 use Rattle.model.specs.declared.Answer.{Answer}
+use Rattle.model.specs.declared.Loaded.{Loaded}
 use Rattle.model.specs.declared.Outcome.{Outcome}
-use Rattle.model.specs.Report.{Exported, exportOf}
+use Rattle.model.specs.Report.{Exported, refused, written, outcomeTold, FileTold}
+
+abbrev pub FileExported : List ℕ → Loaded → Exported → Admission → Type 0
+FileExported buffer = FileTold (λ r. refused r buffer) (λ report. written report buffer)
+
+abbrev pub exportOf : ℕ → Answer → List ℕ → Outcome → Exported
+exportOf n a buffer = outcomeTold (λ r. refused r buffer) (λ report. written report buffer) n a
 
 pub by-outcome : {e : Exported} (n : ℕ) (a : Answer) (buffer : List ℕ) {o : Outcome} → a .outcome ≡ o → e ≡ exportOf n a buffer o → e ≡ exportOf n a buffer (a .outcome)
 by-outcome n a buffer same h = h ∙ ap (λ (o : Outcome). exportOf n a buffer o) (sym same)

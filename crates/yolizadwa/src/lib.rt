@@ -4,11 +4,12 @@ ghost use mathlib.Core.Bool.{not};
 ghost use Prim.Native.Nat.{_+_, _*_, _<_, _≤_, min};
 ghost use lib.Dec.{eqb};
 ghost use lib.ListN.{length};
-ghost use Rattle.model.specs.Limits.{taskLimit, reportBytes, stateBytes};
+ghost use Rattle.model.specs.Limits.{taskLimit, reportBytes};
 ghost use Rattle.model.specs.TableFile.{formOf, loadedFrom};
-ghost use Rattle.model.specs.Report.{exportOf, CheckedFile, Checked};
-ghost use Rattle.model.specs.StateBuffer.{startTable, stepTable, quiet, onForm, startExported, stepExported};
+ghost use Rattle.model.specs.Report.{Checked};
+ghost use Rattle.model.specs.StateBuffer.{stateBytes, startTable, stepTable, quiet, onForm, startExported, stepExported};
 ghost use Rattle.report.specs.Put.{exported};
+ghost use Rattle.yolizadwa.specs.Outcomes.{FileExported, exportOf};
 use dispatch::Dispatcher;
 use model::Admission;
 use model::Answer;
@@ -57,7 +58,7 @@ fn export_answer(answer: Answer, tasks: usize, buffer: &mut [u8]) -> u64
 
 fn check_file(file: &[u8], buffer: &mut [u8]) -> u64
     requires { ⌜ reportBytes ≤ length (now buffer) ⌝ }
-    ensures { λ r. ⌜ CheckedFile (now (buffer .entry)) (loadedFrom (now (file .entry))) (exported r (now (buffer .exit))) (loadedFrom (now (file .entry)) .admission) ⌝ }
+    ensures { λ r. ⌜ FileExported (now (buffer .entry)) (loadedFrom (now (file .entry))) (exported r (now (buffer .exit))) (loadedFrom (now (file .entry)) .admission) ⌝ }
 {
     let loaded = tablefile::load(file);
     let admission = loaded.admission;

@@ -1,6 +1,6 @@
 -- Each return rewrites with what the file turned out to be.
 use borrow.Author.Needs.{needs}
-use Rattle.model.specs.Report.{refusalLine, printOf}
+use Rattle.model.specs.Report.{refusalLine, outcomeTold}
 use Rattle.tablefile.specs.Admitted.{few-tasks}
 use Rattle.judge.specs.Front.{front, counted}
 use Rattle.judge.proofs.judge.Statement.{statement}
@@ -46,7 +46,7 @@ returns-2 c =
     let told = t .before .before in
     let text = w .write-outcome .ensures .0 in
     let answer = t .test .result in
-    (rw (← told .before .before .load .ensures, told .enum-told .given .1) (_, t .test .ensures, front _ _ text), counted (printOf (told .before .before .load .result .table .count) answer (answer .outcome)) _ text)
+    (rw (← told .before .before .load .ensures, told .enum-told .given .1) (_, t .test .ensures, front _ _ text), counted (outcomeTold refusalLine (λ report. report) (told .before .before .load .result .table .count) answer (answer .outcome)) _ text)
 
 pub judge-spec : {M : Type 1} → statement M
 judge-spec =

@@ -1,6 +1,6 @@
 use Prim.Native.Nat.{_≤_, _-_}
 use borrow.Author.Needs.{needs}
-use Rattle.model.specs.Limits.{stateBytes}
+use Rattle.model.specs.StateBuffer.{stateBytes}
 use Rattle.trials.proofs.calls.same.Statement.{statement}
 use Rattle.trials.proofs.calls.same.Tie as tie
 

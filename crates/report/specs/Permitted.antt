@@ -1,0 +1,139 @@
+-- What a permitted answer tells: a refusal by a number above 0, or a verdict whose report fits a report buffer.
+use mathlib.Core.Path.{_≡_, refl, sym, subst}
+use mathlib.Core.List.{List}
+use Prim.Native.Nat.{ℕ, _*_, _^_, _≤_, _<_}
+use native.Mathlib.Nat.{mul-le-mul, le-refl}
+use native.Mathlib.Decide.{decLt}
+use native.Mathlib.Omega.{arith}
+use borrow.Author.Tests.{lt-ltb, le-ltb}
+use lib.ListN.{length, getD, replicate, getD-replicate}
+use Rattle.model.specs.declared.Table.{Table}
+use Rattle.model.specs.declared.Measure.{Measure}
+use Rattle.model.specs.declared.Judgement.{Judgement}
+use Rattle.model.specs.declared.Verdict.{Verdict}
+use Rattle.model.specs.declared.Outcome.{Outcome}
+use Rattle.model.specs.declared.Answer.{Answer}
+use Rattle.model.specs.Limits.{taskLimit, slotLimit, reportBytes}
+use Rattle.model.specs.Tasks.{task, round, load, horizon, judged}
+use Rattle.model.specs.Demand.{demand, jobsIn}
+use Rattle.model.specs.Run.{tieOrder, firstEmpty}
+use Rattle.model.specs.Verdict.{needed, lateStart, verdict, settledBy, emptyIn, Worsts, brief, Answers, Judged, Permitted}
+use Rattle.model.specs.Report.{reportOf}
+use Rattle.counting.specs.Count.{count-bound}
+use Rattle.counting.specs.Sum.{sum-bound}
+use Rattle.wellformed.specs.Round.{share, share-le}
+use Rattle.wellformed.specs.Refused.{Numbered, judged-numbered}
+use Rattle.wellformed.specs.WellFormed.{horizonLimit, WellFormed, well-formed}
+use Rattle.backlog.specs.Decided.{too-much-iff}
+use Rattle.backlog.specs.Verdicts.{Late, lateVerdict, needed-le, start-asks, Case, overload, undecided, late, passed, the-case}
+use Rattle.backlog.specs.Answers.{light-of-passed, met-of-passed}
+use Rattle.backlog.specs.TableSystem.{tie-ranks, systemOf, cycleOf}
+use Rattle.backlog.specs.Worst.{worst-range}
+use Rattle.report.specs.Fits.{Wide, EmptyWide, VerdictWide, Printable, fits}
+
+module _ (t : Table) (m : Measure) (well : WellFormed t m) where
+  round-wide : Wide (round t)
+  round-wide = omega (arith, well .offset-le 0 (well .ranged .some), well .horizon-le)
+
+  -- A task asks for at most every slot of a round.
+  load-wide : Wide (load t)
+  unfolding load
+  load-wide =
+      let r = well .ranged in
+      omega (
+        arith,
+        sum-bound (t .count) (share t (round t)) (round t) (share-le t r (round t)),
+        mul-le-mul {m₁ = round t} {n₂ = taskLimit} {m₂ = horizonLimit} (r .few) (omega (arith, well .offset-le 0 (r .some), well .horizon-le)),
+      )
+
+  -- A task has at most one job a slot.
+  jobs-le : (i from to : ℕ) → jobsIn (task t i) from to ≤ to
+  unfolding jobsIn
+  jobs-le i from to = count-bound _ to
+
+  demand-le : (from to : ℕ) → to ≤ horizonLimit → demand t from to ≤ taskLimit * (slotLimit * horizonLimit)
+  unfolding demand
+  demand-le from to h = omega (arith, sum-bound (t .count) (λ i. task t i .cost * jobsIn (task t i) from to) (slotLimit * horizonLimit) asks-le, mul-le-mul {n₂ = taskLimit} {m₂ = slotLimit * horizonLimit} (well .ranged .few) (le-refl (slotLimit * horizonLimit)))
+    where
+      asks-le : (i : ℕ) → i < t .count → task t i .cost * jobsIn (task t i) from to ≤ slotLimit * horizonLimit
+      asks-le i l = let k = well .ranged .each i l in mul-le-mul {n₂ = slotLimit} {m₂ = horizonLimit} (omega (arith, k .cost-le, k .deadline-le, k .period-le)) (omega (arith, jobs-le i from to))
+
+  late-wide : Late t (needed t) → VerdictWide (lateVerdict t (needed t))
+  late-wide h =
+      let n = needed-le t in
+      let (a, b) = too-much-iff t (lateStart t (needed t)) (needed t) .0 (start-asks t (needed t) h) in
+      (omega (arith, well .horizon-le), omega (arith, well .horizon-le), omega (arith, demand-le (lateStart t (needed t)) (needed t) (omega (arith, well .horizon-le))))
+
+  verdict-wide : {budget : ℕ} (v : Verdict) (n : ℕ) → Case t budget v n → VerdictWide v × (n ≤ horizon t)
+  verdict-wide v n (overload g) = (tt, omega arith)
+  verdict-wide v n (undecided g b) = (tt, omega (arith, needed-le t))
+  verdict-wide v n (late g b l) = (late-wide l, needed-le t)
+  verdict-wide v n (passed g b l) = (tt, needed-le t)
+
+  empty-wide : EmptyWide (emptyIn t)
+  empty-wide = elim (decLt (firstEmpty t (tieOrder t)) (horizon t)) [
+    | yes p ↦ rw (lt-ltb (firstEmpty t (tieOrder t)) (horizon t) p) (omega (arith, well .horizon-le))
+    | no p ↦ rw (le-ltb (firstEmpty t (tieOrder t)) (horizon t) (omega arith)) tt
+  ]
+
+  module _ (budget : ℕ) where
+    worst-wide : verdict t budget ≡ Verdict.Passes → (w : List ℕ) → Worsts t w → (k : ℕ) → k < t .count → getD w k 0 < 2 ^ 32
+    worst-wide e w q k l =
+        let r = well .ranged in
+        let i = r .each k l in
+        omega (arith, i .deadline-le, i .period-le, worst-range (systemOf t r _ (tie-ranks t)) (cycleOf t r _ (tie-ranks t)) (light-of-passed t r budget e) (met-of-passed t r budget e) k l (getD w k 0) (q .worst k l) .1)
+
+    settled-wide : Wide (settledBy t budget)
+    settled-wide = omega (arith, well .horizon-le, verdict-wide (verdict t budget) (settledBy t budget) (the-case t budget) .1)
+
+    -- Each number of a permitted answer is as wide as the type that holds it.
+    brief-printable : (v : Verdict) → VerdictWide v → Printable (t .count) (brief (Outcome.Tested v) m (settledBy t budget)) v
+    brief-printable v w = record {
+      tasks = well .ranged .few;
+      load = rw (well .load-is) load-wide;
+      round = rw (well .round-is) round-wide;
+      horizon = omega (arith, well .horizon-is, well .horizon-le);
+      settled = settled-wide;
+      worst = λ k l. rw (getD-replicate {A = ℕ} taskLimit k 0 0 (omega (arith, well .ranged .few))) (omega arith);
+      empty = tt;
+      verdict = w;
+    }
+
+    printable : (a : Answer) (v : Verdict) → verdict t budget ≡ v → Answers t budget m a v → Printable (t .count) a v
+    printable a v e p = go v e p (subst VerdictWide e (verdict-wide (verdict t budget) (settledBy t budget) (the-case t budget) .0))
+      where
+        go : (v : Verdict) → verdict t budget ≡ v → Answers t budget m a v → VerdictWide v → Printable (t .count) a v
+        go Verdict.Passes e (w, q, f) x = rw f (record {
+          tasks = well .ranged .few;
+          load = rw (well .load-is) load-wide;
+          round = rw (well .round-is) round-wide;
+          horizon = omega (arith, well .horizon-is, well .horizon-le);
+          settled = settled-wide;
+          worst = worst-wide e w q;
+          empty = empty-wide;
+          verdict = tt;
+        })
+        go Verdict.Overload e f x = rw f (brief-printable Verdict.Overload x)
+        go (Verdict.Late from to asked) e f x = rw f (brief-printable (Verdict.Late from to asked) x)
+        go Verdict.Undecided e f x = rw f (brief-printable Verdict.Undecided x)
+
+-- What the answers of a verdict tell is that verdict.
+told : (t : Table) (budget : ℕ) (m : Measure) (a : Answer) (v : Verdict) → Answers t budget m a v → a .outcome ≡ Outcome.Tested v
+told t budget m a Verdict.Passes (w, q, f) = rw f refl
+told t budget m a Verdict.Overload f = rw f refl
+told t budget m a (Verdict.Late from to asked) f = rw f refl
+told t budget m a Verdict.Undecided f = rw f refl
+
+-- A refusal has a number above 0, and the report of a verdict fits.
+abbrev pub Fitting : ℕ → Answer → Outcome → Type 0
+Fitting n a (Outcome.Refused r) = 0 < r .number
+Fitting n a (Outcome.Tested v) = length (reportOf n a v) ≤ reportBytes
+
+pub permitted-fits : (t : Table) (budget : ℕ) (a : Answer) → Permitted t budget a → Fitting (t .count) a (a .outcome)
+unfolding Permitted
+permitted-fits t budget a p = go (judged t) refl p (judged-numbered t)
+  where
+    go : (j : Judgement) → judged t ≡ j → Judged t budget a j → Numbered j → Fitting (t .count) a (a .outcome)
+    go (Judgement.Refused r) q f h = rw f h
+    go (Judgement.WellFormed m) q f h =
+        subst (Fitting (t .count) a) (sym (told t budget m a (verdict t budget) f)) (fits (t .count) a (verdict t budget) (printable t m (well-formed t m q) budget a (verdict t budget) refl f))
