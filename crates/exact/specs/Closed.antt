@@ -1,16 +1,12 @@
 -- The jobs inside an interval in closed form, exact before a first release and where the offset is above the period.
 use mathlib.Core.Path.{_≡_}
-use Prim.Native.Nat.{ℕ, suc, _+_, _-_, _*_, _/_, _≤_, _<_}
-use native.Mathlib.Nat.{div-le-self, mul-le-mul}
+use Prim.Native.Nat.{ℕ, suc, _+_, _-_, _/_}
 use native.Mathlib.Omega.{arith}
 use Rattle.model.specs.declared.Task.{Task}
-use Rattle.model.specs.declared.Table.{Table}
-use Rattle.model.specs.Limits.{slotLimit}
-use Rattle.model.specs.Tasks.{task, release, due}
+use Rattle.model.specs.Tasks.{release, due}
 use Rattle.model.specs.Demand.{jobsIn}
 use Rattle.counting.specs.Below.{Grows, below-most, below-period, upto-period, grows-ge, count-between}
-use Rattle.wellformed.specs.Ranges.{InRange, Ranged}
-use Rattle.wellformed.specs.WellFormed.{horizonLimit}
+use Rattle.wellformed.specs.Ranges.{InRange}
 
 module _ (k : Task) (r : InRange k) where
   pub releases : Grows (release k)
@@ -29,20 +25,3 @@ module _ (k : Task) (r : InRange k) where
         below-period (k .offset) (k .period) (r .period-pos) from,
         upto-period (k .offset) (k .period) (r .period-pos) (k .deadline) to (r .deadline-le) (r .deadline-pos),
       )
-
-  -- There are no more of them than slots.
-  pub jobs-le : (from to : ℕ) → jobsIn k from to ≤ to + slotLimit
-  jobs-le from to = omega (arith, jobs-closed from to, div-le-self (to + k .period - (k .offset + k .deadline)) (k .period), r .period-le)
-
--- What the jobs of task i ask for in an interval.
-abbrev pub asks : Table → ℕ → ℕ → ℕ → ℕ
-asks t from to i = task t i .cost * jobsIn (task t i) from to
-
--- It fits a number of 64 bits, sixteen times over.
-abbrev pub asksLimit : ℕ
-asksLimit = slotLimit * (horizonLimit + slotLimit)
-
-pub asks-le : (t : Table) → Ranged t → (from to i : ℕ) → i < t .count → to ≤ horizonLimit → asks t from to i ≤ asksLimit
-asks-le t r from to i l h =
-    let k = r .each i l in
-    mul-le-mul {n₂ = slotLimit} {m₂ = horizonLimit + slotLimit} (omega (arith, k .cost-le, k .deadline-le, k .period-le)) (omega (arith, jobs-le (task t i) k from to))

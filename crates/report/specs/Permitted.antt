@@ -1,8 +1,8 @@
 -- What a permitted answer tells: a refusal by a number above 0, or a verdict whose report fits a report buffer.
 use mathlib.Core.Path.{_≡_, refl, sym, subst}
 use mathlib.Core.List.{List}
-use Prim.Native.Nat.{ℕ, _*_, _^_, _≤_, _<_}
-use native.Mathlib.Nat.{mul-le-mul, le-refl}
+use Prim.Native.Nat.{ℕ, _^_, _≤_, _<_}
+use native.Mathlib.Nat.{mul-le-mul}
 use native.Mathlib.Decide.{decLt}
 use native.Mathlib.Omega.{arith}
 use borrow.Author.Tests.{lt-ltb, le-ltb}
@@ -13,17 +13,16 @@ use Rattle.model.specs.declared.Judgement.{Judgement}
 use Rattle.model.specs.declared.Verdict.{Verdict}
 use Rattle.model.specs.declared.Outcome.{Outcome}
 use Rattle.model.specs.declared.Answer.{Answer}
-use Rattle.model.specs.Limits.{taskLimit, slotLimit, reportBytes}
-use Rattle.model.specs.Tasks.{task, round, load, horizon, judged}
-use Rattle.model.specs.Demand.{demand, jobsIn}
+use Rattle.model.specs.Limits.{taskLimit, reportBytes}
+use Rattle.model.specs.Tasks.{round, load, horizon, judged}
 use Rattle.model.specs.Run.{tieOrder, firstEmpty}
 use Rattle.model.specs.Verdict.{needed, lateStart, verdict, settledBy, emptyIn, Worsts, brief, Answers, Judged, Permitted}
 use Rattle.model.specs.Report.{reportOf}
-use Rattle.counting.specs.Count.{count-bound}
 use Rattle.counting.specs.Sum.{sum-bound}
 use Rattle.wellformed.specs.Round.{share, share-le}
 use Rattle.wellformed.specs.Refused.{Numbered, judged-numbered}
 use Rattle.wellformed.specs.WellFormed.{horizonLimit, WellFormed, well-formed}
+use Rattle.wellformed.specs.Demand.{demand-le}
 use Rattle.backlog.specs.Decided.{too-much-iff}
 use Rattle.backlog.specs.Verdicts.{Late, lateVerdict, needed-le, start-asks, Case, overload, undecided, late, passed, the-case}
 use Rattle.backlog.specs.Answers.{light-of-passed, met-of-passed}
@@ -46,23 +45,11 @@ module _ (t : Table) (m : Measure) (well : WellFormed t m) where
         mul-le-mul {m₁ = round t} {n₂ = taskLimit} {m₂ = horizonLimit} (r .few) (omega (arith, well .offset-le 0 (r .some), well .horizon-le)),
       )
 
-  -- A task has at most one job a slot.
-  jobs-le : (i from to : ℕ) → jobsIn (task t i) from to ≤ to
-  unfolding jobsIn
-  jobs-le i from to = count-bound _ to
-
-  demand-le : (from to : ℕ) → to ≤ horizonLimit → demand t from to ≤ taskLimit * (slotLimit * horizonLimit)
-  unfolding demand
-  demand-le from to h = omega (arith, sum-bound (t .count) (λ i. task t i .cost * jobsIn (task t i) from to) (slotLimit * horizonLimit) asks-le, mul-le-mul {n₂ = taskLimit} {m₂ = slotLimit * horizonLimit} (well .ranged .few) (le-refl (slotLimit * horizonLimit)))
-    where
-      asks-le : (i : ℕ) → i < t .count → task t i .cost * jobsIn (task t i) from to ≤ slotLimit * horizonLimit
-      asks-le i l = let k = well .ranged .each i l in mul-le-mul {n₂ = slotLimit} {m₂ = horizonLimit} (omega (arith, k .cost-le, k .deadline-le, k .period-le)) (omega (arith, jobs-le i from to))
-
   late-wide : Late t (needed t) → VerdictWide (lateVerdict t (needed t))
   late-wide h =
       let n = needed-le t in
       let (a, b) = too-much-iff t (lateStart t (needed t)) (needed t) .0 (start-asks t (needed t) h) in
-      (omega (arith, well .horizon-le), omega (arith, well .horizon-le), omega (arith, demand-le (lateStart t (needed t)) (needed t) (omega (arith, well .horizon-le))))
+      (omega (arith, well .horizon-le), omega (arith, well .horizon-le), omega (arith, demand-le t (well .ranged) (lateStart t (needed t)) (needed t) (omega (arith, well .horizon-le))))
 
   verdict-wide : {budget : ℕ} (v : Verdict) (n : ℕ) → Case t budget v n → VerdictWide v × (n ≤ horizon t)
   verdict-wide v n (overload g) = (tt, omega arith)

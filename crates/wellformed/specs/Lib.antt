@@ -2,5 +2,6 @@
 pub mod Ranges
 pub mod Round
 pub mod WellFormed
+pub mod Demand
 pub mod AtLimit
 pub mod Refused

@@ -6,7 +6,7 @@ use borrow.Author.Needs.{needs}
 use Rattle.model.specs.Notation.{sum}
 use Rattle.model.specs.Demand.{demand}
 use Rattle.counting.specs.Sum.{sum-none, sum-more}
-use Rattle.exact.specs.Closed.{asks, asksLimit, asks-le}
+use Rattle.wellformed.specs.Demand.{asks, asksLimit, asks-le}
 use Rattle.exact.proofs.demand.Statement.{statement}
 use Rattle.exact.proofs.demand.Tie as tie
 
