@@ -74,8 +74,8 @@ FileTold refuse tell l x Admission.Admitted = (a : Answer) × Permitted (l .tabl
 -- The one permitted result of the exported call on any file and any buffer. A short buffer is refused by 30 before all else.
 abbrev pub Checked : List ℕ → List ℕ → Exported → Type 0
 Checked file buffer e =
-    let short = Admission.Refused (record { number = 30; place = length buffer }) in
-    FileTold (λ r. refused r buffer) (λ report. written report buffer) (loadedFrom file) e (cond (ltb (length buffer) reportBytes) short (loadedFrom file .admission))
+    let admission = cond (ltb (length buffer) reportBytes) (Admission.Refused (record { number = 30; place = length buffer })) (loadedFrom file .admission) in
+    FileTold (λ r. refused r buffer) (λ report. written report buffer) (loadedFrom file) e admission
 
 -- The line that names a refusal.
 abbrev pub refusalLine : Refusal → List ℕ

@@ -4,11 +4,11 @@ use mathlib.Core.Bool.{cond, not}
 use Prim.Native.Nat.{ℕ, zero, suc, _+_, _*_, _/_, _%_, min}
 use lib.Dec.{eqb}
 use lib.ListN.{length, replicate}
-use Rattle.model.specs.Values.{Table, Refusal, Admission, Loaded, Turn, Given}
+use Rattle.model.specs.Values.{Table, Admission, Turn, Given}
 use Rattle.model.specs.Notation.{fill}
 use Rattle.model.specs.Limits.{taskLimit}
 use Rattle.model.specs.TableFile.{four, formOf}
-use Rattle.model.specs.Dispatcher.{State, Started, Stepped, started, stepped}
+use Rattle.model.specs.Dispatcher.{State, started, stepped}
 use Rattle.model.specs.Report.{Exported, refused}
 
 -- The bytes of a state buffer: four for each wait, for each number of slots left, and for the four words after them.
@@ -39,41 +39,27 @@ abbrev pub quiet : Turn
 quiet = record { owner = taskLimit; late = 0; closed = 0; lowest = taskLimit }
 
 -- A start returns 0, a step the owner of the slot; each writes the whole buffer. A refusal writes nowhere.
-abbrev pub startWritten : List ℕ → Started → Admission → Exported
-startWritten buffer s (Admission.Refused r) = refused r buffer
-startWritten buffer s Admission.Admitted = record { number = 0; buffer = bufferOf (s .state) quiet }
+abbrev pub startWritten : List ℕ → State → Admission → Exported
+startWritten buffer d (Admission.Refused r) = refused r buffer
+startWritten buffer d Admission.Admitted = record { number = 0; buffer = bufferOf d quiet }
 
-abbrev pub stepWritten : List ℕ → Stepped → Given → Exported
-stepWritten buffer s (Given.Refused r) = refused r buffer
-stepWritten buffer s (Given.Slot u) = record { number = u .owner; buffer = bufferOf (s .state) u }
+abbrev pub stepWritten : List ℕ → State → Given → Exported
+stepWritten buffer d (Given.Refused r) = refused r buffer
+stepWritten buffer d (Given.Slot u) = record { number = u .owner; buffer = bufferOf d u }
 
-abbrev pub startTable : List ℕ → Table → Exported
-startTable buffer t = startWritten buffer (started t) (started t .admission)
-
-abbrev pub stepTable : List ℕ → ℕ → Table → Exported
-stepTable buffer done t =
-    let s = stepped t (stateIn buffer) (not (eqb done 0)) in
-    stepWritten buffer s (s .given)
-
--- A state buffer of another length is refused by 50, with its length as far as a place can tell it.
-abbrev pub strangeBuffer : List ℕ → Refusal
-strangeBuffer buffer = record { number = 50; place = min (length buffer) 65535 }
-
--- The order of the refusals: 50, the file's form, then what the start or the step refuses, the table first.
-abbrev pub onForm : List ℕ → (Table → Exported) → Loaded → Admission → Exported
-onForm buffer go l (Admission.Refused r) = refused r buffer
-onForm buffer go l Admission.Admitted = go (l .table)
-
+-- The order of the refusals: 50 for a buffer of another length, told as far as a place can; the file's form; then the table's and the step's.
 abbrev pub onFile : List ℕ → List ℕ → (Table → Exported) → Exported
 onFile file buffer go =
-    cond (eqb (length buffer) stateBytes) (onForm buffer go (formOf file) (formOf file .admission)) (refused (strangeBuffer buffer) buffer)
+    let strange = Admission.Refused (record { number = 50; place = min (length buffer) 65535 }) in
+    let admission = cond (eqb (length buffer) stateBytes) (formOf file .admission) strange in
+    elim admission [ Admission.Refused r ↦ refused r buffer | Admission.Admitted ↦ go (formOf file .table) ]
 
 -- The one permitted result of each on any file and any buffer; a done report is any number but 0.
 abbrev pub startExported : List ℕ → List ℕ → Exported
-startExported file buffer = onFile file buffer (startTable buffer)
+startExported file buffer = onFile file buffer (λ t. startWritten buffer (started t .state) (started t .admission))
 
 abbrev pub stepExported : List ℕ → List ℕ → ℕ → Exported
-stepExported file buffer done = onFile file buffer (stepTable buffer done)
+stepExported file buffer done = onFile file buffer (λ t. let s = stepped t (stateIn buffer) (not (eqb done 0)) in stepWritten buffer (s .state) (s .given))
 
 -- A camera's loop: a start in a lent buffer, and then steps in it. The buffer that step n is handed; `done n` is what it is told.
 unfoldable pub handed : List ℕ → List ℕ → (ℕ → ℕ) → ℕ → List ℕ

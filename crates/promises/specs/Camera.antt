@@ -12,16 +12,15 @@ use Rattle.model.specs.declared.Table.{Table}
 use Rattle.model.specs.declared.Measure.{Measure}
 use Rattle.model.specs.declared.Judgement.{Judgement}
 use Rattle.model.specs.declared.Admission.{Admission}
-use Rattle.model.specs.declared.Loaded.{Loaded}
 use Rattle.model.specs.Limits.{taskLimit}
 use Rattle.model.specs.Notation.{sum, product, largest, count, first}
 use Rattle.model.specs.Tasks.{taskFault, firstFaulty, round, load, horizon, judged}
 use Rattle.model.specs.TableFile.{recordAt, readFrom, formOf}
-use Rattle.model.specs.Dispatcher.{State, Started, firstStrange, lastStrange, ownerNow, turn, started, stepJudged, stepped}
+use Rattle.model.specs.Dispatcher.{State, firstStrange, lastStrange, ownerNow, turn, started, stepJudged, stepped}
 use Rattle.model.specs.Report.{Exported, refused}
 use Rattle.model.specs.Examples.{table-g, file-g}
 use Rattle.model.specs.History.{stateAt, ownerAt}
-use Rattle.model.specs.StateBuffer.{stateBytes, bufferOf, stateIn, quiet, startWritten, stepWritten, startTable, stepTable, strangeBuffer, onForm, onFile, startExported, stepExported, handed}
+use Rattle.model.specs.StateBuffer.{stateBytes, bufferOf, stateIn, quiet, startWritten, stepWritten, onFile, startExported, stepExported, handed}
 use Rattle.wellformed.specs.WellFormed.{well-formed}
 use Rattle.slots.specs.Choice.{choose-range}
 use Rattle.statebuffer.specs.Loop as loop
@@ -35,29 +34,25 @@ one-camera-step file buffer done a b e f = e ∙ sym f
 
 -- A state buffer of another length is refused by 50, before the file is looked at, and stays as it was.
 pub strange-start-buffer : (file buffer : List ℕ) → eqb (length buffer) stateBytes ≡ false → startExported file buffer ≡ refused (record { number = 50; place = min (length buffer) 65535 }) buffer
-strange-start-buffer file buffer e = rw e
+strange-start-buffer file buffer e = rw (e, onFile)
 
 pub strange-step-buffer : (file buffer : List ℕ) (done : ℕ) → eqb (length buffer) stateBytes ≡ false → stepExported file buffer done ≡ refused (record { number = 50; place = min (length buffer) 65535 }) buffer
-strange-step-buffer file buffer done e = rw e
+strange-step-buffer file buffer done e = rw (e, onFile)
 
 -- What goes on after the buffer and the form: a large number is a refusal, which leaves the buffer.
 abbrev Keeps : List ℕ → Exported → Type 0
 Keeps buffer e = 65536 ≤ e .number → e .buffer ≡ buffer
 
-form-keeps : (buffer : List ℕ) (go : Table → Exported) → ((t : Table) → Keeps buffer (go t)) → (l : Loaded) (a : Admission) → Keeps buffer (onForm buffer go l a)
-form-keeps buffer go h l (Admission.Refused r) large = refl
-form-keeps buffer go h l Admission.Admitted large = h (l .table) large
+admission-keeps : (buffer : List ℕ) (e : Exported) → Keeps buffer e → (a : Admission) → Keeps buffer (elim a [ Admission.Refused r ↦ refused r buffer | Admission.Admitted ↦ e ])
+admission-keeps buffer e h (Admission.Refused r) large = refl
+admission-keeps buffer e h Admission.Admitted large = h large
 
 file-keeps : (file buffer : List ℕ) (go : Table → Exported) → ((t : Table) → Keeps buffer (go t)) → Keeps buffer (onFile file buffer go)
-file-keeps file buffer go h = by (eqb (length buffer) stateBytes)
-  where
-    by : (b : Bool) → Keeps buffer (cond b (onForm buffer go (formOf file) (formOf file .admission)) (refused (strangeBuffer buffer) buffer))
-    by true = form-keeps buffer go h (formOf file) (formOf file .admission)
-    by false = λ large. refl
+file-keeps file buffer go h = admission-keeps buffer (go (formOf file .table)) (h (formOf file .table)) (cond (eqb (length buffer) stateBytes) (formOf file .admission) (Admission.Refused (record { number = 50; place = min (length buffer) 65535 })))
 
-start-keeps : (buffer : List ℕ) (s : Started) (a : Admission) → Keeps buffer (startWritten buffer s a)
-start-keeps buffer s (Admission.Refused r) large = refl
-start-keeps buffer s Admission.Admitted large = absurd (omega arith)
+start-keeps : (buffer : List ℕ) (d : State) (a : Admission) → Keeps buffer (startWritten buffer d a)
+start-keeps buffer d (Admission.Refused r) large = refl
+start-keeps buffer d Admission.Admitted large = absurd (omega arith)
 
 -- The owner of a slot is a task or none.
 owner-few : (t : Table) (d : State) (done : Bool) → t .count ≤ taskLimit → ownerNow t d done ≤ taskLimit
@@ -70,10 +65,10 @@ owner-few t d done few = go (choose-range _ _ _ (t .count))
 
 -- A number of 65,536 or more is a refusal: no byte of the buffer has changed.
 pub refused-camera-start : (file buffer : List ℕ) → 65536 ≤ startExported file buffer .number → startExported file buffer .buffer ≡ buffer
-refused-camera-start file buffer = file-keeps file buffer (startTable buffer) (λ t. start-keeps buffer (started t) (started t .admission))
+refused-camera-start file buffer = file-keeps file buffer (λ t. startWritten buffer (started t .state) (started t .admission)) (λ t. start-keeps buffer (started t .state) (started t .admission))
 
 -- A step that is taken returns its owner, which is below 65,536.
-step-judged-keeps : (buffer : List ℕ) (t : Table) (d : State) (done : Bool) (j : Judgement) → judged t ≡ j → Keeps buffer (stepWritten buffer (stepJudged t d done j) (stepJudged t d done j .given))
+step-judged-keeps : (buffer : List ℕ) (t : Table) (d : State) (done : Bool) (j : Judgement) → judged t ≡ j → let s = stepJudged t d done j in Keeps buffer (stepWritten buffer (s .state) (s .given))
 unfolding turn
 step-judged-keeps buffer t d done (Judgement.Refused r) e = λ large. refl
 step-judged-keeps buffer t d done (Judgement.WellFormed m) e = by (ltb (firstStrange t d) (t .count)) (lastStrange t d) refl refl
@@ -84,17 +79,14 @@ step-judged-keeps buffer t d done (Judgement.WellFormed m) e = by (ltb (firstStr
     owned : turn t d done .owner ≤ taskLimit
     owned = owner-few t d done few
 
-    by : (a b : Bool) → ltb (firstStrange t d) (t .count) ≡ a → lastStrange t d ≡ b → Keeps buffer (stepWritten buffer (stepJudged t d done (Judgement.WellFormed m)) (stepJudged t d done (Judgement.WellFormed m) .given))
+    by : (a b : Bool) → ltb (firstStrange t d) (t .count) ≡ a → lastStrange t d ≡ b → let s = stepJudged t d done (Judgement.WellFormed m) in Keeps buffer (stepWritten buffer (s .state) (s .given))
     by true b p q = rw p (λ large. refl)
     by false true p q = rw (p, q) (λ large. refl)
     by false false p q = rw (p, q) (λ large. absurd (omega (arith, owned)))
 
 pub refused-camera-step : (file buffer : List ℕ) (done : ℕ) → 65536 ≤ stepExported file buffer done .number → stepExported file buffer done .buffer ≡ buffer
 unfolding stepped
-refused-camera-step file buffer done = file-keeps file buffer (stepTable buffer done) (λ t. kept t)
-  where
-    kept : (t : Table) → Keeps buffer (stepTable buffer done t)
-    kept t = step-judged-keeps buffer t (stateIn buffer) (not (eqb done 0)) (judged t) refl
+refused-camera-step file buffer done = file-keeps file buffer (λ t. let s = stepped t (stateIn buffer) (not (eqb done 0)) in stepWritten buffer (s .state) (s .given)) (λ t. step-judged-keeps buffer t (stateIn buffer) (not (eqb done 0)) (judged t) refl)
 
 -- A camera's loop with a well-formed table's file and any done reports: the start returns 0, and step n returns the owner of
 -- slot n and leaves the next state and what it told.

@@ -16,10 +16,10 @@ use Rattle.model.specs.declared.Admission.{Admission}
 use Rattle.model.specs.declared.Turn.{Turn}
 use Rattle.model.specs.Tasks.{judged}
 use Rattle.model.specs.TableFile.{formOf}
-use Rattle.model.specs.Dispatcher.{started, turn}
+use Rattle.model.specs.Dispatcher.{started, stepped, turn}
 use Rattle.model.specs.History.{stateAt, ownerAt}
 use Rattle.model.specs.Report.{Exported}
-use Rattle.model.specs.StateBuffer.{stateBytes, bufferOf, quiet, startTable, stepTable, onFile, startExported, stepExported, handed}
+use Rattle.model.specs.StateBuffer.{stateBytes, bufferOf, stateIn, quiet, startWritten, stepWritten, onFile, startExported, stepExported, handed}
 use Rattle.wellformed.specs.Ranges.{Ranged}
 use Rattle.wellformed.specs.WellFormed.{well-formed}
 use Rattle.backlog.specs.Stepping.{sound, wait-le, past-none, never-refused}
@@ -53,7 +53,7 @@ module _ (t : Table) (r : Ranged t) (done : ℕ → Bool) where
 
 -- A file whose form is good and a buffer of the right length lead to the table.
 on-table : (file buffer : List ℕ) (t : Table) (go : Table → Exported) → formOf file .admission ≡ Admission.Admitted → formOf file .table ≡ t → length buffer ≡ stateBytes → onFile file buffer go ≡ go t
-on-table file buffer t go formed held size = rw (eq-eqb (length buffer) stateBytes size, formed, held)
+on-table file buffer t go formed held size = rw (eq-eqb (length buffer) stateBytes size, formed, held, onFile)
 
 module _ (file : List ℕ) (t : Table) (m : Measure) (formed : formOf file .admission ≡ Admission.Admitted) (held : formOf file .table ≡ t) (well : judged t ≡ Judgement.WellFormed m) (lent : List ℕ) (size : length lent ≡ stateBytes) (done : ℕ → ℕ) where
   r : Ranged t
@@ -65,14 +65,14 @@ module _ (file : List ℕ) (t : Table) (m : Measure) (formed : formOf file .admi
 
   pub starts : startExported file lent ≡ record { number = 0; buffer = bufferOf (stateAt t reports 0) quiet }
   unfolding started stateAt
-  starts = on-table file lent t (startTable lent) formed held size ∙ rw well refl
+  starts = on-table file lent t (λ k. startWritten lent (started k .state) (started k .admission)) formed held size ∙ rw well refl
 
   abbrev told : ℕ → Turn
   told n = turn t (stateAt t reports n) (reports n)
 
   stepped-in : (n : ℕ) (buffer : List ℕ) (u : Turn) → buffer ≡ bufferOf (stateAt t reports n) u → stepExported file buffer (done n) ≡ record { number = told n .owner; buffer = bufferOf (stateAt t reports (suc n)) (told n) }
   stepped-in n buffer u e =
-      on-table file buffer t (stepTable buffer (done n)) formed held (ap length e ∙ buffer-size _ u (fits t r reports n))
+      on-table file buffer t (λ k. let s = stepped k (stateIn buffer) (reports n) in stepWritten buffer (s .state) (s .given)) formed held (ap length e ∙ buffer-size _ u (fits t r reports n))
       ∙ rw (e, state-back _ u (fits t r reports n), never-refused t r reports m well n)
 
   holds : (n : ℕ) → (u : Turn) × (handed file lent done n ≡ bufferOf (stateAt t reports n) u)

@@ -5,9 +5,10 @@ ghost use Prim.Native.Nat.{_+_, _*_, _<_, _≤_, min};
 ghost use lib.Dec.{eqb};
 ghost use lib.ListN.{length};
 ghost use Rattle.model.specs.Limits.{taskLimit, reportBytes};
-ghost use Rattle.model.specs.TableFile.{formOf, loadedFrom};
+ghost use Rattle.model.specs.TableFile.{loadedFrom};
+ghost use Rattle.model.specs.Dispatcher.{started, stepped};
 ghost use Rattle.model.specs.Report.{Checked};
-ghost use Rattle.model.specs.StateBuffer.{stateBytes, startTable, stepTable, quiet, onForm, startExported, stepExported};
+ghost use Rattle.model.specs.StateBuffer.{stateBytes, stateIn, quiet, startWritten, stepWritten, startExported, stepExported};
 ghost use Rattle.report.specs.Put.{exported};
 ghost use Rattle.yolizadwa.specs.Outcomes.{FileExported, exportOf};
 use dispatch::Dispatcher;
@@ -110,7 +111,7 @@ fn refused_state(bytes: usize) -> u64
 
 fn start_table(table: Table, state: &mut [u8]) -> u64
     requires { ⌜ length (now state) ≡ stateBytes ⌝ }
-    ensures { λ r. ⌜ exported r (now (state .exit)) ≡ startTable (now (state .entry)) table ⌝ }
+    ensures { λ r. ⌜ exported r (now (state .exit)) ≡ startWritten (now (state .entry)) (started table .state) (started table .admission) ⌝ }
 {
     let started = Dispatcher::start(table);
     let admission = started.admission;
@@ -137,7 +138,7 @@ fn quiet() -> Turn
 
 fn start_file(file: &[u8], state: &mut [u8]) -> u64
     requires { ⌜ length (now state) ≡ stateBytes ⌝ }
-    ensures { λ r. ⌜ exported r (now (state .exit)) ≡ onForm (now (state .entry)) (startTable (now (state .entry))) (formOf (now (file .entry))) (formOf (now (file .entry)) .admission) ⌝ }
+    ensures { λ r. ⌜ exported r (now (state .exit)) ≡ startExported (now (file .entry)) (now (state .entry)) ⌝ }
 {
     let form = tablefile::form_of(file);
     let admission = form.admission;
@@ -170,7 +171,7 @@ fn reported(done: u32) -> bool
 
 fn step_table(table: Table, state: &mut [u8], done: u32) -> u64
     requires { ⌜ length (now state) ≡ stateBytes ⌝ }
-    ensures { λ r. ⌜ exported r (now (state .exit)) ≡ stepTable (now (state .entry)) done table ⌝ }
+    ensures { λ r. ⌜ exported r (now (state .exit)) ≡ (let s = stepped table (stateIn (now (state .entry))) (not (eqb done 0)) in stepWritten (now (state .entry)) (s .state) (s .given)) ⌝ }
 {
     let dispatcher = statebuffer::state_in(state);
     let stepped = dispatcher.step(table, reported(done));
@@ -187,7 +188,7 @@ fn step_table(table: Table, state: &mut [u8], done: u32) -> u64
 
 fn step_file(file: &[u8], state: &mut [u8], done: u32) -> u64
     requires { ⌜ length (now state) ≡ stateBytes ⌝ }
-    ensures { λ r. ⌜ exported r (now (state .exit)) ≡ onForm (now (state .entry)) (stepTable (now (state .entry)) done) (formOf (now (file .entry))) (formOf (now (file .entry)) .admission) ⌝ }
+    ensures { λ r. ⌜ exported r (now (state .exit)) ≡ stepExported (now (file .entry)) (now (state .entry)) done ⌝ }
 {
     let form = tablefile::form_of(file);
     let admission = form.admission;

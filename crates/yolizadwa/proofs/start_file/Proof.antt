@@ -1,5 +1,7 @@
 -- Each return rewrites with what the form turned out to be.
 use borrow.Author.Needs.{needs}
+use borrow.Author.Tests.{eq-eqb}
+use Rattle.model.specs.StateBuffer.{onFile}
 use Rattle.yolizadwa.proofs.start_file.Statement.{statement}
 use Rattle.yolizadwa.proofs.start_file.Tie as tie
 
@@ -21,7 +23,8 @@ start-table-requires c κs = search needs
 returns : tie.Need-returns
 returns c =
     let known = c .before .before in
-    rw (← known .before .before .form-of .ensures, known .admission .given .1, c .refused .ensures)
+    let form = known .before .before in
+    rw (eq-eqb _ _ (form .before .before .before .pre), ← form .form-of .ensures, known .admission .given .1, c .refused .ensures, onFile)
 
 same-length : tie.Need-same-length
 same-length c = search needs
@@ -30,7 +33,8 @@ returns-2 : tie.Need-returns-2
 returns-2 c =
     let called = c .before .before in
     let told = called .before .before .before in
-    rw (← told .before .before .form-of .ensures, told .enum-told .given .1) (called .start-table .ensures)
+    let form = told .before .before in
+    rw (eq-eqb _ _ (form .before .before .before .pre), ← form .form-of .ensures, told .enum-told .given .1, onFile) (rw (← form .form-of .ensures) (called .start-table .ensures))
 
 pub start-file-spec : {M : Type 1} → statement M
 start-file-spec =

@@ -1,6 +1,7 @@
 -- The buffer's length decides first.
 use borrow.Author.Tests.{eqb-true}
 use borrow.Author.Needs.{needs}
+use Rattle.model.specs.StateBuffer.{onFile}
 use Rattle.yolizadwa.specs.Length.{strange, right}
 use Rattle.yolizadwa.proofs.yolizadwa_start.Statement.{statement}
 use Rattle.yolizadwa.proofs.yolizadwa_start.Tie as tie
@@ -14,7 +15,7 @@ refused-state-requires c κs = search needs
 returns : tie.Need-returns
 returns c =
     let tested = c .before .before in
-    rw (strange (tested .before .before .before .args .state .now) (tested .strange-length .ensures) (c .before .if1 .taken), c .refused-state .ensures)
+    rw (strange (tested .before .before .before .args .state .now) (tested .strange-length .ensures) (c .before .if1 .taken), c .refused-state .ensures, onFile)
 
 start-file-requires : tie.Need-start-file-requires
 start-file-requires c κs =
@@ -25,10 +26,7 @@ same-length : tie.Need-same-length
 same-length c = search needs
 
 returns-2 : tie.Need-returns-2
-returns-2 c =
-    let called = c .before .before in
-    let tested = called .before .before .before in
-    rw (right (tested .before .before .before .args .state .now) (tested .strange-length .ensures) (called .before .before .if1 .left)) (called .start-file .ensures)
+returns-2 c = c .before .before .start-file .ensures
 
 pub yolizadwa-start-spec : {M : Type 1} → statement M
 yolizadwa-start-spec =
