@@ -2,7 +2,7 @@
 -- That no call traps or runs on is what being proved means, and is not said again. Each contract is an equation with, or a
 -- permission by, the model's own word, for every input; so the theorems here speak of these words.
 use mathlib.Core.Path.{_≡_, refl, sym, subst, _∙_}
-use mathlib.Core.Logic.{_⊎_, inl, inr}
+use mathlib.Core.Logic.{_⊎_, inl}
 use mathlib.Core.List.{List, [], _∷_}
 use mathlib.Core.Bool.{Bool, true, false, cond}
 use Prim.Native.Nat.{ℕ, suc, _+_, _≤_, _<_}
@@ -35,7 +35,7 @@ use Rattle.model.specs.Report.{Exported, refused, written, outcomeTold, FileTol
 use Rattle.backlog.specs.Answers.{permitted-unique}
 use Rattle.backlog.specs.Computed.{answerOf, computed}
 use Rattle.tablefile.specs.Longer.{first-bytes}
-use Rattle.tablefile.specs.Refused.{Numbered, load-numbered}
+use Rattle.tablefile.specs.Refused.{Numbered, load-numbered, Apart, refused-apart}
 use Rattle.report.specs.Permitted.{Fitting, permitted-fits}
 
 -- Judging a table, reading a file's form, loading it, starting and stepping have one permitted result each, for every input.
@@ -80,15 +80,12 @@ one-export file buffer e f = told-once (λ r. refused r buffer) (λ s. written s
 
 -- The number tells a report from a refusal: up to 512 it is the report's length, and from 65,536 on a refusal, of which the
 -- buffer knows nothing.
-abbrev Apart : List ℕ → Exported → Type 0
-Apart buffer e = (e .number ≤ reportBytes) ⊎ ((65536 ≤ e .number) × (e .buffer ≡ buffer))
-
-outcome-apart : (buffer : List ℕ) (n : ℕ) (a : Answer) (o : Outcome) → Fitting n a o → Apart buffer (outcomeTold (λ r. refused r buffer) (λ s. written s buffer) n a o)
-outcome-apart buffer n a (Outcome.Refused r) h = inr (omega arith, refl)
+outcome-apart : (buffer : List ℕ) (n : ℕ) (a : Answer) (o : Outcome) → Fitting n a o → Apart reportBytes buffer (outcomeTold (λ r. refused r buffer) (λ s. written s buffer) n a o)
+outcome-apart buffer n a (Outcome.Refused r) h = refused-apart r h
 outcome-apart buffer n a (Outcome.Tested v) h = inl h
 
-told-apart : (buffer : List ℕ) (l : Loaded) (e : Exported) (a : Admission) → Numbered a → FileTold (λ r. refused r buffer) (λ s. written s buffer) l e a → Apart buffer e
-told-apart buffer l e (Admission.Refused r) h q = rw q (inr (omega arith, refl))
+told-apart : (buffer : List ℕ) (l : Loaded) (e : Exported) (a : Admission) → Numbered a → FileTold (λ r. refused r buffer) (λ s. written s buffer) l e a → Apart reportBytes buffer e
+told-apart buffer l e (Admission.Refused r) h q = rw q (refused-apart {most = reportBytes} {buffer = buffer} r h)
 told-apart buffer l e Admission.Admitted h (a, p, q) = rw q (outcome-apart buffer (l .table .count) a (a .outcome) (permitted-fits (l .table) (l .budget) a p))
 
 pub report-or-refusal : (file buffer : List ℕ) (e : Exported) → Checked file buffer e → (e .number ≤ reportBytes) ⊎ ((65536 ≤ e .number) × (e .buffer ≡ buffer))

@@ -1,3 +1,4 @@
 pub mod Words
 pub mod RoundTrip
 pub mod Loop
+pub mod Told

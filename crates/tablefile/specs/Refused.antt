@@ -1,11 +1,14 @@
--- Every refusal of a file has a number above 0.
+-- Every refusal of a file has a number above 0, so that what a call returns tells whether it refused.
+use mathlib.Core.Path.{_≡_, refl}
+use mathlib.Core.Logic.{_⊎_, inr}
 use mathlib.Core.List.{List, [], _∷_, _++_}
 use mathlib.Core.Bool.{Bool, true, false, cond}
-use Prim.Native.Nat.{ℕ, zero, suc, _+_, _<_}
+use Prim.Native.Nat.{ℕ, zero, suc, _+_, _≤_, _<_}
 use native.Mathlib.Omega.{arith}
 use lib.Dec.{ltb}
 use lib.ListN.{length}
 use Rattle.model.specs.declared.Task.{Task}
+use Rattle.model.specs.declared.Refusal.{Refusal}
 use Rattle.model.specs.declared.Judgement.{Judgement}
 use Rattle.model.specs.declared.Record.{Record}
 use Rattle.model.specs.declared.Admission.{Admission}
@@ -13,6 +16,7 @@ use Rattle.model.specs.declared.Loaded.{Loaded}
 use Rattle.model.specs.Limits.{taskLimit, budgetBytes, taskBytes, endBytes}
 use Rattle.model.specs.Tasks.{judged}
 use Rattle.model.specs.TableFile.{Found, nothing, unknown, found, recordAt, refuse, admit, whole, readRecord, readFrom, readFirst, formOf, judgedTable, judgedForm, loadedFrom}
+use Rattle.model.specs.Report.{Exported, refused}
 use Rattle.wellformed.specs.Refused as table
 use Rattle.wellformed.specs.Refused.{judged-numbered}
 
@@ -66,3 +70,10 @@ module _ (s : List ℕ) where
       go : (a : Admission) → Numbered a → Numbered (judgedForm (formOf s) a .admission)
       go (Admission.Refused r) h = form-numbered
       go Admission.Admitted h = table-numbered (judged (formOf s .table)) (judged-numbered (formOf s .table))
+
+-- A number up to `most`, or that of a refusal, of which the buffer knows nothing.
+abbrev pub Apart : ℕ → List ℕ → Exported → Type 0
+Apart most buffer e = (e .number ≤ most) ⊎ ((65536 ≤ e .number) × (e .buffer ≡ buffer))
+
+pub refused-apart : {most : ℕ} {buffer : List ℕ} (r : Refusal) → 0 < r .number → Apart most buffer (refused r buffer)
+refused-apart r h = inr (omega arith, refl)
