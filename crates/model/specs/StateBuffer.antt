@@ -47,7 +47,7 @@ abbrev pub stepWritten : List ℕ → State → Given → Exported
 stepWritten buffer d (Given.Refused r) = refused r buffer
 stepWritten buffer d (Given.Slot u) = record { number = u .owner; buffer = bufferOf d u }
 
--- The order of the refusals: 50 for a buffer of another length, told as far as a place can; the file's form; then the table's and the step's.
+-- The order of the refusals: 50 for a buffer of another length, at its length or the largest place; the file's form; the table; the state.
 abbrev pub onFile : List ℕ → List ℕ → (Table → Exported) → Exported
 onFile file buffer go =
     let strange = Admission.Refused (record { number = 50; place = min (length buffer) 65535 }) in
