@@ -180,10 +180,13 @@ fn late_tables() -> Vec<(&'static str, Vec<Task>)> {
         (6, 40, 40), (1, 110, 110), (2, 112, 112), (3, 91, 91), (3, 84, 84), (4, 99, 99), (1453, 25565, 25740),
     ];
     let at = |offset: u32, rows: &[(u32, u32, u32)]| rows.iter().map(|&(c, d, t)| task(offset, c, d, t)).collect::<Vec<_>>();
+    let mut dense: Vec<Task> = (0..15).map(|i| task(i, 1, 16, 16)).collect();
+    dense.push(task(0, 3750, 59759, 60000));
     vec![
         ("late, 4 tasks", at(500, &late4)),
         ("late, 16 tasks, long periods", at(500, &late16)),
         ("late, 16 tasks, short periods", at(500, &short16)),
+        ("late, 16 tasks, a release a slot", dense),
     ]
 }
 

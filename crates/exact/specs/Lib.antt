@@ -1,4 +1,5 @@
 pub mod Closed
+pub mod Light
 pub mod Starts
 pub mod Walked
 pub mod Walking

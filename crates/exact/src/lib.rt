@@ -2,12 +2,12 @@
 ghost use mathlib.Core.Path.{_≡_};
 ghost use Prim.Native.Nat.{ℕ, _-_, _≤_, _<_, max, min};
 ghost use Rattle.model.specs.declared.Judgement.{Judgement};
-ghost use Rattle.model.specs.Tasks.{task, judged};
+ghost use Rattle.model.specs.Tasks.{judged};
 ghost use Rattle.model.specs.Demand.{jobsIn, demand};
 ghost use Rattle.model.specs.Verdict.{brief as briefly, Permitted};
 ghost use Rattle.wellformed.specs.Ranges.{InRange, Ranged};
 ghost use Rattle.wellformed.specs.WellFormed.{horizonLimit};
-ghost use Rattle.exact.specs.Starts.{NoRelease};
+ghost use Rattle.exact.specs.Starts.{NoRelease, PassedOver};
 ghost use Rattle.exact.specs.Walked.{notedOf, emptied, emptyOf, concluded};
 use model::Answer;
 use model::Empty;
@@ -75,17 +75,21 @@ fn release_before(k: Task, from: u64) -> u64
     offset + (from - offset - 1) / period * period
 }
 
-// The latest release of any task before `from`, or 0: a start between the two has the demand of `from`.
-fn start_before(t: Table, from: u64) -> u64
+// The next start to look at, where the interval from `from` leaves some slots to spare: the latest release before it, or 0, of a
+// task that is not too light for them.
+fn start_before(t: Table, from: u64, spare: u64) -> u64
     requires { ⌜ Ranged t ⌝ }
-    ensures { λ r. ⌜ (0 < from → r < from) × ((i : ℕ) → i < t .count → NoRelease (task t i) r from) ⌝ }
+    ensures { λ r. ⌜ (0 < from → r < from) × ((i : ℕ) → i < t .count → PassedOver t spare r from i) ⌝ }
 {
     let n = t.count;
     let mut start: u64 = 0;
     for i in 0..n {
-        let release = release_before(t.tasks[i], from);
-        if start < release {
-            start = release;
+        let task = t.tasks[i];
+        if spare < n as u64 * to_u64(task.cost) {
+            let release = release_before(task, from);
+            if start < release {
+                start = release;
+            }
         }
     }
     start
@@ -205,7 +209,7 @@ fn walk(t: Table, m: Measure, budget: u64) -> Answer
         } else {
             from = at;
             while from > 0 {
-                from = start_before(t, from);
+                from = start_before(t, from, at - from - asked);
                 asked = demand(t, from, at);
                 if asked > at - from {
                     break 'search;

@@ -8,6 +8,7 @@ use native.Mathlib.Omega.{arith}
 use lib.Dec.{T}
 use borrow.Author.Needs.{needs}
 use Rattle.model.specs.declared.Table.{Table}
+use Rattle.model.specs.Tasks.{round, load}
 use Rattle.model.specs.Demand.{demand, asksTooMuch}
 use Rattle.wellformed.specs.WellFormed.{WellFormed, well-formed}
 use Rattle.backlog.specs.Decided.{late-at-iff, too-much-iff}
@@ -19,7 +20,7 @@ use Rattle.exact.proofs.walk.Tie as tie
 
 abbrev Inv-loop : tie.InvT-loop
 Inv-loop t m budget n end period cost slack rank wait left worst empty from₀ asked₀ at from asked =
-    (from ≤ at) × (demand t from at ≤ at - from) × ((later : ℕ) → from < later → later < at → T (asksTooMuch t later at) → ⊥)
+    (from ≤ at) × (asked ≡ demand t from at) × (asked ≤ at - from) × ((later : ℕ) → from < later → later < at → T (asksTooMuch t later at) → ⊥)
 
 abbrev μ-loop : tie.MeasureT-loop
 μ-loop t m budget n end period cost slack rank wait left worst empty from₀ asked₀ at from asked = from
@@ -53,6 +54,9 @@ facts c = well-formed _ _ (c .before .before .before .before .before .before .be
 
 abbrev table : tie.At-search Inv-loop μ-loop Inv-search μ-search → Table
 table c = c .before .before .before .before .before .before .before .before .args .t
+
+light : (c : tie.At-search Inv-loop μ-loop Inv-search μ-search) → load (table c) ≤ round (table c)
+light c = let f = facts c in omega (arith, c .before .before .before .before .before .before .before .before .pre .1, f .load-is, f .round-is)
 
 -- Where the search stood before the turn.
 abbrev home : tie.After-struct-known Inv-loop μ-loop Inv-search μ-search → tie.At-search Inv-loop μ-loop Inv-search μ-search
@@ -122,18 +126,27 @@ found c =
     let (from, x) = late-at-iff _ _ .0 h in
     let y = too-much-iff _ from _ .0 x in
     elim (decLt (c .before .loop .from) from) [
-      | yes p ↦ v .2 from p (y .0) x
-      | no p ↦ omega (arith, y .1, v .1, ap (λ (u : ℕ). demand (table a) u (a .search .at)) (let e : from ≡ c .before .loop .from = omega (arith, c .loop-test .left) in e))
+      | yes p ↦ v .3 from p (y .0) x
+      | no p ↦ omega (arith, y .1, v .1, v .2, ap (λ (u : ℕ). demand (table a) u (a .search .at)) (let e : from ≡ c .before .loop .from = omega (arith, c .loop-test .left) in e))
     ]
 
 loop-holds : tie.Need-loop-holds Inv-loop μ-loop Inv-search μ-search
-loop-holds c = let a = home (c .before) in (omega arith, omega (arith, demand-none _ (facts a .ranged) (a .search .at)), λ later x y. absurd (omega arith))
+loop-holds c =
+    let a = home (c .before) in
+    let none = demand-none _ (facts a .ranged) (a .search .at) in
+    (omega arith, a .search .inv .2 ∙ sym none, omega (arith, a .search .inv .2), λ later x y. absurd (omega arith))
 
 search-less-2 : tie.Need-search-less-2 Inv-loop μ-loop Inv-search μ-search
 search-less-2 c = absurd (found c)
 
 search-again-2 : tie.Need-search-again-2 Inv-loop μ-loop Inv-search μ-search
 search-again-2 c = absurd (found c)
+
+sub-start-before : tie.Need-sub-start-before Inv-loop μ-loop Inv-search μ-search
+sub-start-before c = c .before .loop .inv .0
+
+sub-start-before-2 : tie.Need-sub-start-before-2 Inv-loop μ-loop Inv-search μ-search
+sub-start-before-2 c = c .before .loop .inv .2
 
 start-before-requires : tie.Need-start-before-requires Inv-loop μ-loop Inv-search μ-search
 start-before-requires c κs = facts (home (c .before .before .before)) .ranged
@@ -161,8 +174,9 @@ loop-again c =
     let a = home (b .before .before .before .before) in
     let asked = c .before .demand .ensures in (
       omega (arith, down b, v .0),
-      omega (arith, asked, c .if3 .left),
-      none-between (table a) (facts a .ranged) (v .0) (v .1) (v .2) (b .start-before .ensures .1),
+      asked,
+      c .if3 .left,
+      none-between (table a) (facts a .ranged) (light a) (v .0) (omega (arith, v .1, v .2)) (b .start-before .ensures .1) (v .3),
     )
 
 conclude-requires : tie.Need-conclude-requires Inv-loop μ-loop Inv-search μ-search
@@ -177,7 +191,7 @@ returns c =
     let seen = c .before .before .before .serve .ensures in
     rw (c .conclude .ensures) (elim (c .before .if1 .came) [
       | inl (if1, if2, from, asked) ↦ rw (asked, i .2) (permitted-quiet (s .args .t) (s .args .m) (s .args .budget) (s .pre .0) (s .pre .1) (i .3) (c .before .if1 .from) (none-found _ (f .ranged) _ (f .horizon-is) (i .0) (i .3) seen (not-late (if1 .taken))) (if2 .taken ∙ i .0 .end-is))
-      | inr (if1, loop, test, start, asks, if3, from, asked) ↦ rw (from, asked) (permitted-late (s .args .t) (s .args .m) (s .args .budget) (s .pre .0) (s .pre .1) (i .3) _ _ (omega (arith, i .0 .end-is)) (one-found _ (f .ranged) _ (f .horizon-is) (i .0) (i .3) seen (is-late (if1 .left))) (omega (arith, loop .inv .0, start .ensures .0 (test .taken))) (asks .ensures) (if3 .taken) (none-between (s .args .t) (f .ranged) (loop .inv .0) (loop .inv .1) (loop .inv .2) (start .ensures .1)))
+      | inr (if1, loop, test, start, asks, if3, from, asked) ↦ rw (from, asked) (permitted-late (s .args .t) (s .args .m) (s .args .budget) (s .pre .0) (s .pre .1) (i .3) _ _ (omega (arith, i .0 .end-is)) (one-found _ (f .ranged) _ (f .horizon-is) (i .0) (i .3) seen (is-late (if1 .left))) (omega (arith, loop .inv .0, start .ensures .0 (test .taken))) (asks .ensures) (if3 .taken) (none-between (s .args .t) (f .ranged) (light a) (loop .inv .0) (omega (arith, loop .inv .1, loop .inv .2)) (start .ensures .1) (loop .inv .3)))
     ])
 
 pub walk-spec : {M : Type 1} → statement M
@@ -201,6 +215,8 @@ walk-spec =
     loop-holds
     search-less-2
     search-again-2
+    sub-start-before
+    sub-start-before-2
     start-before-requires
     demand-requires
     sub-if3
