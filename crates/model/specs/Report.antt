@@ -66,7 +66,7 @@ abbrev pub outcomeTold : {A : Type 0} → (Refusal → A) → (List ℕ → A) �
 outcomeTold refuse tell n a (Outcome.Refused r) = refuse r
 outcomeTold refuse tell n a (Outcome.Tested v) = tell (reportOf n a v)
 
--- What a file may be told as: the refusal of its form or table, or the outcome of the permitted answer.
+-- What a file may be told as: the refusal of its form or table, or of a short buffer, or the outcome of the permitted answer.
 abbrev pub FileTold : {A : Type 0} → (Refusal → A) → (List ℕ → A) → Loaded → A → Admission → Type 0
 FileTold refuse tell l x (Admission.Refused r) = x ≡ refuse r
 FileTold refuse tell l x Admission.Admitted = (a : Answer) × Permitted (l .table) (l .budget) a × (x ≡ outcomeTold refuse tell (l .table .count) a (a .outcome))

@@ -82,7 +82,7 @@ pub enum Record {
     End,
 }
 
-// Whether a file, or a table to start with, is taken.
+// Whether a buffer, a file, or a table to start with, is taken.
 pub enum Admission {
     Refused(Refusal),
     Admitted,

@@ -4,10 +4,11 @@ use mathlib.Core.Path.{_≡_, refl, sym, ap, _∙_}
 use mathlib.Core.Logic.{_⊎_}
 use mathlib.Core.List.{List}
 use mathlib.Core.Bool.{Bool, false, not}
-use Prim.Native.Nat.{ℕ, suc, min, _≤_}
+use Prim.Native.Nat.{ℕ, suc, min, _≤_, _<_}
 use lib.Dec.{eqb}
 use lib.ListN.{length, replicate, length-replicate}
 use Rattle.model.specs.declared.Table.{Table}
+use Rattle.model.specs.declared.Refusal.{Refusal}
 use Rattle.model.specs.declared.Measure.{Measure}
 use Rattle.model.specs.declared.Judgement.{Judgement}
 use Rattle.model.specs.declared.Admission.{Admission}
@@ -37,12 +38,12 @@ strange-start-buffer file buffer e = rw (e, onFile)
 pub strange-step-buffer : (file buffer : List ℕ) (done : ℕ) → eqb (length buffer) stateBytes ≡ false → stepExported file buffer done ≡ refused (record { number = 50; place = min (length buffer) 65535 }) buffer
 strange-step-buffer file buffer done e = rw (e, onFile)
 
--- The number tells whether it was refused: a start that is taken returns 0 and a step its owner, which is a task or 16; a
--- refusal is 65,536 or more, and no byte of the buffer has changed.
-pub start-or-refusal : (file buffer : List ℕ) → let e = startExported file buffer in (e .number ≤ 0) ⊎ ((65536 ≤ e .number) × (e .buffer ≡ buffer))
+-- A start returns 0 and a step at most 16, or it refuses by a number above 0 and a place below 65,536 and changes no byte. What
+-- is returned then tells both (`told-from-number` of Demand1).
+pub start-or-refusal : (file buffer : List ℕ) → let e = startExported file buffer in (e .number ≡ 0) ⊎ ((r : Refusal) × (e ≡ refused r buffer) × ((0 < r .number) × (r .place < 65536)))
 start-or-refusal = start-apart
 
-pub step-or-refusal : (file buffer : List ℕ) (done : ℕ) → let e = stepExported file buffer done in (e .number ≤ taskLimit) ⊎ ((65536 ≤ e .number) × (e .buffer ≡ buffer))
+pub step-or-refusal : (file buffer : List ℕ) (done : ℕ) → let e = stepExported file buffer done in (e .number ≤ taskLimit) ⊎ ((r : Refusal) × (e ≡ refused r buffer) × ((0 < r .number) × (r .place < 65536)))
 step-or-refusal = step-apart
 
 -- A camera's loop with a well-formed table's file and any done reports: the start returns 0, and step n returns the owner of

@@ -2,12 +2,12 @@
 -- That no call traps or runs on is what being proved means, and is not said again. Each contract is an equation with, or a
 -- permission by, the model's own word, for every input; so the theorems here speak of these words.
 use mathlib.Core.Path.{_≡_, refl, sym, subst, _∙_}
-use mathlib.Core.Logic.{_⊎_, inl}
+use mathlib.Core.Logic.{_⊎_, inl, inr}
 use mathlib.Core.List.{List, [], _∷_}
 use mathlib.Core.Bool.{Bool, true, false, cond}
-use Prim.Native.Nat.{ℕ, suc, _+_, _≤_, _<_}
+use Prim.Native.Nat.{ℕ, suc, _+_, _/_, _%_, _≤_, _<_}
 use native.Mathlib.Omega.{arith}
-use borrow.Author.Tests.{eqb-true, lt-ltb, le-ltb}
+use borrow.Author.Tests.{eqb-true, ltb-true, lt-ltb, le-ltb}
 use lib.Dec.{leb, ltb, eqb}
 use lib.ListN.{length, getD, take}
 use Rattle.model.specs.declared.Table.{Table}
@@ -31,12 +31,13 @@ use Rattle.dispatch.specs.declared.Dispatcher.{Dispatcher}
 use Rattle.dispatch.specs.declared.Started.{Started}
 use Rattle.dispatch.specs.declared.Stepped.{Stepped}
 use Rattle.dispatch.specs.State.{stateOf, startedOf, steppedOf, one-started, one-stepped}
-use Rattle.model.specs.Report.{Exported, refused, written, outcomeTold, FileTold, Checked, refusalLine, Printed}
+use Rattle.model.specs.Report.{reportOf, Exported, refused, written, outcomeTold, FileTold, Checked, refusalLine, Printed}
 use Rattle.backlog.specs.Answers.{permitted-unique}
 use Rattle.backlog.specs.Computed.{answerOf, computed}
 use Rattle.tablefile.specs.Longer.{first-bytes}
-use Rattle.tablefile.specs.Refused.{Numbered, load-numbered, Apart, refused-apart}
+use Rattle.tablefile.specs.Refused.{AdmissionTellable, load-tellable}
 use Rattle.report.specs.Permitted.{Fitting, permitted-fits}
+use Rattle.statebuffer.specs.Told.{Apart}
 
 -- Judging a table, reading a file's form, loading it, starting and stepping have one permitted result each, for every input.
 pub one-judgement : (t : Table) (a b : Judgement) → a ≡ judged t → b ≡ judged t → a ≡ b
@@ -61,10 +62,14 @@ one-answer = permitted-unique
 pub some-answer : (t : Table) (budget : ℕ) → (a : Answer) × Permitted t budget a
 some-answer t budget = (answerOf t budget, computed t budget)
 
--- A file is told as one thing, and a refused one as its refusal.
+-- A file is told as one thing and as some thing, and a refused one as its refusal.
 told-once : {A : Type 0} (refuse : Refusal → A) (tell : List ℕ → A) (l : Loaded) (x y : A) (a : Admission) → FileTold refuse tell l x a → FileTold refuse tell l y a → x ≡ y
 told-once refuse tell l x y (Admission.Refused r) e f = e ∙ sym f
 told-once refuse tell l x y Admission.Admitted (a, p, e) (b, q, f) = let s : a ≡ b = permitted-unique (l .table) (l .budget) a b p q in e ∙ rw s (sym f)
+
+told-some : {A : Type 0} (refuse : Refusal → A) (tell : List ℕ → A) (l : Loaded) (a : Admission) → (x : A) × FileTold refuse tell l x a
+told-some refuse tell l (Admission.Refused r) = (refuse r, refl)
+told-some refuse tell l Admission.Admitted = let a = answerOf (l .table) (l .budget) in (outcomeTold refuse tell (l .table .count) a (a .outcome), (a, computed (l .table) (l .budget), refl))
 
 told-refused : {A : Type 0} (refuse : Refusal → A) (tell : List ℕ → A) (l : Loaded) (x : A) (r : Refusal) (a : Admission) → a ≡ Admission.Refused r → FileTold refuse tell l x a → x ≡ refuse r
 told-refused refuse tell l x r (Admission.Refused w) q e = let s : w ≡ r = cc in e ∙ rw s
@@ -78,26 +83,41 @@ taken file buffer = cond (ltb (length buffer) reportBytes) (Admission.Refused (r
 pub one-export : (file buffer : List ℕ) (e f : Exported) → Checked file buffer e → Checked file buffer f → e ≡ f
 one-export file buffer e f = told-once (λ r. refused r buffer) (λ s. written s buffer) (loadedFrom file) e f (taken file buffer)
 
--- The number tells a report from a refusal: up to 512 it is the report's length, and from 65,536 on a refusal, of which the
--- buffer knows nothing.
-outcome-apart : (buffer : List ℕ) (n : ℕ) (a : Answer) (o : Outcome) → Fitting n a o → Apart reportBytes buffer (outcomeTold (λ r. refused r buffer) (λ s. written s buffer) n a o)
-outcome-apart buffer n a (Outcome.Refused r) h = refused-apart r h
-outcome-apart buffer n a (Outcome.Tested v) h = inl h
+pub some-export : (file buffer : List ℕ) → (e : Exported) × Checked file buffer e
+some-export file buffer = told-some (λ r. refused r buffer) (λ s. written s buffer) (loadedFrom file) (taken file buffer)
 
-told-apart : (buffer : List ℕ) (l : Loaded) (e : Exported) (a : Admission) → Numbered a → FileTold (λ r. refused r buffer) (λ s. written s buffer) l e a → Apart reportBytes buffer e
-told-apart buffer l e (Admission.Refused r) h q = rw q (refused-apart {most = reportBytes} {buffer = buffer} r h)
+-- What is returned and left is that of a report of at most 512 bytes.
+abbrev Reported : List ℕ → Exported → Type 0
+Reported buffer e = (report : List ℕ) × (e ≡ written report buffer) × (length report ≤ reportBytes)
+
+outcome-apart : (buffer : List ℕ) (n : ℕ) (a : Answer) (o : Outcome) → Fitting n a o → Apart (Reported buffer) buffer (outcomeTold (λ r. refused r buffer) (λ s. written s buffer) n a o)
+outcome-apart buffer n a (Outcome.Refused r) h = inr (r, refl, h)
+outcome-apart buffer n a (Outcome.Tested v) h = inl (reportOf n a v, refl, h)
+
+told-apart : (buffer : List ℕ) (l : Loaded) (e : Exported) (a : Admission) → AdmissionTellable a → FileTold (λ r. refused r buffer) (λ s. written s buffer) l e a → Apart (Reported buffer) buffer e
+told-apart buffer l e (Admission.Refused r) h q = inr (r, q, h)
 told-apart buffer l e Admission.Admitted h (a, p, q) = rw q (outcome-apart buffer (l .table .count) a (a .outcome) (permitted-fits (l .table) (l .budget) a p))
 
-pub report-or-refusal : (file buffer : List ℕ) (e : Exported) → Checked file buffer e → (e .number ≤ reportBytes) ⊎ ((65536 ≤ e .number) × (e .buffer ≡ buffer))
-report-or-refusal file buffer e = told-apart buffer (loadedFrom file) e (taken file buffer) (numbered (ltb (length buffer) reportBytes))
+-- The exported call writes a report of at most 512 bytes and returns its length, or it refuses by a number above 0 and a place
+-- below 65,536 and changes no byte.
+pub report-or-refusal : (file buffer : List ℕ) (e : Exported) → Checked file buffer e
+    → ((report : List ℕ) × (e ≡ written report buffer) × (length report ≤ reportBytes)) ⊎ ((r : Refusal) × (e ≡ refused r buffer) × ((0 < r .number) × (r .place < 65536)))
+report-or-refusal file buffer e = told-apart buffer (loadedFrom file) e (taken file buffer) (tellable (ltb (length buffer) reportBytes) refl)
   where
-    numbered : (short : Bool) → Numbered (cond short (Admission.Refused (record { number = 30; place = length buffer })) (loadedFrom file .admission))
-    numbered true = omega arith
-    numbered false = load-numbered file
+    tellable : (short : Bool) → ltb (length buffer) reportBytes ≡ short → AdmissionTellable (cond short (Admission.Refused (record { number = 30; place = length buffer })) (loadedFrom file .admission))
+    tellable true q = (omega arith, omega (arith, ltb-true (length buffer) reportBytes q))
+    tellable false q = load-tellable file
 
--- So has the program: one permitted output for every input.
+-- What an exported call returns of such a refusal tells its number and its place.
+pub told-from-number : (r : Refusal) (buffer : List ℕ) → r .place < 65536 → (refused r buffer .number / 65536 ≡ r .number) × (refused r buffer .number % 65536 ≡ r .place)
+told-from-number r buffer h = (omega arith, omega arith)
+
+-- The program too has one permitted output for every input.
 pub one-print : (input out out′ : List ℕ) → Printed input out → Printed input out′ → out ≡ out′
 one-print input out out′ = told-once refusalLine (λ s. s) (loadedFrom input) out out′ (loadedFrom input .admission)
+
+pub some-print : (input : List ℕ) → (out : List ℕ) × Printed input out
+some-print input = told-some refusalLine (λ s. s) (loadedFrom input) (loadedFrom input .admission)
 
 -- It reads one byte more than the longest legal file has, and what it prints of these is permitted of the whole input.
 pub whole-input : (input out : List ℕ) → Printed (take (suc longestFile) input) out → Printed input out

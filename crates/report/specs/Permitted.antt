@@ -1,4 +1,4 @@
--- What a permitted answer tells: a refusal by a number above 0, or a verdict whose report fits a report buffer.
+-- What a permitted answer tells: a refusal of which number and place can be told, or a verdict whose report fits a report buffer.
 use mathlib.Core.Path.{_≡_, refl, sym, subst}
 use mathlib.Core.List.{List}
 use Prim.Native.Nat.{ℕ, _^_, _≤_, _<_}
@@ -6,7 +6,7 @@ use native.Mathlib.Nat.{mul-le-mul}
 use native.Mathlib.Decide.{decLt}
 use native.Mathlib.Omega.{arith}
 use borrow.Author.Tests.{lt-ltb, le-ltb}
-use lib.ListN.{length, getD, replicate, getD-replicate}
+use lib.ListN.{length, getD, getD-replicate}
 use Rattle.model.specs.declared.Table.{Table}
 use Rattle.model.specs.declared.Measure.{Measure}
 use Rattle.model.specs.declared.Judgement.{Judgement}
@@ -20,7 +20,7 @@ use Rattle.model.specs.Verdict.{needed, lateStart, verdict, settledBy, emptyIn,
 use Rattle.model.specs.Report.{reportOf}
 use Rattle.counting.specs.Sum.{sum-bound}
 use Rattle.wellformed.specs.Round.{share, share-le}
-use Rattle.wellformed.specs.Refused.{Numbered, judged-numbered}
+use Rattle.wellformed.specs.Refused.{Tellable, JudgementTellable, judged-tellable}
 use Rattle.wellformed.specs.WellFormed.{horizonLimit, WellFormed, well-formed}
 use Rattle.wellformed.specs.Demand.{demand-le}
 use Rattle.backlog.specs.Decided.{too-much-iff}
@@ -111,16 +111,16 @@ told t budget m a Verdict.Overload f = rw f refl
 told t budget m a (Verdict.Late from to asked) f = rw f refl
 told t budget m a Verdict.Undecided f = rw f refl
 
--- A refusal has a number above 0, and the report of a verdict fits.
+-- A refusal is tellable, and the report of a verdict fits.
 abbrev pub Fitting : ℕ → Answer → Outcome → Type 0
-Fitting n a (Outcome.Refused r) = 0 < r .number
+Fitting n a (Outcome.Refused r) = Tellable r
 Fitting n a (Outcome.Tested v) = length (reportOf n a v) ≤ reportBytes
 
 pub permitted-fits : (t : Table) (budget : ℕ) (a : Answer) → Permitted t budget a → Fitting (t .count) a (a .outcome)
 unfolding Permitted
-permitted-fits t budget a p = go (judged t) refl p (judged-numbered t)
+permitted-fits t budget a p = go (judged t) refl p (judged-tellable t)
   where
-    go : (j : Judgement) → judged t ≡ j → Judged t budget a j → Numbered j → Fitting (t .count) a (a .outcome)
+    go : (j : Judgement) → judged t ≡ j → Judged t budget a j → JudgementTellable j → Fitting (t .count) a (a .outcome)
     go (Judgement.Refused r) q f h = rw f h
     go (Judgement.WellFormed m) q f h =
         subst (Fitting (t .count) a) (sym (told t budget m a (verdict t budget) f)) (fits (t .count) a (verdict t budget) (printable t m (well-formed t m q) budget a (verdict t budget) refl f))

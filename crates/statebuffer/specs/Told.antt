@@ -1,13 +1,15 @@
--- The number that a start or a step returns tells whether it refused, and a refusal changes no byte of the buffer.
+-- What an exported call returns tells whether it refused, and why; a refusal changes no byte of the buffer.
 use mathlib.Core.Path.{_≡_, refl}
 use mathlib.Core.Logic.{_⊎_, inl, inr}
 use mathlib.Core.List.{List}
 use mathlib.Core.Bool.{Bool, true, false, cond, not}
 use Prim.Native.Nat.{ℕ, min, _≤_, _<_}
 use native.Mathlib.Omega.{arith}
+use borrow.Author.Tests.{ltb-true}
 use lib.Dec.{eqb, ltb}
 use lib.ListN.{length}
 use Rattle.model.specs.declared.Table.{Table}
+use Rattle.model.specs.declared.Refusal.{Refusal}
 use Rattle.model.specs.declared.Judgement.{Judgement}
 use Rattle.model.specs.declared.Admission.{Admission}
 use Rattle.model.specs.Limits.{taskLimit}
@@ -17,34 +19,45 @@ use Rattle.model.specs.Dispatcher.{State, firstStrange, lastStrange, ownerNow, 
 use Rattle.model.specs.Report.{Exported, refused}
 use Rattle.model.specs.StateBuffer.{stateBytes, stateIn, startWritten, stepWritten, onFile, startExported, stepExported}
 use Rattle.wellformed.specs.WellFormed.{well-formed}
-use Rattle.wellformed.specs.Refused as table
-use Rattle.wellformed.specs.Refused.{judged-numbered}
-use Rattle.tablefile.specs.Refused.{Numbered, form-numbered, Apart, refused-apart}
+use Rattle.wellformed.specs.Refused.{Tellable, JudgementTellable, judged-tellable}
+use Rattle.tablefile.specs.Refused.{AdmissionTellable, form-tellable}
 use Rattle.slots.specs.Choice.{choose-range}
 
+-- What is returned and left is a taken call's, or that of a tellable refusal.
+abbrev pub Apart : (Exported → Type 0) → List ℕ → Exported → Type 0
+Apart Taken buffer e = Taken e ⊎ ((r : Refusal) × (e ≡ refused r buffer) × Tellable r)
+
+-- A start that is taken returns 0.
+abbrev TakenStart : Exported → Type 0
+TakenStart e = e .number ≡ 0
+
+-- A step that is taken returns a task or 16.
+abbrev TakenStep : Exported → Type 0
+TakenStep e = e .number ≤ taskLimit
+
 -- The buffer and the form are looked at first.
-module _ (most : ℕ) (file buffer : List ℕ) (go : Table → Exported) (h : (t : Table) → Apart most buffer (go t)) where
-  admission-apart : (a : Admission) → Numbered a → Apart most buffer (elim a [ Admission.Refused r ↦ refused r buffer | Admission.Admitted ↦ go (formOf file .table) ])
-  admission-apart (Admission.Refused r) n = refused-apart r n
+module _ (Taken : Exported → Type 0) (file buffer : List ℕ) (go : Table → Exported) (h : (t : Table) → Apart Taken buffer (go t)) where
+  admission-apart : (a : Admission) → AdmissionTellable a → Apart Taken buffer (elim a [ Admission.Refused r ↦ refused r buffer | Admission.Admitted ↦ go (formOf file .table) ])
+  admission-apart (Admission.Refused r) n = inr (r, refl, n)
   admission-apart Admission.Admitted n = h (formOf file .table)
 
-  file-apart : Apart most buffer (onFile file buffer go)
-  file-apart = admission-apart (cond (eqb (length buffer) stateBytes) (formOf file .admission) strange) (numbered (eqb (length buffer) stateBytes))
+  file-apart : Apart Taken buffer (onFile file buffer go)
+  file-apart = admission-apart (cond (eqb (length buffer) stateBytes) (formOf file .admission) strange) (tellable (eqb (length buffer) stateBytes))
     where
       strange : Admission
       strange = Admission.Refused (record { number = 50; place = min (length buffer) 65535 })
 
-      numbered : (whole : Bool) → Numbered (cond whole (formOf file .admission) strange)
-      numbered true = form-numbered file
-      numbered false = omega arith
+      tellable : (whole : Bool) → AdmissionTellable (cond whole (formOf file .admission) strange)
+      tellable true = form-tellable file
+      tellable false = (omega arith, omega arith)
 
-pub start-apart : (file buffer : List ℕ) → Apart 0 buffer (startExported file buffer)
+pub start-apart : (file buffer : List ℕ) → Apart TakenStart buffer (startExported file buffer)
 unfolding started
-start-apart file buffer = file-apart 0 file buffer (λ t. startWritten buffer (started t .state) (started t .admission)) (λ t. by t (judged t) (judged-numbered t))
+start-apart file buffer = file-apart TakenStart file buffer (λ t. startWritten buffer (started t .state) (started t .admission)) (λ t. by t (judged t) (judged-tellable t))
   where
-    by : (t : Table) (j : Judgement) → table.Numbered j → let s = startJudged t j in Apart 0 buffer (startWritten buffer (s .state) (s .admission))
-    by t (Judgement.Refused r) n = refused-apart r n
-    by t (Judgement.WellFormed m) n = inl (omega arith)
+    by : (t : Table) (j : Judgement) → JudgementTellable j → let s = startJudged t j in Apart TakenStart buffer (startWritten buffer (s .state) (s .admission))
+    by t (Judgement.Refused r) n = inr (r, refl, n)
+    by t (Judgement.WellFormed m) n = inl refl
 
 -- The owner of a slot is a task or none.
 owner-few : (t : Table) (d : State) (done : Bool) → t .count ≤ taskLimit → turn t d done .owner ≤ taskLimit
@@ -55,15 +68,18 @@ owner-few t d done few = go (choose-range _ _ _ (t .count))
     go (inl e) = omega arith
     go (inr l) = omega arith
 
-pub step-apart : (file buffer : List ℕ) (done : ℕ) → Apart taskLimit buffer (stepExported file buffer done)
+pub step-apart : (file buffer : List ℕ) (done : ℕ) → Apart TakenStep buffer (stepExported file buffer done)
 unfolding stepped
-step-apart file buffer done = file-apart taskLimit file buffer (λ t. let s = stepped t (stateIn buffer) (not (eqb done 0)) in stepWritten buffer (s .state) (s .given)) (λ t. by t (stateIn buffer) (not (eqb done 0)) (judged t) refl (judged-numbered t))
+step-apart file buffer done = file-apart TakenStep file buffer (λ t. let s = stepped t (stateIn buffer) (not (eqb done 0)) in stepWritten buffer (s .state) (s .given)) (λ t. by t (stateIn buffer) (not (eqb done 0)) (judged t) refl (judged-tellable t))
   where
-    by : (t : Table) (d : State) (report : Bool) (j : Judgement) → judged t ≡ j → table.Numbered j → let s = stepJudged t d report j in Apart taskLimit buffer (stepWritten buffer (s .state) (s .given))
-    by t d report (Judgement.Refused r) e n = refused-apart r n
+    by : (t : Table) (d : State) (report : Bool) (j : Judgement) → judged t ≡ j → JudgementTellable j → let s = stepJudged t d report j in Apart TakenStep buffer (stepWritten buffer (s .state) (s .given))
+    by t d report (Judgement.Refused r) e n = inr (r, refl, n)
     by t d report (Judgement.WellFormed m) e n = go (ltb (firstStrange t d) (t .count)) (lastStrange t d) refl refl
       where
-        go : (a b : Bool) → ltb (firstStrange t d) (t .count) ≡ a → lastStrange t d ≡ b → let s = stepJudged t d report (Judgement.WellFormed m) in Apart taskLimit buffer (stepWritten buffer (s .state) (s .given))
-        go true b p q = rw p (refused-apart (record { number = 8; place = firstStrange t d }) (omega arith))
-        go false true p q = rw (p, q) (refused-apart (record { number = 8; place = taskLimit }) (omega arith))
-        go false false p q = rw (p, q) (inl (owner-few t d report (well-formed t m e .ranged .few)))
+        few : t .count ≤ taskLimit
+        few = well-formed t m e .ranged .few
+
+        go : (a b : Bool) → ltb (firstStrange t d) (t .count) ≡ a → lastStrange t d ≡ b → let s = stepJudged t d report (Judgement.WellFormed m) in Apart TakenStep buffer (stepWritten buffer (s .state) (s .given))
+        go true b p q = rw p (inr (record { number = 8; place = firstStrange t d }, refl, (omega arith, omega (arith, few, ltb-true (firstStrange t d) (t .count) p))))
+        go false true p q = rw (p, q) (inr (record { number = 8; place = taskLimit }, refl, (omega arith, omega arith)))
+        go false false p q = rw (p, q) (inl (owner-few t d report few))
