@@ -27,9 +27,9 @@ fn deepest(bench: &mut Bench, name: &str, requests: &[Request]) {
     requests.iter().cloned().for_each(|request| bench.ask(request));
 }
 
-/// Sixteen tasks of the longest numbers: they pass, are late after a search over all starts, ask for too much, or are
-/// refused at the end.
-fn hard_tables() -> [Vec<Task>; 6] {
+/// Sixteen tasks of the longest numbers: they pass, are late, ask for too much, or are refused at the end; and tasks with a
+/// release in nearly every slot and none to spare, late after a look at each of them.
+fn hard_tables() -> [Vec<Task>; 7] {
     let passes = vec![Task { offset: 60_000, cost: 3_750, deadline: 60_000, period: 60_000 }; TASKS];
     let (mut late, mut long, mut bad) = (passes.clone(), passes.clone(), passes.clone());
     late.iter_mut().for_each(|task| (task.offset, task.deadline) = (0, 59_999));
@@ -37,7 +37,10 @@ fn hard_tables() -> [Vec<Task>; 6] {
     bad[15].offset = 60_001;
     let whole = |period| Task { offset: 60_000, cost: period, deadline: period, period };
     let heavy = (0..TASKS as u32).map(|task| whole(31_622 + task % 2)).collect();
-    [passes, late, heavy, long, bad, Vec::new()]
+    let ruler = |k: u32| Task { offset: (1 << (k - 1)) - 1, cost: 1, deadline: 1, period: 1 << k };
+    let mut looked: Vec<Task> = (1..15).map(ruler).collect();
+    looked.push(Task { offset: 0, cost: 3, deadline: 49_151, period: 49_152 });
+    [passes, late, heavy, long, bad, Vec::new(), looked]
 }
 
 pub fn hard_files() -> Vec<Vec<u8>> {

@@ -70,7 +70,6 @@ module _ (t : Table) (r : Ranged t) where
 
   -- What slot n does to its owner.
   record Served (n k : ℕ) : Type 0 where
-    below-count : k < t .count
     job : ℕ
     last : below (releaseOf S k) (suc n) ≡ suc job
     early : releaseOf S k job ≤ n
@@ -88,7 +87,6 @@ module _ (t : Table) (r : Ranged t) where
       let (j, b, d, f) = ready-is t r quiet n k (sound t r quiet n) l p in
       let o : owner t (tieOrder t) n ≡ k = sym (owner-agrees t r n a (c n (le-refl (suc n)))) ∙ e in
       record {
-        below-count = l;
         job = j;
         last = b;
         early = omega (arith, lt-below (releaseOf S k) ((jobs S) .rel-grows k l) (suc n) j .0 (omega arith));

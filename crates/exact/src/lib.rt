@@ -176,7 +176,8 @@ fn smaller(x: u64, y: u64) -> u64
     if x < y { x } else { y }
 }
 
-// Slot by slot to the end, or to the first late deadline: there, downwards, to the largest start that asks too much.
+// Slot by slot to the end, or to the first late deadline: there, downwards, to the largest start that asks too much. At the end
+// one slot more is begun, to see whether a job is late there.
 fn walk(t: Table, m: Measure, budget: u64) -> Answer
     requires { ⌜ judged t ≡ Judgement.WellFormed m ⌝ }
     requires { ⌜ m .load ≤ m .round ⌝ }
