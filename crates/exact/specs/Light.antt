@@ -1,6 +1,6 @@
 -- Where the load is at most 1, the jobs released in x slots ask for little more than x: no more than one job of each task.
 use mathlib.Core.Path.{_≡_, sym, _∙_}
-use Prim.Native.Nat.{ℕ, suc, _+_, _-_, _*_, _/_, _≤_, _<_}
+use Prim.Native.Nat.{ℕ, _+_, _-_, _*_, _/_, _≤_, _<_}
 use native.Mathlib.Nat.{le-refl, mul-comm, mul-mul-mul-comm, add-mul, mul-le-mul, mul-le-mul-left, le-of-mul-le-mul-left, div-mul-le-self, div-mul-cancel, lt-div-mul-add}
 use native.Mathlib.Decide.{decLt}
 use native.Mathlib.Omega.{arith}
@@ -14,12 +14,13 @@ use Rattle.wellformed.specs.Ranges.{InRange, Ranged}
 use Rattle.wellformed.specs.Round.{round-pos, period-divides, share}
 use Rattle.exact.specs.Closed.{releases}
 
--- Of whole periods alone: C · (x / T), summed, is at most x.
+-- For H = q · p and b periods p within x slots.
 cross : (c b q p x : ℕ) → b * p ≤ x → q * p * (c * b) ≤ x * (c * q)
 cross c b q p x h =
     let e : q * p * (c * b) ≡ b * p * (c * q) = rw (mul-comm c b, mul-comm c q) (mul-mul-mul-comm q p b c ∙ rw (mul-comm q b) (sym (mul-mul-mul-comm b p q c))) in
     rw e (mul-le-mul h (le-refl (c * q)))
 
+-- Of whole periods alone: C · (x / T), summed, is at most x.
 pub shares-le : (t : Table) → Ranged t → load t ≤ round t → (x : ℕ) → sum (t .count) (share t x) ≤ x
 unfolding load
 shares-le t r light x =
