@@ -27,8 +27,8 @@ fn deepest(bench: &mut Bench, name: &str, requests: &[Request]) {
     requests.iter().cloned().for_each(|request| bench.ask(request));
 }
 
-/// Sixteen tasks of the longest numbers: they pass, are late, ask for too much, or are refused at the end; and tasks with a
-/// release in nearly every slot and none to spare, late after a look at each of them.
+/// Sixteen tasks of the longest numbers: they pass, are late, are overloaded, or are refused at the end; no task; and tasks
+/// with a release in nearly every slot and at most two slots to spare, late after a look at each release.
 fn hard_tables() -> [Vec<Task>; 7] {
     let passes = vec![Task { offset: 60_000, cost: 3_750, deadline: 60_000, period: 60_000 }; TASKS];
     let (mut late, mut long, mut bad) = (passes.clone(), passes.clone(), passes.clone());

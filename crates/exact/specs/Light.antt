@@ -31,7 +31,7 @@ shares-le t r light x =
     each : (i : ℕ) → i < t .count → round t * share t x i ≤ x * share t (round t) i
     each i l = rw (div-mul-cancel (task t i .period) (period-divides t r i l)) at (cross (task t i .cost) (x / task t i .period) (round t / task t i .period) (task t i .period) x (div-mul-le-self x (task t i .period)))
 
--- The jobs of a task released from `later` on and before `from`: one, and one more for each whole period between.
+-- The jobs of a task released from `later` on and before `from`: at most one, and one more for each whole period between.
 pub new-le : (k : Task) → InRange k → (later from : ℕ) → later < from → below (release k) from ≤ below (release k) later + (1 + (from - later - 1) / k .period)
 new-le k r later from h = below-most (release k) (releases k r) from _ (λ j l. elim (decLt j (below (release k) later + (1 + (from - later - 1) / k .period))) [
   | yes p ↦ p

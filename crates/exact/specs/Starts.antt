@@ -33,7 +33,8 @@ module _ (k : Task) (r : InRange k) where
   pub no-release : (from : ℕ) → NoRelease k (k .offset + (from - k .offset - 1) / k .period * k .period) from
   no-release from j h = omega (arith, mul-le-mul {n₁ = j} {n₂ = (from - k .offset - 1) / k .period} {m₂ = k .period} (le-div-iff-mul-le (r .period-pos) .1 (omega arith)) (le-refl (k .period)))
 
-  -- An interval that starts between has the same jobs, and else one more, and one for each whole period between.
+  -- An interval that starts between has the same jobs; one that starts at any earlier instant has at most one more, and one for
+  -- each whole period between.
   jobs-same : (start later from to : ℕ) → NoRelease k start from → start < later → later ≤ from → jobsIn k later to ≡ jobsIn k from to
   unfolding jobsIn
   jobs-same start later from to q a b =
@@ -53,12 +54,11 @@ pub demand-none : (t : Table) → Ranged t → (to : ℕ) → demand t to to ≡
 unfolding demand
 demand-none t r to = sum-zero (t .count) _ (λ i l. rw (jobs-none (task t i) (r .each i l) to) (omega arith))
 
--- A start between needs no look for task i: the task is too light to fill its part of the spare slots with one job, or has no
--- release there.
+-- A start between needs no look for task i: one job of it costs at most an n-th of the spare slots, or none is released there.
 abbrev pub PassedOver : Table → ℕ → ℕ → ℕ → ℕ → Type 0
 PassedOver t spare start from i = (t .count * task t i .cost ≤ spare) ⊎ NoRelease (task t i) start from
 
--- Where the load is at most 1, an interval from `from` that leaves some slots to spare says so of all starts down to `start`.
+-- Where the load is at most 1 and the interval from `from` leaves some slots to spare, no start between the two asks too much.
 module _ (t : Table) (r : Ranged t) (light : load t ≤ round t) {start from to spare : ℕ} (h : from ≤ to) (left : demand t from to + spare ≡ to - from) (passed : (i : ℕ) → i < t .count → PassedOver t spare start from i) where
   -- A light task's one job.
   abbrev once : ℕ → ℕ

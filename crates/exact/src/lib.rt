@@ -75,8 +75,8 @@ fn release_before(k: Task, from: u64) -> u64
     offset + (from - offset - 1) / period * period
 }
 
-// The next start to look at, where the interval from `from` leaves some slots to spare: the latest release before it, or 0, of a
-// task that is not too light for them.
+// The next start to look at, where the interval from `from` leaves some slots to spare: the latest release before it of a task
+// whose n-fold cost exceeds them, or 0.
 fn start_before(t: Table, from: u64, spare: u64) -> u64
     requires { ⌜ Ranged t ⌝ }
     ensures { λ r. ⌜ (0 < from → r < from) × ((i : ℕ) → i < t .count → PassedOver t spare r from i) ⌝ }

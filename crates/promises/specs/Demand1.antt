@@ -14,6 +14,7 @@ use Rattle.model.specs.declared.Table.{Table}
 use Rattle.model.specs.declared.Refusal.{Refusal}
 use Rattle.model.specs.declared.Measure.{Measure}
 use Rattle.model.specs.declared.Judgement.{Judgement}
+use Rattle.model.specs.declared.Verdict.{Verdict}
 use Rattle.model.specs.declared.Outcome.{Outcome}
 use Rattle.model.specs.declared.Admission.{Admission}
 use Rattle.model.specs.declared.Given.{Given}
@@ -86,22 +87,21 @@ one-export file buffer e f = told-once (λ r. refused r buffer) (λ s. written s
 pub some-export : (file buffer : List ℕ) → (e : Exported) × Checked file buffer e
 some-export file buffer = told-some (λ r. refused r buffer) (λ s. written s buffer) (loadedFrom file) (taken file buffer)
 
--- What is returned and left is that of a report of at most 512 bytes.
-abbrev Reported : List ℕ → Exported → Type 0
-Reported buffer e = (report : List ℕ) × (e ≡ written report buffer) × (length report ≤ reportBytes)
+-- What is returned and left is that of the report on the permitted answer.
+abbrev pub Reported : Loaded → List ℕ → Exported → Type 0
+Reported l buffer e = (a : Answer) × (v : Verdict) × Permitted (l .table) (l .budget) a × (a .outcome ≡ Outcome.Tested v) × (e ≡ written (reportOf (l .table .count) a v) buffer) × (length (reportOf (l .table .count) a v) ≤ reportBytes)
 
-outcome-apart : (buffer : List ℕ) (n : ℕ) (a : Answer) (o : Outcome) → Fitting n a o → Apart (Reported buffer) buffer (outcomeTold (λ r. refused r buffer) (λ s. written s buffer) n a o)
-outcome-apart buffer n a (Outcome.Refused r) h = inr (r, refl, h)
-outcome-apart buffer n a (Outcome.Tested v) h = inl (reportOf n a v, refl, h)
+outcome-apart : (l : Loaded) (buffer : List ℕ) (a : Answer) → Permitted (l .table) (l .budget) a → (o : Outcome) → a .outcome ≡ o → Fitting (l .table .count) a o → Apart (Reported l buffer) buffer (outcomeTold (λ r. refused r buffer) (λ s. written s buffer) (l .table .count) a o)
+outcome-apart l buffer a p (Outcome.Refused r) q h = inr (r, refl, h)
+outcome-apart l buffer a p (Outcome.Tested v) q h = inl (a, v, p, q, refl, h)
 
-told-apart : (buffer : List ℕ) (l : Loaded) (e : Exported) (a : Admission) → AdmissionTellable a → FileTold (λ r. refused r buffer) (λ s. written s buffer) l e a → Apart (Reported buffer) buffer e
+told-apart : (buffer : List ℕ) (l : Loaded) (e : Exported) (a : Admission) → AdmissionTellable a → FileTold (λ r. refused r buffer) (λ s. written s buffer) l e a → Apart (Reported l buffer) buffer e
 told-apart buffer l e (Admission.Refused r) h q = inr (r, q, h)
-told-apart buffer l e Admission.Admitted h (a, p, q) = rw q (outcome-apart buffer (l .table .count) a (a .outcome) (permitted-fits (l .table) (l .budget) a p))
+told-apart buffer l e Admission.Admitted h (a, p, q) = rw q (outcome-apart l buffer a p (a .outcome) refl (permitted-fits (l .table) (l .budget) a p))
 
--- The exported call writes a report of at most 512 bytes and returns its length, or it refuses by a number above 0 and a place
--- below 65,536 and changes no byte.
-pub report-or-refusal : (file buffer : List ℕ) (e : Exported) → Checked file buffer e
-    → ((report : List ℕ) × (e ≡ written report buffer) × (length report ≤ reportBytes)) ⊎ ((r : Refusal) × (e ≡ refused r buffer) × ((0 < r .number) × (r .place < 65536)))
+-- The exported call writes the report on the permitted answer, of at most 512 bytes, and returns its length, or it refuses by a
+-- number above 0 and a place below 65,536 and changes no byte.
+pub report-or-refusal : (file buffer : List ℕ) (e : Exported) → Checked file buffer e → Reported (loadedFrom file) buffer e ⊎ ((r : Refusal) × (e ≡ refused r buffer) × ((0 < r .number) × (r .place < 65536)))
 report-or-refusal file buffer e = told-apart buffer (loadedFrom file) e (taken file buffer) (tellable (ltb (length buffer) reportBytes) refl)
   where
     tellable : (short : Bool) → ltb (length buffer) reportBytes ≡ short → AdmissionTellable (cond short (Admission.Refused (record { number = 30; place = length buffer })) (loadedFrom file .admission))
