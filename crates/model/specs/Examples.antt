@@ -4,7 +4,7 @@ use mathlib.Core.List.{List, [], _∷_, _++_, map}
 use mathlib.Core.Bool.{Bool, true, false}
 use Prim.Native.Nat.{ℕ, zero, suc, _-_, _/_, _%_}
 use lib.ListN.{replicate}
-use Rattle.model.specs.Values.{Task, Table, Judgement, Verdict, Outcome, Empty, Record, Admission, Given}
+use Rattle.model.specs.Values.{Task, Table, Judgement, Verdict, Outcome, Empty, Admission, Given}
 use Rattle.model.specs.Notation.{sum, product, largest, count, first, last, bits, fill, text, digits, decimal}
 use Rattle.model.specs.Limits.{taskLimit, longestFile}
 use Rattle.model.specs.Tasks.{taskFault, firstFaulty, round, load, horizon, refuse, judged}
@@ -12,7 +12,7 @@ use Rattle.model.specs.Demand.{jobsIn, demand, asksTooMuch, lateAt}
 use Rattle.model.specs.Schedule.{given}
 use Rattle.model.specs.Run.{tieOrder, choose, ownerOf, served, owner, run, firstEmpty}
 use Rattle.model.specs.Verdict.{needed, lateStart, verdict, settledBy, emptyIn, brief}
-use Rattle.model.specs.TableFile.{found, recordAt, tableOf, readFrom, formOf, loadedFrom}
+use Rattle.model.specs.TableFile.{eight, taskIn, tableOf, readFrom, formOf, loadedFrom}
 use Rattle.model.specs.Dispatcher.{State, firstStrange, startOf, started, ownerNow, after, turn, stepped}
 use Rattle.model.specs.Report.{worstLines, reportOf, refused, written, Checked, refusalLine}
 use Rattle.model.specs.StateBuffer.{bytesOf, bufferOf, stateIn, startExported, stepExported}
@@ -173,7 +173,7 @@ rowsOfOne zero = []
 rowsOfOne (suc n) = rowOf (of 0 1 1 1) ++ rowsOfOne n
 
 files : (loadedFrom file-b ≡ record { admission = Admission.Admitted; budget = 1000; table = table-b }) × (longestFile ≡ 282)
-unfolding loadedFrom formOf readFrom recordAt judged firstFaulty taskFault first round product load horizon largest sum count
+unfolding loadedFrom formOf readFrom judged firstFaulty taskFault first round product load horizon largest sum count
 files = (refl, refl)
 
 abbrev refusalOf : List ℕ → Admission
@@ -196,7 +196,7 @@ file-refusals :
     ∷ at 26 9 ∷ at 21 9 ∷ at 23 9 ∷ at 20 9
     ∷ at 24 10 ∷ at 24 27 ∷ at 3 0
     ∷ at 1 0 ∷ at 25 281 ∷ at 26 281 ∷ []
-unfolding loadedFrom formOf readFrom recordAt judged firstFaulty taskFault first rowsOfOne
+unfolding loadedFrom formOf readFrom judged firstFaulty taskFault first rowsOfOne
 file-refusals = refl
 
 -- ---- the dispatcher
@@ -294,9 +294,8 @@ exported = (refl, refl, refl)
 
 -- A budget of more than four bytes, and numbers of three and four.
 wide-numbers :
-    (recordAt (1 ∷ 1 ∷ 2 ∷ 3 ∷ 4 ∷ 5 ∷ 6 ∷ 7 ∷ 8 ∷ []) 0 ≡ found (Record.Budget 578437695752307201))
-    × (recordAt (2 ∷ 1 ∷ 0 ∷ 0 ∷ 0 ∷ 0 ∷ 1 ∷ 0 ∷ 0 ∷ 0 ∷ 0 ∷ 1 ∷ 0 ∷ 0 ∷ 0 ∷ 0 ∷ 1 ∷ []) 0 ≡ found (Record.OneTask (of 1 256 65536 16777216)))
-unfolding recordAt
+    (eight (1 ∷ 1 ∷ 2 ∷ 3 ∷ 4 ∷ 5 ∷ 6 ∷ 7 ∷ 8 ∷ []) 1 ≡ 578437695752307201)
+    × (taskIn (2 ∷ 1 ∷ 0 ∷ 0 ∷ 0 ∷ 0 ∷ 1 ∷ 0 ∷ 0 ∷ 0 ∷ 0 ∷ 1 ∷ 0 ∷ 0 ∷ 0 ∷ 0 ∷ 1 ∷ []) 1 ≡ of 1 256 65536 16777216)
 wide-numbers = (refl, refl)
 
 refusal-line : refusalLine (record { number = 21; place = 9 }) ≡ text "refused 21 at 9\n"
@@ -318,7 +317,7 @@ camera-starts :
     × (startExported (9 ∷ []) (7 ∷ []) ≡ record { number = 3276801; buffer = 7 ∷ [] })
     × (startExported (9 ∷ []) (replicate 144 7) ≡ record { number = 1376256; buffer = replicate 144 7 })
     × (startExported (budgetOf 0 ++ (3 ∷ [])) (replicate 144 7) ≡ record { number = 65536; buffer = replicate 144 7 })
-unfolding bufferOf bytesOf started startOf fill formOf readFrom recordAt judged firstFaulty taskFault first round product load horizon largest sum count
+unfolding bufferOf bytesOf started startOf fill formOf readFrom judged firstFaulty taskFault first round product load horizon largest sum count
 camera-starts = (refl, refl, refl, refl)
 
 -- g with task 0 done after one slot, as above: a done report is any number but 0.
@@ -330,10 +329,10 @@ camera-owners buffer [] = []
 camera-owners buffer (done ∷ more) = let e = stepExported file-g buffer done in e .number ∷ camera-owners (e .buffer) more
 
 camera-steps : camera-owners (startExported file-g (replicate 144 9) .buffer) (0 ∷ 2 ∷ 0 ∷ 0 ∷ 0 ∷ []) ≡ 0 ∷ 1 ∷ 1 ∷ 16 ∷ 0 ∷ []
-unfolding camera-owners stateIn bufferOf bytesOf started startOf stepped after turn ownerNow choose fill bits firstStrange formOf readFrom recordAt judged firstFaulty taskFault first round product load horizon largest sum count
+unfolding camera-owners stateIn bufferOf bytesOf started startOf stepped after turn ownerNow choose fill bits firstStrange formOf readFrom judged firstFaulty taskFault first round product load horizon largest sum count
 camera-steps = refl
 
 -- A state that is not g's is 8, and stays.
 camera-stranger : stepExported file-g (replicate 144 7) 0 ≡ record { number = 524288; buffer = replicate 144 7 }
-unfolding stateIn stepped fill firstStrange formOf readFrom recordAt judged firstFaulty taskFault first round product load horizon largest sum count
+unfolding stateIn stepped fill firstStrange formOf readFrom judged firstFaulty taskFault first round product load horizon largest sum count
 camera-stranger = refl

@@ -1,4 +1,4 @@
--- The limits and kinds of document 01, each once.
+-- The limits of document 01, each once.
 use Prim.Native.Nat.{ℕ, _+_, _*_}
 
 -- Tasks in a table. The same number stands for no task.
@@ -17,25 +17,12 @@ roundLimit = 1000000000
 abbrev pub reportBytes : ℕ
 reportBytes = 512
 
--- The kinds of the records of a table file.
-abbrev pub budgetKind : ℕ
-budgetKind = 1
-
-abbrev pub taskKind : ℕ
-taskKind = 2
-
-abbrev pub endKind : ℕ
-endKind = 3
-
--- The bytes of a record: its kind, and the body of that kind. The longest legal file: a budget, every task, the end.
+-- The bytes of a budget and of a task: the kind and the body. The longest legal file: a budget, every task, the kind of the end.
 abbrev pub budgetBytes : ℕ
 budgetBytes = 1 + 8
 
 abbrev pub taskBytes : ℕ
 taskBytes = 1 + 16
 
-abbrev pub endBytes : ℕ
-endBytes = 1
-
 abbrev pub longestFile : ℕ
-longestFile = budgetBytes + taskLimit * taskBytes + endBytes
+longestFile = budgetBytes + taskLimit * taskBytes + 1

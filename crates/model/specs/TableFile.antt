@@ -1,11 +1,11 @@
 -- The table file: for any list of bytes the refusal, or the budget and the tasks.
 use mathlib.Core.List.{List, [], _∷_, _++_}
-use mathlib.Core.Bool.{cond}
+use mathlib.Core.Bool.{cond, _||_}
 use Prim.Native.Nat.{ℕ, zero, suc, _+_, _-_, _*_}
 use lib.Dec.{ltb, leb, eqb}
 use lib.ListN.{getD, length, replicate}
-use Rattle.model.specs.Values.{Task, Table, Judgement, Record, Admission, Loaded}
-use Rattle.model.specs.Limits.{taskLimit, budgetKind, taskKind, endKind, budgetBytes, taskBytes, endBytes}
+use Rattle.model.specs.Values.{Task, Table, Judgement, Admission, Loaded}
+use Rattle.model.specs.Limits.{taskLimit, budgetBytes, taskBytes}
 use Rattle.model.specs.Tasks.{noTask, judged}
 
 -- Four bytes, and eight, from a place on: numbers, the lowest byte first.
@@ -18,19 +18,6 @@ eight s at = four s at + 4294967296 * four s (at + 4)
 -- A task's body: O, C, D, T.
 abbrev pub taskIn : List ℕ → ℕ → Task
 taskIn s at = record { offset = four s at; cost = four s (at + 4); deadline = four s (at + 8); period = four s (at + 12) }
-
--- What stands at a place: nothing more, a kind that is unknown, or a record, whose body may be cut short.
-pub data Found : Type 0 where
-  nothing : Found
-  unknown : Found
-  found : Record → Found
-
-unfoldable pub recordAt : List ℕ → ℕ → Found
-recordAt s at =
-    cond (leb (length s) at) nothing
-    (cond (eqb (getD s at 0) budgetKind) (found (Record.Budget (eight s (at + 1))))
-    (cond (eqb (getD s at 0) taskKind) (found (Record.OneTask (taskIn s (at + 1))))
-    (cond (eqb (getD s at 0) endKind) (found Record.End) unknown)))
 
 -- A table of these tasks.
 abbrev pub tableOf : List Task → Table
@@ -46,30 +33,26 @@ admit b ks = record { admission = Admission.Admitted; budget = b; table = tableO
 abbrev pub whole : List ℕ → ℕ → ℕ → Loaded → Loaded
 whole s at bytes go = cond (ltb (length s) (at + bytes)) (refuse 20 at) go
 
--- The record at a place after the budget b and the tasks ks; `next` says what a task leads to. Whatever follows the end is 24.
-abbrev pub readRecord : List ℕ → ℕ → List Task → ℕ → (Task → Loaded) → Found → Loaded
-readRecord s b ks at next nothing = refuse 26 (length s)
-readRecord s b ks at next unknown = refuse 21 at
-readRecord s b ks at next (found (Record.Budget x)) = refuse 23 at
-readRecord s b ks at next (found (Record.OneTask k)) = next k
-readRecord s b ks at next (found Record.End) = cond (ltb (at + endBytes) (length s)) (refuse 24 (at + endBytes)) (admit b ks)
+-- The record at a place after the budget b and the tasks ks; `go` is what a task leads to. Whatever follows the end is 24.
+abbrev pub readRecord : List ℕ → ℕ → List Task → ℕ → Loaded → Loaded
+readRecord s b ks at go =
+    cond (leb (length s) at) (refuse 26 (length s))
+    (cond (eqb (getD s at 0) 1) (refuse 23 at)
+    (cond (eqb (getD s at 0) 2) go
+    (cond (eqb (getD s at 0) 3) (cond (ltb (at + 1) (length s)) (refuse 24 (at + 1)) (admit b ks)) (refuse 21 at))))
 
 -- The records after the budget, with room for this many more tasks.
 unfoldable pub readFrom : List ℕ → ℕ → List Task → ℕ → ℕ → Loaded
-readFrom s b ks zero at = readRecord s b ks at (λ k. refuse 25 at) (recordAt s at)
-readFrom s b ks (suc room) at = readRecord s b ks at (λ k. whole s at taskBytes (readFrom s b (ks ++ (k ∷ [])) room (at + taskBytes))) (recordAt s at)
+readFrom s b ks zero at = readRecord s b ks at (refuse 25 at)
+readFrom s b ks (suc room) at =
+    readRecord s b ks at (whole s at taskBytes (readFrom s b (ks ++ (taskIn s (at + 1) ∷ [])) room (at + taskBytes)))
 
--- The first record: a budget, whole; a known kind that is none, or no record, is 22.
-abbrev pub readFirst : List ℕ → Found → Loaded
-readFirst s nothing = refuse 22 0
-readFirst s unknown = refuse 21 0
-readFirst s (found (Record.Budget b)) = whole s 0 budgetBytes (readFrom s b [] taskLimit budgetBytes)
-readFirst s (found (Record.OneTask k)) = refuse 22 0
-readFirst s (found Record.End) = refuse 22 0
-
--- The form of a file: the budget first, once; then the tasks; then the end, and nothing after it.
+-- The form of a file: the budget first, once; then the tasks; then the end, and nothing after it. Kind 1 is a budget, 2 a task, 3 the end.
 unfoldable pub formOf : List ℕ → Loaded
-formOf s = readFirst s (recordAt s 0)
+formOf s =
+    cond (eqb (length s) 0) (refuse 22 0)
+    (cond (eqb (getD s 0 0) 1) (whole s 0 budgetBytes (readFrom s (eight s 1) [] taskLimit budgetBytes))
+    (cond (eqb (getD s 0 0) 2 || eqb (getD s 0 0) 3) (refuse 22 0) (refuse 21 0)))
 
 -- The table of a file is judged only after the file's form is good.
 abbrev pub judgedTable : Loaded → Judgement → Loaded

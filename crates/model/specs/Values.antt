@@ -1,7 +1,6 @@
 -- The values of src/lib.rt by their names, and document 01's number and values for each case of an answer.
 use mathlib.Core.List.{List, [], _∷_}
 use Prim.Native.Nat.{ℕ}
-use Rattle.model.specs.Limits.{budgetKind, taskKind, endKind}
 pub use Rattle.model.specs.declared.Task.{Task}
 pub use Rattle.model.specs.declared.Table.{Table}
 pub use Rattle.model.specs.declared.Refusal.{Refusal}
@@ -11,7 +10,6 @@ pub use Rattle.model.specs.declared.Verdict.{Verdict}
 pub use Rattle.model.specs.declared.Outcome.{Outcome}
 pub use Rattle.model.specs.declared.Empty.{Empty}
 pub use Rattle.model.specs.declared.Answer.{Answer}
-pub use Rattle.model.specs.declared.Record.{Record}
 pub use Rattle.model.specs.declared.Admission.{Admission}
 pub use Rattle.model.specs.declared.Loaded.{Loaded}
 pub use Rattle.model.specs.declared.Turn.{Turn}
@@ -21,12 +19,6 @@ pub use Rattle.model.specs.declared.Given.{Given}
 pub record Said : Type 0 where
   pub number : ℕ
   pub values : List ℕ
-
--- A record of a file: its kind, and the numbers of its body in their order.
-abbrev pub recordSaid : Record → Said
-recordSaid (Record.Budget b) = record { number = budgetKind; values = b ∷ [] }
-recordSaid (Record.OneTask k) = record { number = taskKind; values = k .offset ∷ k .cost ∷ k .deadline ∷ k .period ∷ [] }
-recordSaid Record.End = record { number = endKind; values = [] }
 
 -- A verdict: its number in document 01's order, and the interval and demand of a late one.
 abbrev pub verdictSaid : Verdict → Said

@@ -75,13 +75,6 @@ pub struct Answer {
     pub empty: Empty,
 }
 
-// A record of a table file.
-pub enum Record {
-    Budget(u64),
-    OneTask(Task),
-    End,
-}
-
 // Whether a buffer, a file, or a table to start with, is taken.
 pub enum Admission {
     Refused(Refusal),

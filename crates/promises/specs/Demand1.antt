@@ -20,12 +20,11 @@ use Rattle.model.specs.declared.Admission.{Admission}
 use Rattle.model.specs.declared.Given.{Given}
 use Rattle.model.specs.declared.Answer.{Answer}
 use Rattle.model.specs.declared.Loaded.{Loaded}
-use Rattle.model.specs.declared.Record.{Record}
-use Rattle.model.specs.Limits.{taskLimit, reportBytes, longestFile, budgetKind, taskKind, endKind}
-use Rattle.model.specs.Values.{recordSaid, refusalSaid, judgementSaid, admissionSaid, givenSaid}
+use Rattle.model.specs.Limits.{taskLimit, reportBytes, longestFile}
+use Rattle.model.specs.Values.{refusalSaid, judgementSaid, admissionSaid, givenSaid}
 use Rattle.model.specs.Tasks.{judged}
 use Rattle.model.specs.Verdict.{brief, Permitted}
-use Rattle.model.specs.TableFile.{eight, taskIn, nothing, unknown, found, recordAt, formOf, loadedFrom}
+use Rattle.model.specs.TableFile.{formOf, loadedFrom}
 use Rattle.model.specs.Dispatcher as model
 use Rattle.model.specs.Dispatcher.{State, firstStrange, lastStrange, stepJudged, started, stepped}
 use Rattle.dispatch.specs.declared.Dispatcher.{Dispatcher}
@@ -35,6 +34,9 @@ use Rattle.dispatch.specs.State.{stateOf, startedOf, steppedOf, one-started, on
 use Rattle.model.specs.Report.{reportOf, Exported, refused, written, outcomeTold, FileTold, Checked, refusalLine, Printed}
 use Rattle.backlog.specs.Answers.{permitted-unique}
 use Rattle.backlog.specs.Computed.{answerOf, computed}
+use Rattle.tablefile.specs.declared.Record.{Record}
+use Rattle.tablefile.specs.declared.Reading.{Reading}
+use Rattle.tablefile.specs.Reading.{recordSaid, readingAt, OfKind, record-kind}
 use Rattle.tablefile.specs.Longer.{first-bytes}
 use Rattle.tablefile.specs.Refused.{AdmissionTellable, load-tellable}
 use Rattle.report.specs.Permitted.{Fitting, permitted-fits}
@@ -153,17 +155,8 @@ unfolding loadedFrom
 refused-form file r e = rw e refl
 
 -- A record is of the kind that its first byte says.
-pub record-kind : (s : List ℕ) (at : ℕ) (k : Record) → recordAt s at ≡ found k → recordSaid k .number ≡ getD s at 0
-unfolding recordAt
-record-kind s at k = by (leb (length s) at) (eqb (getD s at 0) budgetKind) (eqb (getD s at 0) taskKind) (eqb (getD s at 0) endKind) refl refl refl
-  where
-    by : (past budget task end : Bool) → eqb (getD s at 0) budgetKind ≡ budget → eqb (getD s at 0) taskKind ≡ task → eqb (getD s at 0) endKind ≡ end
-        → cond past nothing (cond budget (found (Record.Budget (eight s (at + 1)))) (cond task (found (Record.OneTask (taskIn s (at + 1)))) (cond end (found Record.End) unknown))) ≡ found k → recordSaid k .number ≡ getD s at 0
-    by true b c d x y z e = let z : _≡_ {A = ℕ} 0 1 = cc in absurd (omega arith)
-    by false true c d x y z e = let q : Record.Budget (eight s (at + 1)) ≡ k = cc in rw (← q) (sym (eqb-true _ _ x))
-    by false false true d x y z e = let q : Record.OneTask (taskIn s (at + 1)) ≡ k = cc in rw (← q) (sym (eqb-true _ _ y))
-    by false false false true x y z e = let q : Record.End ≡ k = cc in rw (← q) (sym (eqb-true _ _ z))
-    by false false false false x y z e = let z : _≡_ {A = ℕ} 0 1 = cc in absurd (omega arith)
+pub of-kind : (s : List ℕ) (at n : ℕ) (k : Record) → readingAt s at n ≡ Reading.Whole k → getD (recordSaid k) 0 0 ≡ getD s at 0
+of-kind s at n k e = subst (OfKind (getD s at 0)) e (record-kind s at n)
 
 -- A table that is refused is refused by the test with the same number and place, and nothing else is told.
 pub refused-answer : (t : Table) (budget : ℕ) (r : Refusal) (a : Answer) → judged t ≡ Judgement.Refused r → Permitted t budget a → a ≡ brief (Outcome.Refused r) (record { round = 0; load = 0; horizon = 0 }) 0

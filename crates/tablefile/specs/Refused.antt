@@ -1,7 +1,7 @@
 -- Every refusal of a file has a number above 0 and a place below 65,536: no place lies behind the longest legal file.
 use mathlib.Core.Path.{_≡_, refl}
 use mathlib.Core.List.{List, [], _∷_, _++_}
-use mathlib.Core.Bool.{Bool, true, false, cond}
+use mathlib.Core.Bool.{Bool, true, false, cond, _||_}
 use Prim.Native.Nat.{ℕ, zero, suc, _+_, _*_, _≤_, _<_}
 use native.Mathlib.Omega.{arith}
 use borrow.Author.Tests.{leb-true}
@@ -9,12 +9,11 @@ use lib.Dec.{leb, ltb, eqb}
 use lib.ListN.{length, getD}
 use Rattle.model.specs.declared.Task.{Task}
 use Rattle.model.specs.declared.Judgement.{Judgement}
-use Rattle.model.specs.declared.Record.{Record}
 use Rattle.model.specs.declared.Admission.{Admission}
 use Rattle.model.specs.declared.Loaded.{Loaded}
-use Rattle.model.specs.Limits.{taskLimit, budgetKind, taskKind, endKind, budgetBytes, taskBytes, endBytes, longestFile}
+use Rattle.model.specs.Limits.{taskLimit, budgetBytes, taskBytes, longestFile}
 use Rattle.model.specs.Tasks.{judged}
-use Rattle.model.specs.TableFile.{eight, taskIn, Found, nothing, unknown, found, recordAt, refuse, admit, whole, readRecord, readFrom, readFirst, formOf, judgedTable, judgedForm, loadedFrom}
+use Rattle.model.specs.TableFile.{eight, taskIn, refuse, admit, whole, readRecord, readFrom, formOf, judgedTable, judgedForm, loadedFrom}
 use Rattle.wellformed.specs.Refused.{Tellable, JudgementTellable, judged-tellable}
 
 -- An admission that is tellable if it refuses.
@@ -23,19 +22,6 @@ AdmissionTellable (Admission.Refused r) = Tellable r
 AdmissionTellable Admission.Admitted = Unit
 
 module _ (s : List ℕ) where
-  -- What holds of every record and kind, and of nothing more past the last byte, holds of what stands at a place.
-  at-place : (P : Found → Type 0) (at : ℕ) → (length s ≤ at → P nothing) → P unknown → ((k : Record) → P (found k)) → P (recordAt s at)
-  unfolding recordAt
-  at-place P at past other each = go (leb (length s) at) (eqb (getD s at 0) budgetKind) (eqb (getD s at 0) taskKind) (eqb (getD s at 0) endKind) refl
-    where
-      go : (a b c d : Bool) → leb (length s) at ≡ a
-          → P (cond a nothing (cond b (found (Record.Budget (eight s (at + 1)))) (cond c (found (Record.OneTask (taskIn s (at + 1)))) (cond d (found Record.End) unknown))))
-      go true b c d e = past (leb-true _ _ e)
-      go false true c d e = each _
-      go false false true d e = each _
-      go false false false true e = each _
-      go false false false false e = other
-
   whole-tellable : (at bytes : ℕ) (l : Loaded) → at < longestFile → AdmissionTellable (l .admission) → AdmissionTellable (whole s at bytes l .admission)
   whole-tellable at bytes l near h = go (ltb (length s) (at + bytes))
     where
@@ -43,33 +29,33 @@ module _ (s : List ℕ) where
       go true = (omega arith, omega arith)
       go false = h
 
-  record-tellable : (b : ℕ) (ks : List Task) (at : ℕ) (next : Task → Loaded) → at < longestFile → ((k : Task) → AdmissionTellable (next k .admission)) → AdmissionTellable (readRecord s b ks at next (recordAt s at) .admission)
-  record-tellable b ks at next near h = at-place (λ f. AdmissionTellable (readRecord s b ks at next f .admission)) at (λ l. (omega arith, omega arith)) (omega arith, omega arith) each
+  record-tellable : (b : ℕ) (ks : List Task) (at : ℕ) (l : Loaded) → at < longestFile → AdmissionTellable (l .admission) → AdmissionTellable (readRecord s b ks at l .admission)
+  record-tellable b ks at l near h = go (leb (length s) at) (eqb (getD s at 0) 1) (eqb (getD s at 0) 2) (eqb (getD s at 0) 3) (ltb (at + 1) (length s)) (leb-true (length s) at)
     where
-      end : (p : Bool) → AdmissionTellable (cond p (refuse 24 (at + endBytes)) (admit b ks) .admission)
-      end true = (omega arith, omega arith)
-      end false = tt
-
-      each : (k : Record) → AdmissionTellable (readRecord s b ks at next (found k) .admission)
-      each (Record.Budget x) = (omega arith, omega arith)
-      each (Record.OneTask k) = h k
-      each Record.End = end (ltb (at + endBytes) (length s))
+      go : (past budget task end more : Bool) → (past ≡ true → length s ≤ at)
+          → AdmissionTellable (cond past (refuse 26 (length s)) (cond budget (refuse 23 at) (cond task l (cond end (cond more (refuse 24 (at + 1)) (admit b ks)) (refuse 21 at)))) .admission)
+      go true budget task end more e = let p = e refl in (omega arith, omega arith)
+      go false true task end more e = (omega arith, omega arith)
+      go false false true end more e = h
+      go false false false true true e = (omega arith, omega arith)
+      go false false false true false e = tt
+      go false false false false more e = (omega arith, omega arith)
 
   from-tellable : (b : ℕ) (ks : List Task) (room at : ℕ) → at + room * taskBytes < longestFile → AdmissionTellable (readFrom s b ks room at .admission)
   unfolding readFrom
-  from-tellable b ks zero at near = record-tellable b ks at (λ k. refuse 25 at) (omega arith) (λ k. (omega arith, omega arith))
-  from-tellable b ks (suc room) at near = record-tellable b ks at _ (omega arith) (λ k. whole-tellable at taskBytes _ (omega arith) (from-tellable b (ks ++ (k ∷ [])) room (at + taskBytes) (omega arith)))
-
-  first-tellable : (f : Found) → AdmissionTellable (readFirst s f .admission)
-  first-tellable nothing = (omega arith, omega arith)
-  first-tellable unknown = (omega arith, omega arith)
-  first-tellable (found (Record.Budget b)) = whole-tellable 0 budgetBytes _ (omega arith) (from-tellable b [] taskLimit budgetBytes (omega arith))
-  first-tellable (found (Record.OneTask k)) = (omega arith, omega arith)
-  first-tellable (found Record.End) = (omega arith, omega arith)
+  from-tellable b ks zero at near = record-tellable b ks at (refuse 25 at) (omega arith) (omega arith, omega arith)
+  from-tellable b ks (suc room) at near = record-tellable b ks at _ (omega arith) (whole-tellable at taskBytes _ (omega arith) (from-tellable b (ks ++ (taskIn s (at + 1) ∷ [])) room (at + taskBytes) (omega arith)))
 
   pub form-tellable : AdmissionTellable (formOf s .admission)
   unfolding formOf
-  form-tellable = first-tellable (recordAt s 0)
+  form-tellable = go (eqb (length s) 0) (eqb (getD s 0 0) 1) (eqb (getD s 0 0) 2 || eqb (getD s 0 0) 3)
+    where
+      go : (none budget other : Bool)
+          → AdmissionTellable (cond none (refuse 22 0) (cond budget (whole s 0 budgetBytes (readFrom s (eight s 1) [] taskLimit budgetBytes)) (cond other (refuse 22 0) (refuse 21 0))) .admission)
+      go true budget other = (omega arith, omega arith)
+      go false true other = whole-tellable 0 budgetBytes _ (omega arith) (from-tellable (eight s 1) [] taskLimit budgetBytes (omega arith))
+      go false false true = (omega arith, omega arith)
+      go false false false = (omega arith, omega arith)
 
   pub load-tellable : AdmissionTellable (loadedFrom s .admission)
   unfolding loadedFrom

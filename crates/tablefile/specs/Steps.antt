@@ -4,16 +4,16 @@ use mathlib.Core.Bool.{Bool, true, false, cond}
 use mathlib.Core.List.{List, [], _∷_, _++_}
 use Prim.Native.Nat.{ℕ, zero, suc, _+_, _*_, _<_, _≤_}
 use native.Mathlib.Omega.{arith}
-use borrow.Author.Tests.{ne-eqb, lt-ltb, le-ltb, le-leb, lt-leb, ltb-true, ltb-false, leb-true, leb-false}
+use borrow.Author.Tests.{eq-eqb, ne-eqb, lt-ltb, le-ltb, le-leb, lt-leb, ltb-true, ltb-false, leb-true, leb-false}
 use lib.Dec.{ltb, leb, eqb}
 use lib.ListN.{length, getD, drop, length-drop, length-append}
 use Rattle.model.specs.declared.Task.{Task}
-use Rattle.model.specs.declared.Record.{Record}
+use Rattle.tablefile.specs.declared.Record.{Record}
 use Rattle.model.specs.declared.Loaded.{Loaded}
-use Rattle.model.specs.Limits.{taskLimit, budgetBytes, taskBytes, endBytes, longestFile}
-use Rattle.model.specs.TableFile.{taskIn, recordAt, refuse, admit, whole, readRecord, readFrom, formOf}
+use Rattle.model.specs.Limits.{taskLimit, budgetBytes, taskBytes, longestFile}
+use Rattle.model.specs.TableFile.{taskIn, refuse, admit, whole, readRecord, readFrom, formOf}
 use Rattle.tablefile.specs.declared.Reading.{Reading}
-use Rattle.tablefile.specs.Reading.{budgetBody, taskBody, taskReading, readingAt}
+use Rattle.tablefile.specs.Reading.{budgetBody, taskBody, taskReading, readingAt, either}
 use Rattle.tablefile.specs.Part.{eight-part, task-part}
 
 -- Up to a place the budget b and the tasks ks were read: nothing yet, or all so that reading on from there makes the form of the file.
@@ -35,57 +35,53 @@ Follows s b ks at (Reading.Whole (Record.OneTask k)) = Reached s b (ks ++ (k ∷
 Follows s b ks at (Reading.Whole Record.End) = admit b ks ≡ formOf s
 
 -- What a task leads to in the model, with room for this many.
-unfoldable afterTask : List ℕ → ℕ → List Task → ℕ → ℕ → Task → Loaded
-afterTask s b ks zero at k = refuse 25 at
-afterTask s b ks (suc room) at k = whole s at taskBytes (readFrom s b (ks ++ (k ∷ [])) room (at + taskBytes))
+unfoldable afterTask : List ℕ → ℕ → List Task → ℕ → ℕ → Loaded
+afterTask s b ks zero at = refuse 25 at
+afterTask s b ks (suc room) at = whole s at taskBytes (readFrom s b (ks ++ (taskIn s (at + 1) ∷ [])) room (at + taskBytes))
 
 module _ (s : List ℕ) (b : ℕ) (ks : List Task) (at : ℕ) where
-  opened : (room : ℕ) → readFrom s b ks room at ≡ readRecord s b ks at (afterTask s b ks room at) (recordAt s at)
+  opened : (room : ℕ) → readFrom s b ks room at ≡ readRecord s b ks at (afterTask s b ks room at)
   unfolding afterTask readFrom
   opened zero = refl
   opened (suc room) = refl
 
-  either : (test : Bool) (x y : Reading) → (test ≡ true → Follows s b ks at x) → (test ≡ false → Follows s b ks at y) → Follows s b ks at (cond test x y)
-  either true x y f g = f refl
-  either false x y f g = g refl
-
 step-first : (s : List ℕ) → Follows s 0 [] 0 (readingAt s 0 0)
-unfolding readingAt formOf recordAt
+unfolding readingAt formOf
 step-first s =
-    either s 0 [] 0 (leb (length s) 0) _ _ (λ e0. rw e0)
-    (λ e0. either s 0 [] 0 (eqb (getD s 0 0) 1) _ _
-    (λ e1. either s 0 [] 0 (ltb (length (drop 1 s)) budgetBody) _ _
+    either (Follows s 0 [] 0) (leb (length s) 0) _ _ (λ z. rw (eq-eqb (length s) 0 (omega (arith, leb-true (length s) 0 z))))
+    (λ z. let e0 : eqb (length s) 0 ≡ false = ne-eqb (length s) 0 (λ q. omega (arith, leb-false (length s) 0 z)) in either (Follows s 0 [] 0) (eqb (getD s 0 0) 1) _ _
+    (λ e1. either (Follows s 0 [] 0) (ltb (length (drop 1 s)) budgetBody) _ _
     (λ e. rw (e0, e1, lt-ltb (length s) budgetBytes (omega (arith, ltb-true, length-drop 1 s))))
     (λ e. later taskLimit refl refl (omega (arith, ltb-false, length-drop 1 s))
     (rw (e0, e1, le-ltb (length s) budgetBytes (omega (arith, ltb-false, length-drop 1 s)), eight-part))))
-    (λ e1. either s 0 [] 0 (eqb (getD s 0 0) 2) _ _ (λ e2. rw (e0, e1, e2))
-    (λ e2. either s 0 [] 0 (eqb (getD s 0 0) 3) _ _ (λ e3. rw (e0, e1, e2, e3)) (λ e3. rw (e0, e1, e2, e3)))))
+    (λ e1. either (Follows s 0 [] 0) (eqb (getD s 0 0) 2) _ _ (λ e2. rw (e0, e1, e2))
+    (λ e2. either (Follows s 0 [] 0) (eqb (getD s 0 0) 3) _ _ (λ e3. rw (e0, e1, e2, e3)) (λ e3. rw (e0, e1, e2, e3)))))
 
 module _ (s : List ℕ) (b : ℕ) (ks : List Task) (at : ℕ) (here : at ≡ budgetBytes + taskBytes * length ks) where
-  step-task : (room : ℕ) → length ks + room ≡ taskLimit → at < length s → afterTask s b ks room at (taskIn s (at + 1)) ≡ formOf s
+  step-task : (room : ℕ) → length ks + room ≡ taskLimit → at < length s → afterTask s b ks room at ≡ formOf s
       → Follows s b ks at (taskReading (drop (at + 1) s) at (length ks))
   unfolding afterTask
   step-task zero all inside same = rw (ne-eqb at 0 (omega arith), le-leb taskLimit (length ks) (omega arith)) same
   step-task (suc room) all inside same =
       rw (ne-eqb at 0 (omega arith), lt-leb taskLimit (length ks) (omega arith))
-      (either s b ks at (ltb (length (drop (at + 1) s)) taskBody) _ _
+      (either (Follows s b ks at) (ltb (length (drop (at + 1) s)) taskBody) _ _
       (λ e. rw (lt-ltb (length s) (at + taskBytes) (omega (arith, ltb-true, length-drop (at + 1) s))) at same)
       (λ e. later room (simp length-append (omega arith)) (simp length-append (omega arith)) (omega (arith, ltb-false, length-drop (at + 1) s))
       (rw task-part (rw (le-ltb (length s) (at + taskBytes) (omega (arith, ltb-false, length-drop (at + 1) s))) at same))))
 
-  step-later : (room : ℕ) → length ks + room ≡ taskLimit → at ≤ length s → readRecord s b ks at (afterTask s b ks room at) (recordAt s at) ≡ formOf s
+  step-later : (room : ℕ) → length ks + room ≡ taskLimit → at ≤ length s → readRecord s b ks at (afterTask s b ks room at) ≡ formOf s
       → Follows s b ks at (readingAt s at (length ks))
-  unfolding readingAt recordAt
+  unfolding readingAt
   step-later room all inside same =
-      either s b ks at (leb (length s) at) _ _
+      either (Follows s b ks at) (leb (length s) at) _ _
       (λ e0. let stop : at ≡ length s = omega (arith, leb-true) in rw (ne-eqb at 0 (omega arith)) (ap (refuse 26) stop ∙ rw e0 at same))
-      (λ e0. either s b ks at (eqb (getD s at 0) 1) _ _ (λ e1. rw (lt-ltb 0 at (omega arith)) (rw (e0, e1) at same))
-      (λ e1. either s b ks at (eqb (getD s at 0) 2) _ _ (λ e2. step-task room all (leb-false _ _ e0) (rw (e0, e1, e2) at same))
-      (λ e2. either s b ks at (eqb (getD s at 0) 3) _ _
+      (λ e0. either (Follows s b ks at) (eqb (getD s at 0) 1) _ _ (λ e1. rw (lt-ltb 0 at (omega arith)) (rw (e0, e1) at same))
+      (λ e1. either (Follows s b ks at) (eqb (getD s at 0) 2) _ _ (λ e2. step-task room all (leb-false _ _ e0) (rw (e0, e1, e2) at same))
+      (λ e2. either (Follows s b ks at) (eqb (getD s at 0) 3) _ _
       (λ e3. rw (ne-eqb at 0 (omega arith))
-      (either s b ks at (ltb 0 (length (drop (at + 1) s))) _ _
-      (λ e. rw (e0, e1, e2, e3, lt-ltb (at + endBytes) (length s) (omega (arith, ltb-true, length-drop (at + 1) s))) at same)
-      (λ e. rw (e0, e1, e2, e3, le-ltb (at + endBytes) (length s) (omega (arith, ltb-false, length-drop (at + 1) s))) at same)))
+      (either (Follows s b ks at) (ltb 0 (length (drop (at + 1) s))) _ _
+      (λ e. rw (e0, e1, e2, e3, lt-ltb (at + 1) (length s) (omega (arith, ltb-true, length-drop (at + 1) s))) at same)
+      (λ e. rw (e0, e1, e2, e3, le-ltb (at + 1) (length s) (omega (arith, ltb-false, length-drop (at + 1) s))) at same)))
       (λ e3. rw (e0, e1, e2, e3) at same))))
 
 -- What the checks say of a place that was reached is what the model makes of it.

@@ -2,7 +2,6 @@
 use model::Admission;
 use model::Judgement;
 use model::Loaded;
-use model::Record;
 use model::Refusal;
 use model::TASK_LIMIT;
 use model::Table;
@@ -44,7 +43,14 @@ const ONE_TASK_TOO_MANY: u32 = 25;
 
 const NO_END: u32 = 26;
 
-enum Reading {
+// A record is a budget, a task or the end, with its numbers.
+pub enum Record {
+    Budget(u64),
+    OneTask(Task),
+    End,
+}
+
+pub enum Reading {
     Refused(Refusal),
     Whole(Record),
 }

@@ -5,7 +5,7 @@ use Prim.Native.Nat.{ℕ, _+_, _-_}
 use native.Mathlib.Omega.{arith}
 use borrow.Author.Needs.{needs}
 use lib.ListN.{length}
-use Rattle.model.specs.declared.Record.{Record}
+use Rattle.tablefile.specs.declared.Record.{Record}
 use Rattle.model.specs.Limits.{budgetBytes, taskBytes}
 use Rattle.tablefile.specs.declared.Reading.{Reading}
 use Rattle.tablefile.specs.Reading.{readingAt}
