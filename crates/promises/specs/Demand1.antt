@@ -153,12 +153,12 @@ unfolding loadedFrom
 refused-form file r e = rw e refl
 
 -- A record is of the kind that its first byte says.
-pub record-kind : (s : List ℕ) (at : ℕ) (k : Record) → recordAt s at ≡ found k → recordSaid k .number ≡ getD s at 0
+pub record-kind : (s : List ℕ) (at : ℕ) (k : Record) → recordAt s at ≡ found k → getD (recordSaid k) 0 0 ≡ getD s at 0
 unfolding recordAt
 record-kind s at k = by (leb (length s) at) (eqb (getD s at 0) budgetKind) (eqb (getD s at 0) taskKind) (eqb (getD s at 0) endKind) refl refl refl
   where
     by : (past budget task end : Bool) → eqb (getD s at 0) budgetKind ≡ budget → eqb (getD s at 0) taskKind ≡ task → eqb (getD s at 0) endKind ≡ end
-        → cond past nothing (cond budget (found (Record.Budget (eight s (at + 1)))) (cond task (found (Record.OneTask (taskIn s (at + 1)))) (cond end (found Record.End) unknown))) ≡ found k → recordSaid k .number ≡ getD s at 0
+        → cond past nothing (cond budget (found (Record.Budget (eight s (at + 1)))) (cond task (found (Record.OneTask (taskIn s (at + 1)))) (cond end (found Record.End) unknown))) ≡ found k → getD (recordSaid k) 0 0 ≡ getD s at 0
     by true b c d x y z e = let z : _≡_ {A = ℕ} 0 1 = cc in absurd (omega arith)
     by false true c d x y z e = let q : Record.Budget (eight s (at + 1)) ≡ k = cc in rw (← q) (sym (eqb-true _ _ x))
     by false false true d x y z e = let q : Record.OneTask (taskIn s (at + 1)) ≡ k = cc in rw (← q) (sym (eqb-true _ _ y))
@@ -171,11 +171,11 @@ unfolding Permitted
 refused-answer t budget r a e p = rw e at p
 
 -- A state that does not belong to the table is refused by 8 with the first such task, or with 16 for the last-run number.
-pub strange-state : (t : Table) (m : Measure) (d : State) (done : Bool) → judged t ≡ Judgement.WellFormed m → firstStrange t d < t .count → givenSaid (stepped t d done .given) ≡ record { number = 8; values = firstStrange t d ∷ [] }
+pub strange-state : (t : Table) (m : Measure) (d : State) (done : Bool) → judged t ≡ Judgement.WellFormed m → firstStrange t d < t .count → givenSaid (stepped t d done .given) ≡ 8 ∷ firstStrange t d ∷ []
 unfolding stepped
 strange-state t m d done well h = rw (well, lt-ltb (firstStrange t d) (t .count) h) refl
 
-pub strange-last : (t : Table) (m : Measure) (d : State) (done : Bool) → judged t ≡ Judgement.WellFormed m → t .count ≤ firstStrange t d → lastStrange t d ≡ true → givenSaid (stepped t d done .given) ≡ record { number = 8; values = taskLimit ∷ [] }
+pub strange-last : (t : Table) (m : Measure) (d : State) (done : Bool) → judged t ≡ Judgement.WellFormed m → t .count ≤ firstStrange t d → lastStrange t d ≡ true → givenSaid (stepped t d done .given) ≡ 8 ∷ taskLimit ∷ []
 unfolding stepped
 strange-last t m d done well h last = rw (well, le-ltb (firstStrange t d) (t .count) h, last) refl
 
