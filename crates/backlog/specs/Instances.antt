@@ -6,7 +6,7 @@ use Prim.Native.Nat.{ℕ, suc, _+_, _-_, _≤_, _<_}
 use native.Mathlib.Omega.{arith}
 use lib.ListN.{getD}
 use lib.Dec.{lit≤, lit<, eqb}
-use Rattle.model.specs.Notation.{sum, product, largest, count, first, last, fill, Least}
+use Rattle.model.specs.Notation.{sum, largest, count, first, last, fill, Least}
 use Rattle.model.specs.declared.Verdict.{Verdict}
 use Rattle.model.specs.declared.Given.{Given}
 use Rattle.model.specs.Limits.{taskLimit}
@@ -35,15 +35,15 @@ use Rattle.backlog.specs.StepHistory.{never-more, in-time, none-waits}
 
 -- Table b keeps its ranges and passes, so some schedule of it is good, and its tasks have worst responses.
 b-ranged : Ranged table-b
-unfolding judged firstFaulty taskFault first round product load horizon largest sum count
+unfolding judged firstFaulty taskFault first round load horizon largest sum count
 b-ranged = well-formed table-b (record { round = 15; load = 11; horizon = 38 }) refl .ranged
 
 b-passes : verdict table-b 38 ≡ Verdict.Passes
-unfolding verdict needed lateStart lateAt first last round product load horizon largest sum count demand jobsIn
+unfolding verdict needed lateStart lateAt first last round load horizon largest sum count demand jobsIn
 b-passes = refl
 
 b-feasible : Feasible table-b
-unfolding horizon largest round first product count
+unfolding horizon largest round first count
 b-feasible = passes-iff table-b b-ranged 38 (lit≤ tt) .0 b-passes
 
 b-worsts : (w : List ℕ) × Worsts table-b w
@@ -61,11 +61,11 @@ b-none-late = none-late (jobs b-system) (dues b-system) (λ t i. ⊥) _ _ _ (run
 
 -- Table g has load exactly 1, and passes.
 g-ranged : Ranged table-g
-unfolding judged firstFaulty taskFault first round product load horizon largest sum count
+unfolding judged firstFaulty taskFault first round load horizon largest sum count
 g-ranged = well-formed table-g (record { round = 4; load = 4; horizon = 8 }) refl .ranged
 
 g-passes : verdict table-g 8 ≡ Verdict.Passes
-unfolding verdict needed lateStart lateAt first last round product load horizon largest sum count demand jobsIn
+unfolding verdict needed lateStart lateAt first last round load horizon largest sum count demand jobsIn
 g-passes = refl
 
 g-light : Light (systemOf table-g g-ranged _ (tie-ranks table-g)) (cycleOf table-g g-ranged _ (tie-ranks table-g))
@@ -73,11 +73,11 @@ g-light = light-of-passed table-g g-ranged 8 g-passes
 
 -- Table d is late first at 7, where its run first misses a deadline.
 d-ranged : Ranged table-d
-unfolding judged firstFaulty taskFault first round product load horizon largest sum count
+unfolding judged firstFaulty taskFault first round load horizon largest sum count
 d-ranged = well-formed table-d (record { round = 15; load = 11; horizon = 30 }) refl .ranged
 
 d-late : Least (Late table-d) 7
-unfolding needed lateAt first round product horizon largest sum count demand jobsIn
+unfolding needed lateAt first round horizon largest sum count demand jobsIn
 d-late = (tt, λ u l. none-before table-d u l)
 
 d-missed : Least (Missed (systemOf table-d d-ranged _ (tie-ranks table-d))) 7
@@ -85,11 +85,11 @@ d-missed = first-missed (systemOf table-d d-ranged _ (tie-ranks table-d)) 7 .1 d
 
 -- Table i is overloaded, so no schedule of it is good.
 i-ranged : Ranged table-i
-unfolding judged firstFaulty taskFault first round product load horizon largest sum count
+unfolding judged firstFaulty taskFault first round load horizon largest sum count
 i-ranged = well-formed table-i (record { round = 5; load = 6; horizon = 12 }) refl .ranged
 
 i-overload : (to : ℕ) × Late table-i to
-unfolding first round product load sum count
+unfolding first round load sum count
 i-overload = overload-late table-i i-ranged (lit< tt)
 
 i-infeasible : Feasible table-i → ⊥
@@ -113,20 +113,20 @@ g-never-more : had table-g reports 0 0 4 ≤ 2
 g-never-more = never-more table-g g-ranged reports 0 0 4 (lit< tt) (lit≤ tt)
 
 g-never-refused : (n : ℕ) → _≡_ {A = Stepped} (stepped table-g (stateAt table-g reports n) (reports n)) (record { given = Given.Slot (turn table-g (stateAt table-g reports n) (reports n)); state = stateAt table-g reports (suc n) })
-unfolding judged firstFaulty taskFault first round product load horizon largest sum count
+unfolding judged firstFaulty taskFault first round load horizon largest sum count
 g-never-refused = never-refused table-g g-ranged reports (record { round = 4; load = 4; horizon = 8 }) refl
 
 -- Table c: late at 15, within its horizon of 38, and so with any longer budget; undecided below.
 c-ranged : Ranged table-c
-unfolding judged firstFaulty taskFault first round product load horizon largest sum count
+unfolding judged firstFaulty taskFault first round load horizon largest sum count
 c-ranged = well-formed table-c (record { round = 15; load = 12; horizon = 38 }) refl .ranged
 
 c-late-soon : (u : ℕ) × (u ≤ horizon table-c) × Late table-c u
-unfolding first round product load sum count demand jobsIn lateAt
+unfolding first round load sum count demand jobsIn lateAt
 c-late-soon = late-soon table-c c-ranged (lit≤ tt) 15 tt
 
 c-late : verdict table-c 15 ≡ Verdict.Late 8 15 8
-unfolding verdict needed lateStart lateAt first last round product load horizon largest sum count demand jobsIn
+unfolding verdict needed lateStart lateAt first last round load horizon largest sum count demand jobsIn
 c-late = refl
 
 c-longer : verdict table-c 1000 ≡ verdict table-c 15
@@ -136,5 +136,5 @@ c-infeasible : Feasible table-c → ⊥
 c-infeasible = late-infeasible table-c c-ranged 15 8 15 8 c-late
 
 b-undecided : (load table-b ≤ round table-b) × (37 < needed table-b)
-unfolding verdict needed lateStart lateAt first last round product load horizon largest sum count demand jobsIn
+unfolding verdict needed lateStart lateAt first last round load horizon largest sum count demand jobsIn
 b-undecided = undecided-iff table-b 37 .0 refl

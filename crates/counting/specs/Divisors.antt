@@ -2,7 +2,7 @@
 use mathlib.Core.Path.{_≡_, refl, sym, ap, _∙_}
 use mathlib.Core.Logic.{_↔_, _⊎_, inl, inr}
 use mathlib.Core.Bool.{Bool, _&&_}
-use Prim.Native.Nat.{ℕ, zero, suc, _+_, _*_, _/_, _%_, _≤_, _<_, _∣_}
+use Prim.Native.Nat.{ℕ, zero, suc, _+_, _*_, _/_, _%_, _^_, _≤_, _<_, _∣_}
 use native.Mathlib.Omega.{arith}
 use native.Mathlib.Decide.{ℕ-discrete}
 use native.Mathlib.Numerals.{add-one}
@@ -34,9 +34,12 @@ use native.Mathlib.Nat.{
   le-step,
   one-dvd,
   mul-pos,
+  mul-le-mul,
+  pow-zero,
+  pow-suc,
 }
 use lib.Dec.{T, ltb, eqb, ltb→lt, lt→ltb, eqb→eq}
-use Rattle.model.specs.Notation.{product, every, first}
+use Rattle.model.specs.Notation.{every, first}
 use Rattle.counting.specs.Count.{and-iff, every-iff}
 use Rattle.counting.specs.Search.{first-unique}
 
@@ -171,6 +174,11 @@ pub lcmAll-more : (f : ℕ → ℕ) (i : ℕ) {l g r : ℕ} → l ≡ lcmAll i f
 unfolding lcmAll lcm
 lcmAll-more f i {l} e d q = rw (add-one, ← e, q, gcd-unique d (gcd-is l (f i)))
 
+-- f 0 · f 1 · .. · f (n - 1).
+unfoldable pub product : ℕ → (ℕ → ℕ) → ℕ
+product zero f = 1
+product (suc n) f = product n f * f n
+
 -- Each of the numbers divides their product.
 divides-product : (n : ℕ) (f : ℕ → ℕ) (i : ℕ) → i < n → f i ∣ product n f
 unfolding product
@@ -186,6 +194,12 @@ product-pos : (n : ℕ) (f : ℕ → ℕ) → ((i : ℕ) → i < n → 0 < f i) 
 unfolding product
 product-pos zero f h = omega arith
 product-pos (suc n) f h = mul-pos (product-pos n f (λ i l. h i (le-step l))) (h n (le-refl (suc n)))
+
+-- A product of n numbers that are each at most b is at most b to the power of n.
+pub product-le : (n : ℕ) (f : ℕ → ℕ) (b : ℕ) → ((i : ℕ) → i < n → f i ≤ b) → product n f ≤ b ^ n
+unfolding product
+product-le zero f b h = rw pow-zero (le-refl 1)
+product-le (suc n) f b h = rw pow-suc (mul-le-mul (product-le n f b (λ i l. h i (le-step l))) (h n (le-refl (suc n))))
 
 -- The least common multiple of numbers that are not 0 is not 0.
 pub lcmAll-pos : (n : ℕ) (f : ℕ → ℕ) → ((i : ℕ) → i < n → 0 < f i) → 0 < lcmAll n f
@@ -212,9 +226,9 @@ multiple-iff n f h =
       λ r. both .1 (lt→ltb 0 h (r .0), each .1 (λ i l. rw (dvd-iff-mod-eq-zero (f i) .0 (lcmAll-iff n f h .0 (r .1) i l)) tt)),
     )
 
--- The first such number, looked for up to the product, is the least common multiple.
-pub first-multiple : (n : ℕ) (f : ℕ → ℕ) → ((i : ℕ) → i < n → 0 < f i) → first (isMultiple n f) 0 (product n f) ≡ lcmAll n f
-first-multiple n f pos =
-    first-unique (isMultiple n f) 0 (product n f) (lcmAll n f) (omega arith) (omega (arith, lcmAll-le-product n f pos))
+-- The first such number, looked for up to any bound that it keeps, is the least common multiple.
+pub first-multiple : (n : ℕ) (f : ℕ → ℕ) (m : ℕ) → ((i : ℕ) → i < n → 0 < f i) → lcmAll n f ≤ m → first (isMultiple n f) 0 m ≡ lcmAll n f
+first-multiple n f m pos le =
+    first-unique (isMultiple n f) 0 m (lcmAll n f) (omega arith) (omega arith)
     (λ h a b t. let (c, d) = multiple-iff n f h .0 t in omega (arith, le-of-dvd c d))
     (λ l. multiple-iff n f (lcmAll n f) .1 (lcmAll-pos n f pos, dvd-refl (lcmAll n f)))

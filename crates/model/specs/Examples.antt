@@ -5,7 +5,7 @@ use mathlib.Core.Bool.{Bool, true, false}
 use Prim.Native.Nat.{ℕ, zero, suc, _-_, _/_, _%_}
 use lib.ListN.{replicate}
 use Rattle.model.specs.Values.{Task, Table, Judgement, Verdict, Outcome, Empty, Admission, Given}
-use Rattle.model.specs.Notation.{sum, product, largest, count, first, last, bits, fill, text, digits, decimal}
+use Rattle.model.specs.Notation.{sum, largest, count, first, last, bits, fill, text, digits, decimal}
 use Rattle.model.specs.Limits.{taskLimit, longestFile}
 use Rattle.model.specs.Tasks.{taskFault, firstFaulty, round, load, horizon, refuse, judged}
 use Rattle.model.specs.Demand.{jobsIn, demand, asksTooMuch, lateAt}
@@ -82,7 +82,7 @@ measures :
     (judged table-b ≡ Judgement.WellFormed (record { round = 15; load = 11; horizon = 38 }))
     × (judged table-i ≡ Judgement.WellFormed (record { round = 5; load = 6; horizon = 12 }))
     × (round (tableOf (of 0 1 1 4 ∷ of 0 1 1 6 ∷ of 0 1 1 10 ∷ [])) ≡ 60)
-unfolding judged firstFaulty taskFault first round product load horizon largest sum count
+unfolding judged firstFaulty taskFault first round load horizon largest sum count
 measures = (refl, refl, refl)
 
 -- ---- the test
@@ -94,29 +94,29 @@ tables = table-a ∷ table-b ∷ table-c ∷ table-d ∷ table-e ∷ table-f ∷
 verdicts :
     map (λ t. verdict t 1000) tables
     ≡ Verdict.Passes ∷ Verdict.Passes ∷ Verdict.Late 8 15 8 ∷ Verdict.Late 0 7 9 ∷ Verdict.Passes ∷ Verdict.Late 0 1 2 ∷ Verdict.Passes ∷ Verdict.Late 4 7 4 ∷ Verdict.Overload ∷ Verdict.Passes ∷ []
-unfolding verdict needed lateStart lateAt first last round product load horizon largest sum count demand jobsIn
+unfolding verdict needed lateStart lateAt first last round load horizon largest sum count demand jobsIn
 verdicts = refl
 
 settled : map (λ t. settledBy t 1000) tables ≡ 2 ∷ 38 ∷ 15 ∷ 7 ∷ 5 ∷ 1 ∷ 8 ∷ 7 ∷ 0 ∷ 8 ∷ []
-unfolding settledBy needed lateAt first round product load horizon largest sum count demand jobsIn
+unfolding settledBy needed lateAt first round load horizon largest sum count demand jobsIn
 settled = refl
 
 -- A budget equal to the needed count suffices, and one slot less does not; overload needs none.
 budgets :
     map (verdict table-b) (37 ∷ 38 ∷ []) ++ map (verdict table-c) (14 ∷ 15 ∷ []) ++ (verdict table-i 0 ∷ [])
     ≡ Verdict.Undecided ∷ Verdict.Passes ∷ Verdict.Undecided ∷ Verdict.Late 8 15 8 ∷ Verdict.Overload ∷ []
-unfolding verdict needed lateStart lateAt first last round product load horizon largest sum count demand jobsIn
+unfolding verdict needed lateStart lateAt first last round load horizon largest sum count demand jobsIn
 budgets = refl
 
 -- Of two starts that ask too much up to 2, the larger is named.
 largest-start :
     (map (λ from. asksTooMuch table-k from 2) (0 ∷ 1 ∷ []) ≡ true ∷ true ∷ []) × (verdict table-k 1000 ≡ Verdict.Late 1 2 2)
-unfolding verdict needed lateStart lateAt first last round product load horizon largest sum count demand jobsIn
+unfolding verdict needed lateStart lateAt first last round load horizon largest sum count demand jobsIn
 largest-start = (refl, refl)
 
 -- Undecided settles the budget, and overload nothing.
 settled-short : (settledBy table-b 37 ≡ 37) × (settledBy table-c 0 ≡ 0) × (settledBy table-i 5 ≡ 0)
-unfolding settledBy needed lateAt first round product load horizon largest sum count demand jobsIn
+unfolding settledBy needed lateAt first round load horizon largest sum count demand jobsIn
 settled-short = (refl, refl, refl)
 
 -- The closed formula of the source documents would name 0 to 3 on h: it invents a job of task 0 before its first release at 4.
@@ -131,7 +131,7 @@ rounding = (refl, refl)
 
 -- Table i keeps every deadline within its horizon of 12.
 overload-is-not-late : (needed table-i ≡ 12) × (lateAt table-i 12 ≡ false)
-unfolding needed lateAt first round product load horizon largest sum count demand jobsIn
+unfolding needed lateAt first round load horizon largest sum count demand jobsIn
 overload-is-not-late = (refl, refl)
 
 -- ---- the run
@@ -151,7 +151,7 @@ unfolding owner ownerOf served choose
 ties = (refl, refl)
 
 empties : map emptyIn (table-a ∷ table-b ∷ table-e ∷ table-g ∷ table-j ∷ []) ≡ Empty.Nowhere ∷ Empty.Slot 2 ∷ Empty.Nowhere ∷ Empty.Nowhere ∷ Empty.Slot 0 ∷ []
-unfolding firstEmpty owner ownerOf served choose first round product horizon largest count
+unfolding firstEmpty owner ownerOf served choose first round horizon largest count
 empties = refl
 
 -- ---- table files
@@ -173,7 +173,7 @@ rowsOfOne zero = []
 rowsOfOne (suc n) = rowOf (of 0 1 1 1) ++ rowsOfOne n
 
 files : (loadedFrom file-b ≡ record { admission = Admission.Admitted; budget = 1000; table = table-b }) × (longestFile ≡ 282)
-unfolding loadedFrom formOf readFrom judged firstFaulty taskFault first round product load horizon largest sum count
+unfolding loadedFrom formOf readFrom judged firstFaulty taskFault first round load horizon largest sum count
 files = (refl, refl)
 
 abbrev refusalOf : List ℕ → Admission
@@ -227,7 +227,7 @@ starts :
     (started table-b ≡ record { admission = Admission.Admitted; state = record { wait = 8 ∷ replicate 15 0; left = replicate 16 0; last = 16 } })
     × (started (tableOf []) ≡ record { admission = at 1 0; state = record { wait = replicate 16 0; left = replicate 16 0; last = 0 } })
     × (stepped table-g (startOf table-g) false .given ≡ Given.Slot (record { owner = 0; late = 0; closed = 0; lowest = 16 }))
-unfolding started startOf stepped turn ownerNow choose fill bits firstStrange judged firstFaulty taskFault first round product load horizon largest sum count
+unfolding started startOf stepped turn ownerNow choose fill bits firstStrange judged firstFaulty taskFault first round load horizon largest sum count
 starts = (refl, refl, refl)
 
 -- Refusal 8 and its places, on a task with O 0, C 2, D 3, T 4 and one with O 9: a wait above O and T; too many slots left;
@@ -241,7 +241,7 @@ state w0 w1 l0 l1 last = stepped two (record { wait = w0 ∷ w1 ∷ replicate 14
 strangers :
     state 5 0 0 0 16 ∷ state 0 10 0 0 16 ∷ state 2 0 3 0 16 ∷ state 0 0 1 0 16 ∷ state 4 0 1 0 16 ∷ state 0 4 0 1 16 ∷ state 0 0 0 0 2 ∷ state 0 0 0 0 17 ∷ []
     ≡ map (λ p. Given.Refused (record { number = 8; place = p })) (0 ∷ 1 ∷ 0 ∷ 0 ∷ 0 ∷ 1 ∷ 16 ∷ 16 ∷ [])
-unfolding state stepped firstStrange judged firstFaulty taskFault first round product load horizon largest sum count
+unfolding state stepped firstStrange judged firstFaulty taskFault first round load horizon largest sum count
 strangers = refl
 
 -- At its deadline, with wait T - D, a job is no stranger: it is closed late, or by a done report before that. Entries past the table stay.
@@ -249,7 +249,7 @@ at-deadline :
     (stepped two (record { wait = 1 ∷ 9 ∷ replicate 14 7; left = 1 ∷ 0 ∷ replicate 14 7; last = 0 }) false
     ≡ record { given = Given.Slot (record { owner = 16; late = 1; closed = 1; lowest = 0 }); state = record { wait = 0 ∷ 8 ∷ replicate 14 7; left = 0 ∷ 0 ∷ replicate 14 7; last = 16 } })
     × (turn two (record { wait = 1 ∷ 9 ∷ replicate 14 7; left = 1 ∷ 0 ∷ replicate 14 7; last = 0 }) true .closed ≡ 0)
-unfolding stepped turn after ownerNow choose fill bits firstStrange judged firstFaulty taskFault first round product load horizon largest sum count
+unfolding stepped turn after ownerNow choose fill bits firstStrange judged firstFaulty taskFault first round load horizon largest sum count
 at-deadline = (refl, refl)
 
 -- ---- the report
@@ -317,7 +317,7 @@ camera-starts :
     × (startExported (9 ∷ []) (7 ∷ []) ≡ record { number = 3276801; buffer = 7 ∷ [] })
     × (startExported (9 ∷ []) (replicate 144 7) ≡ record { number = 1376256; buffer = replicate 144 7 })
     × (startExported (budgetOf 0 ++ (3 ∷ [])) (replicate 144 7) ≡ record { number = 65536; buffer = replicate 144 7 })
-unfolding bufferOf bytesOf started startOf fill formOf readFrom judged firstFaulty taskFault first round product load horizon largest sum count
+unfolding bufferOf bytesOf started startOf fill formOf readFrom judged firstFaulty taskFault first round load horizon largest sum count
 camera-starts = (refl, refl, refl, refl)
 
 -- g with task 0 done after one slot, as above: a done report is any number but 0.
@@ -329,10 +329,10 @@ camera-owners buffer [] = []
 camera-owners buffer (done ∷ more) = let e = stepExported file-g buffer done in e .number ∷ camera-owners (e .buffer) more
 
 camera-steps : camera-owners (startExported file-g (replicate 144 9) .buffer) (0 ∷ 2 ∷ 0 ∷ 0 ∷ 0 ∷ []) ≡ 0 ∷ 1 ∷ 1 ∷ 16 ∷ 0 ∷ []
-unfolding camera-owners stateIn bufferOf bytesOf started startOf stepped after turn ownerNow choose fill bits firstStrange formOf readFrom judged firstFaulty taskFault first round product load horizon largest sum count
+unfolding camera-owners stateIn bufferOf bytesOf started startOf stepped after turn ownerNow choose fill bits firstStrange formOf readFrom judged firstFaulty taskFault first round load horizon largest sum count
 camera-steps = refl
 
 -- A state that is not g's is 8, and stays.
 camera-stranger : stepExported file-g (replicate 144 7) 0 ≡ record { number = 524288; buffer = replicate 144 7 }
-unfolding stateIn stepped fill firstStrange formOf readFrom judged firstFaulty taskFault first round product load horizon largest sum count
+unfolding stateIn stepped fill firstStrange formOf readFrom judged firstFaulty taskFault first round load horizon largest sum count
 camera-stranger = refl

@@ -17,11 +17,6 @@ unfoldable pub sum : ℕ → (ℕ → ℕ) → ℕ
 sum zero f = 0
 sum (suc n) f = sum n f + f n
 
--- f 0 · f 1 · .. · f (n - 1).
-unfoldable pub product : ℕ → (ℕ → ℕ) → ℕ
-product zero f = 1
-product (suc n) f = product n f * f n
-
 -- The largest of f 0 to f (n - 1), or 0.
 unfoldable pub largest : ℕ → (ℕ → ℕ) → ℕ
 largest zero f = 0

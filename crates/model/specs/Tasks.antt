@@ -1,10 +1,10 @@
 -- Tasks, their ranges, and well-formed tables.
 use mathlib.Core.Bool.{Bool, cond, not, _&&_}
-use Prim.Native.Nat.{ℕ, _+_, _*_, _/_, _%_}
+use Prim.Native.Nat.{ℕ, _+_, _*_, _/_, _%_, _^_}
 use lib.Dec.{leb, ltb, eqb}
 use lib.ListN.{getD}
 use Rattle.model.specs.Values.{Task, Table, Judgement}
-use Rattle.model.specs.Notation.{sum, product, largest, every, first}
+use Rattle.model.specs.Notation.{sum, largest, every, first}
 use Rattle.model.specs.Limits.{taskLimit, slotLimit, roundLimit}
 
 -- What stands past the end of a list of tasks.
@@ -42,9 +42,9 @@ firstFaulty t = first (λ i. not (eqb (taskFault (task t i)) 0)) 0 (t .count)
 abbrev pub commonMultiple : Table → ℕ → Bool
 commonMultiple t h = ltb 0 h && every (λ i. eqb (h % task t i .period) 0) (t .count)
 
--- H: the least common multiple of all periods. The product of all periods is one, so it is looked for up to there.
+-- H: the least common multiple of all periods. Where these keep their range it is at most `slotLimit` to the power of their number.
 unfoldable pub round : Table → ℕ
-round t = first (commonMultiple t) 0 (product (t .count) (λ i. task t i .period))
+round t = first (commonMultiple t) 0 (slotLimit ^ t .count)
 
 -- Load: C · (H / T), summed over the tasks. It is over H, and never reduced.
 unfoldable pub load : Table → ℕ

@@ -13,7 +13,7 @@ use Rattle.model.specs.declared.Measure.{Measure}
 use Rattle.model.specs.declared.Judgement.{Judgement}
 use Rattle.model.specs.declared.Admission.{Admission}
 use Rattle.model.specs.Limits.{taskLimit}
-use Rattle.model.specs.Notation.{sum, product, largest, count, first}
+use Rattle.model.specs.Notation.{sum, largest, count, first}
 use Rattle.model.specs.Tasks.{taskFault, firstFaulty, round, load, horizon, judged}
 use Rattle.model.specs.TableFile.{readFrom, formOf}
 use Rattle.model.specs.Dispatcher.{turn}
@@ -60,7 +60,7 @@ module _ (file : List ℕ) (t : Table) (m : Measure) (formed : formOf file .admi
 
 -- What is asked of the file is met by table g's.
 g-formed : (formOf file-g .admission ≡ Admission.Admitted) × (formOf file-g .table ≡ table-g) × (judged table-g ≡ Judgement.WellFormed (record { round = 4; load = 4; horizon = 8 }))
-unfolding formOf readFrom judged firstFaulty taskFault first round product load horizon largest sum count
+unfolding formOf readFrom judged firstFaulty taskFault first round load horizon largest sum count
 g-formed = (refl, refl, refl)
 
 pub g-camera : (done : ℕ → ℕ) → startExported file-g (replicate stateBytes 0) .number ≡ 0

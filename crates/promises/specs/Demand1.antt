@@ -164,11 +164,11 @@ unfolding Permitted
 refused-answer t budget r a e p = rw e at p
 
 -- A state that does not belong to the table is refused by 8 with the first such task, or with 16 for the last-run number.
-pub strange-state : (t : Table) (m : Measure) (d : State) (done : Bool) → judged t ≡ Judgement.WellFormed m → firstStrange t d < t .count → givenSaid (stepped t d done .given) ≡ record { number = 8; values = firstStrange t d ∷ [] }
+pub strange-state : (t : Table) (m : Measure) (d : State) (done : Bool) → judged t ≡ Judgement.WellFormed m → firstStrange t d < t .count → givenSaid (stepped t d done .given) ≡ 8 ∷ firstStrange t d ∷ []
 unfolding stepped
 strange-state t m d done well h = rw (well, lt-ltb (firstStrange t d) (t .count) h) refl
 
-pub strange-last : (t : Table) (m : Measure) (d : State) (done : Bool) → judged t ≡ Judgement.WellFormed m → t .count ≤ firstStrange t d → lastStrange t d ≡ true → givenSaid (stepped t d done .given) ≡ record { number = 8; values = taskLimit ∷ [] }
+pub strange-last : (t : Table) (m : Measure) (d : State) (done : Bool) → judged t ≡ Judgement.WellFormed m → t .count ≤ firstStrange t d → lastStrange t d ≡ true → givenSaid (stepped t d done .given) ≡ 8 ∷ taskLimit ∷ []
 unfolding stepped
 strange-last t m d done well h last = rw (well, le-ltb (firstStrange t d) (t .count) h, last) refl
 

@@ -9,8 +9,8 @@ use Rattle.model.specs.declared.Verdict.{Verdict}
 use Rattle.model.specs.declared.Outcome.{Outcome}
 use Rattle.model.specs.declared.Empty.{Empty}
 use Rattle.model.specs.declared.Answer.{Answer}
-use Rattle.model.specs.Values.{Said, outcomeSaid}
-use Rattle.model.specs.Notation.{sum, product, largest, count, first, last, fill}
+use Rattle.model.specs.Values.{outcomeSaid}
+use Rattle.model.specs.Notation.{sum, largest, count, first, last, fill}
 use Rattle.model.specs.Tasks.{taskFault, firstFaulty, round, load, horizon, judged}
 use Rattle.model.specs.Demand.{jobsIn, demand, lateAt}
 use Rattle.model.specs.Run.{choose, ownerOf, served, owner, firstEmpty}
@@ -72,18 +72,15 @@ all-permitted (r ∷ rs) e =
 
 -- The test, computed.
 rows-computed : map (λ r. answerOf (r .table) (r .budget)) rows ≡ map (λ r. r .answer) rows
-unfolding answerOf judged firstFaulty taskFault first last round product load horizon largest sum count verdict settledBy needed lateStart lateAt demand jobsIn worstBy stateAt startOf after ownerNow choose fill firstEmpty owner ownerOf served
+unfolding answerOf judged firstFaulty taskFault first last round load horizon largest sum count verdict settledBy needed lateStart lateAt demand jobsIn worstBy stateAt startOf after ownerNow choose fill firstEmpty owner ownerOf served
 rows-computed = refl
 
 pub tables-answered : AllPermitted rows
 tables-answered = all-permitted rows rows-computed
 
 -- In document 01's numbers: 4 passes, 3 late with its interval and demand, 2 undecided, 1 overload.
-abbrev said : ℕ → List ℕ → Said
-said n vs = record { number = n; values = vs }
-
 pub tables-said :
     map (λ r. outcomeSaid (r .answer .outcome)) rows
-    ≡ said 4 [] ∷ said 4 [] ∷ said 3 (8 ∷ 15 ∷ 8 ∷ []) ∷ said 3 (0 ∷ 7 ∷ 9 ∷ []) ∷ said 4 [] ∷ said 3 (0 ∷ 1 ∷ 2 ∷ []) ∷ said 4 [] ∷ said 3 (4 ∷ 7 ∷ 4 ∷ []) ∷ said 1 [] ∷ said 4 []
-    ∷ said 2 [] ∷ said 4 [] ∷ said 2 [] ∷ said 3 (8 ∷ 15 ∷ 8 ∷ []) ∷ []
+    ≡ (4 ∷ []) ∷ (4 ∷ []) ∷ (3 ∷ 8 ∷ 15 ∷ 8 ∷ []) ∷ (3 ∷ 0 ∷ 7 ∷ 9 ∷ []) ∷ (4 ∷ []) ∷ (3 ∷ 0 ∷ 1 ∷ 2 ∷ []) ∷ (4 ∷ []) ∷ (3 ∷ 4 ∷ 7 ∷ 4 ∷ []) ∷ (1 ∷ []) ∷ (4 ∷ [])
+    ∷ (2 ∷ []) ∷ (4 ∷ []) ∷ (2 ∷ []) ∷ (3 ∷ 8 ∷ 15 ∷ 8 ∷ []) ∷ []
 tables-said = refl

@@ -1,12 +1,12 @@
 -- H of a table that keeps its ranges: the least common multiple of the periods, found as far as its limit.
 use mathlib.Core.Path.{_≡_, sym, _∙_}
-use Prim.Native.Nat.{ℕ, _*_, _/_, _≤_, _<_, _∣_}
+use Prim.Native.Nat.{ℕ, _*_, _/_, _^_, _≤_, _<_, _∣_}
 use native.Mathlib.Nat.{div-le-self, mul-le-mul, mul-div-le, mul-le-mul-right, le-trans}
 use native.Mathlib.Omega.{arith}
 use Rattle.model.specs.declared.Table.{Table}
 use Rattle.model.specs.Limits.{slotLimit, roundLimit}
 use Rattle.model.specs.Tasks.{task, round}
-use Rattle.counting.specs.Divisors.{lcmAll, lcmAll-mono, lcmAll-pos, divides-lcmAll, first-multiple}
+use Rattle.counting.specs.Divisors.{lcmAll, lcmAll-mono, lcmAll-pos, lcmAll-le-product, product-le, divides-lcmAll, first-multiple}
 use Rattle.wellformed.specs.Ranges.{Ranged}
 
 -- r is H where H keeps its limit, and is above the limit where H is.
@@ -27,10 +27,14 @@ module _ (t : Table) (ranged : Ranged t) where
   periods-pos : (i : ℕ) → i < t .count → 0 < period t i
   periods-pos i l = ranged .each i l .period-pos
 
+  -- The least common multiple of the periods keeps the bound up to which H is looked for.
+  lcm-bound : lcmAll (t .count) (period t) ≤ slotLimit ^ t .count
+  lcm-bound = le-trans (lcmAll-le-product (t .count) (period t) periods-pos) (product-le (t .count) (period t) slotLimit (λ i l. ranged .each i l .period-le))
+
   -- H is the least common multiple of the periods.
   pub round-lcm : round t ≡ lcmAll (t .count) (period t)
   unfolding round
-  round-lcm = first-multiple (t .count) (period t) periods-pos
+  round-lcm = first-multiple (t .count) (period t) (slotLimit ^ t .count) periods-pos lcm-bound
 
   -- H is not 0.
   pub round-pos : 0 < round t
