@@ -8,11 +8,11 @@ use native.Mathlib.Omega.{arith}
 use lib.ListN.{getD, length, replicate, length-replicate, getD-replicate, List·getD-eq-default}
 use lib.Seq.{ext-getD}
 use Rattle.model.specs.Notation.{fill}
-use Rattle.model.specs.declared.Table.{Table}
-use Rattle.model.specs.declared.Measure.{Measure}
-use Rattle.model.specs.declared.Judgement.{Judgement}
-use Rattle.model.specs.declared.Verdict.{Verdict}
-use Rattle.model.specs.declared.Answer.{Answer}
+use Rattle.values.specs.declared.Table.{Table}
+use Rattle.values.specs.declared.Measure.{Measure}
+use Rattle.values.specs.declared.Judgement.{Judgement}
+use Rattle.values.specs.declared.Verdict.{Verdict}
+use Rattle.values.specs.declared.Answer.{Answer}
 use Rattle.model.specs.Limits.{taskLimit}
 use Rattle.model.specs.Tasks.{round, load, horizon, judged}
 use Rattle.model.specs.Run.{tieOrder, Worst}

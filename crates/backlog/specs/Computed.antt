@@ -1,12 +1,12 @@
 -- THE PERMITTED ANSWER, COMPUTED: by a walk to the horizon. So the answers of given tables are found by computing.
 use mathlib.Core.Path.{_≡_, refl}
 use Prim.Native.Nat.{ℕ}
-use Rattle.model.specs.declared.Table.{Table}
-use Rattle.model.specs.declared.Measure.{Measure}
-use Rattle.model.specs.declared.Judgement.{Judgement}
-use Rattle.model.specs.declared.Verdict.{Verdict}
-use Rattle.model.specs.declared.Outcome.{Outcome}
-use Rattle.model.specs.declared.Answer.{Answer}
+use Rattle.values.specs.declared.Table.{Table}
+use Rattle.values.specs.declared.Measure.{Measure}
+use Rattle.values.specs.declared.Judgement.{Judgement}
+use Rattle.values.specs.declared.Verdict.{Verdict}
+use Rattle.values.specs.declared.Outcome.{Outcome}
+use Rattle.values.specs.declared.Answer.{Answer}
 use Rattle.model.specs.Tasks.{horizon, judged}
 use Rattle.model.specs.Verdict.{verdict, settledBy, emptyIn, brief, Answers, Judged, Permitted}
 use Rattle.wellformed.specs.WellFormed.{well-formed}

@@ -5,7 +5,7 @@ use native.Mathlib.Decide.{decLe}
 use native.Mathlib.Omega.{arith}
 use lib.Dec.{T}
 use Rattle.model.specs.Notation.{Least}
-use Rattle.model.specs.declared.Table.{Table}
+use Rattle.values.specs.declared.Table.{Table}
 use Rattle.model.specs.Tasks.{round, load, horizon}
 use Rattle.model.specs.Demand.{demand, asksTooMuch, lateAt}
 use Rattle.model.specs.Schedule.{Schedule, given, Good}

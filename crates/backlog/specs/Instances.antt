@@ -7,8 +7,8 @@ use native.Mathlib.Omega.{arith}
 use lib.ListN.{getD}
 use lib.Dec.{lit≤, lit<, eqb}
 use Rattle.model.specs.Notation.{sum, largest, count, first, last, fill, Least}
-use Rattle.model.specs.declared.Verdict.{Verdict}
-use Rattle.model.specs.declared.Given.{Given}
+use Rattle.values.specs.declared.Verdict.{Verdict}
+use Rattle.values.specs.declared.Given.{Given}
 use Rattle.model.specs.Limits.{taskLimit}
 use Rattle.model.specs.Tasks.{task, release, taskFault, firstFaulty, round, load, horizon, judged}
 use Rattle.model.specs.Demand.{jobsIn, demand, lateAt}

@@ -4,7 +4,7 @@ use Prim.Native.Nat.{ℕ, zero, suc, _+_, _-_, _*_, _≤_, _<_}
 use native.Mathlib.Omega.{arith}
 use lib.Dec.{T, leb, ltb, eqb}
 use Rattle.model.specs.Notation.{bit, sum, count}
-use Rattle.model.specs.declared.Table.{Table}
+use Rattle.values.specs.declared.Table.{Table}
 use Rattle.model.specs.Tasks.{task, release, due}
 use Rattle.model.specs.Demand.{inside, jobsIn, demand}
 use Rattle.model.specs.Schedule.{Slot, none, job, Schedule, belongs, given, Good}

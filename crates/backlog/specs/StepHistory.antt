@@ -10,10 +10,10 @@ use native.Mathlib.Decide.{ℕ-discrete, decLt}
 use native.Mathlib.Omega.{arith}
 use borrow.Author.Tests.{eq-eqb, ne-eqb, le-leb}
 use lib.Dec.{T, leb, ltb, eqb, ltb→lt, lt→ltb}
-use Rattle.model.specs.declared.Table.{Table}
+use Rattle.values.specs.declared.Table.{Table}
 use Rattle.model.specs.Notation.{bit, sum, count}
 use Rattle.model.specs.Limits.{taskLimit}
-use Rattle.model.specs.declared.Verdict.{Verdict}
+use Rattle.values.specs.declared.Verdict.{Verdict}
 use Rattle.model.specs.Tasks.{task, release}
 use Rattle.model.specs.Verdict.{verdict, Worsts}
 use Rattle.model.specs.Run.{tieOrder, Worst}

@@ -8,10 +8,10 @@ use native.Mathlib.Omega.{arith}
 use borrow.Author.Tests.{eq-eqb, ne-eqb, lt-ltb, le-ltb}
 use lib.Dec.{T, ltb, eqb, ltb→lt, lt→ltb, eqb→eq}
 use lib.ListN.{getD, length, replicate, length-replicate, getD-replicate, List·getD-eq-default}
-use Rattle.model.specs.declared.Table.{Table}
-use Rattle.model.specs.declared.Measure.{Measure}
-use Rattle.model.specs.declared.Judgement.{Judgement}
-use Rattle.model.specs.declared.Given.{Given}
+use Rattle.values.specs.declared.Table.{Table}
+use Rattle.values.specs.declared.Measure.{Measure}
+use Rattle.values.specs.declared.Judgement.{Judgement}
+use Rattle.values.specs.declared.Given.{Given}
 use Rattle.model.specs.Notation.{first}
 use Rattle.model.specs.Limits.{taskLimit}
 use Rattle.model.specs.Tasks.{task, judged}

@@ -3,7 +3,7 @@ use mathlib.Core.Path.{_≡_, refl}
 use Prim.Native.Nat.{ℕ, _/_, _<_}
 use native.Mathlib.Nat.{div-mul-cancel}
 use Rattle.model.specs.Notation.{largest}
-use Rattle.model.specs.declared.Table.{Table}
+use Rattle.values.specs.declared.Table.{Table}
 use Rattle.model.specs.Tasks.{task, round, load, horizon}
 use Rattle.model.specs.Run.{Order, tieOrder}
 use Rattle.counting.specs.Search.{le-largest}

@@ -6,8 +6,8 @@ use native.Mathlib.Decide.{decLt}
 use native.Mathlib.Omega.{arith}
 use borrow.Author.Tests.{lt-ltb, le-ltb}
 use lib.Dec.{T}
-use Rattle.model.specs.declared.Table.{Table}
-use Rattle.model.specs.declared.Verdict.{Verdict}
+use Rattle.values.specs.declared.Table.{Table}
+use Rattle.values.specs.declared.Verdict.{Verdict}
 use Rattle.model.specs.Tasks.{round, load, horizon}
 use Rattle.model.specs.Demand.{demand, asksTooMuch, lateAt}
 use Rattle.model.specs.Verdict.{needed, lateStart, verdict, settledBy}

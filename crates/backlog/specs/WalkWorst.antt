@@ -10,7 +10,7 @@ use native.Mathlib.Omega.{arith}
 use lib.Dec.{T, ltb, eqb, ltb→lt, lt→ltb, eqb→eq}
 use lib.ListN.{getD, length, set, replicate, length-replicate, getD-replicate, length-set, List·getD-eq-default}
 use lib.Seq.{getD-set-same, getD-set-other}
-use Rattle.model.specs.declared.Table.{Table}
+use Rattle.values.specs.declared.Table.{Table}
 use Rattle.model.specs.Notation.{first, largest}
 use Rattle.model.specs.Limits.{taskLimit}
 use Rattle.model.specs.Tasks.{task, horizon, round}

@@ -6,7 +6,7 @@ use native.Mathlib.Nat.{eq-zero-or-pos, le-refl, mul-le-mul-right, le-mul-of-pos
 use native.Mathlib.Decide.{decLt, decLe}
 use native.Mathlib.Omega.{arith}
 use Rattle.model.specs.Tasks.{task}
-use Rattle.model.specs.declared.Table.{Table}
+use Rattle.values.specs.declared.Table.{Table}
 use Rattle.model.specs.Run.{Order, Finishes, Worst}
 use Rattle.counting.specs.Search.{strong, least, least-unique, greatest}
 use Rattle.backlog.specs.Streams.{Run}

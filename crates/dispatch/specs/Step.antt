@@ -9,9 +9,9 @@ use borrow.Author.Tests.{le-ltb}
 use lib.Count.{ones, trailingZeros}
 use lib.Dec.{T, ltb, eqb}
 use lib.ListN.{length}
-use Rattle.model.specs.declared.Table.{Table}
-use Rattle.model.specs.declared.Turn.{Turn}
-use Rattle.model.specs.declared.Given.{Given}
+use Rattle.values.specs.declared.Table.{Table}
+use Rattle.values.specs.declared.Turn.{Turn}
+use Rattle.values.specs.declared.Given.{Given}
 use Rattle.model.specs.Limits.{taskLimit}
 use Rattle.model.specs.Notation.{bits, fill}
 use Rattle.model.specs.Tasks.{task}

@@ -7,8 +7,8 @@ use native.Mathlib.Decide.{decLt}
 use native.Mathlib.Omega.{arith}
 use borrow.Author.Tests.{lt-ltb, le-ltb, le-leb, lt-leb, ltb-true, eqb-true}
 use lib.Dec.{leb, ltb, eqb}
-use Rattle.model.specs.declared.Task.{Task}
-use Rattle.model.specs.declared.Table.{Table}
+use Rattle.values.specs.declared.Task.{Task}
+use Rattle.values.specs.declared.Table.{Table}
 use Rattle.model.specs.Limits.{taskLimit}
 use Rattle.model.specs.Dispatcher.{State}
 

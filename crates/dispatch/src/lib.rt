@@ -9,16 +9,16 @@ ghost use Rattle.slots.specs.Slot.{closed};
 ghost use Rattle.dispatch.specs.State.{stateOf, startedOf, steppedOf};
 ghost use Rattle.dispatch.specs.Strange.{strangeAt, Belongs};
 ghost use Rattle.dispatch.specs.Step.{taken, stepWellFormed, turnOf};
-use model::Admission;
-use model::Given;
-use model::Judgement;
-use model::Refusal;
-use model::TASK_LIMIT;
-use model::Table;
-use model::Task;
-use model::Turn;
 use slots::NO_TASK;
 use slots::Numbers;
+use values::Admission;
+use values::Given;
+use values::Judgement;
+use values::Refusal;
+use values::TASK_LIMIT;
+use values::Table;
+use values::Task;
+use values::Turn;
 
 // For each task its wait, the slots until its next release, and the slots left to its open job; which task ran last.
 pub struct Dispatcher {

@@ -2,7 +2,7 @@
 use mathlib.Core.Path.{_≡_}
 use Prim.Native.Nat.{ℕ, suc, _+_, _-_, _/_}
 use native.Mathlib.Omega.{arith}
-use Rattle.model.specs.declared.Task.{Task}
+use Rattle.values.specs.declared.Task.{Task}
 use Rattle.model.specs.Tasks.{release, due}
 use Rattle.model.specs.Demand.{jobsIn}
 use Rattle.counting.specs.Below.{Grows, below-most, below-period, upto-period, grows-ge, count-between}

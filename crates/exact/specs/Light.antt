@@ -4,8 +4,8 @@ use Prim.Native.Nat.{ℕ, _+_, _-_, _*_, _/_, _≤_, _<_}
 use native.Mathlib.Nat.{le-refl, mul-comm, mul-mul-mul-comm, add-mul, mul-le-mul, mul-le-mul-left, le-of-mul-le-mul-left, div-mul-le-self, div-mul-cancel, lt-div-mul-add}
 use native.Mathlib.Decide.{decLt}
 use native.Mathlib.Omega.{arith}
-use Rattle.model.specs.declared.Task.{Task}
-use Rattle.model.specs.declared.Table.{Table}
+use Rattle.values.specs.declared.Task.{Task}
+use Rattle.values.specs.declared.Table.{Table}
 use Rattle.model.specs.Notation.{sum}
 use Rattle.model.specs.Tasks.{task, release, round, load}
 use Rattle.counting.specs.Below.{below, below-most, below-next, grows-mono}

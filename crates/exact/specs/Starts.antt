@@ -8,8 +8,8 @@ use native.Mathlib.Decide.{decLt, decLe}
 use native.Mathlib.Omega.{arith}
 use borrow.Author.Tests.{le-leb, lt-leb}
 use lib.Dec.{T, leb}
-use Rattle.model.specs.declared.Task.{Task}
-use Rattle.model.specs.declared.Table.{Table}
+use Rattle.values.specs.declared.Task.{Task}
+use Rattle.values.specs.declared.Table.{Table}
 use Rattle.model.specs.Tasks.{task, release, due, round, load}
 use Rattle.model.specs.Notation.{sum}
 use Rattle.model.specs.Demand.{jobsIn, demand, asksTooMuch}

@@ -4,11 +4,11 @@ use mathlib.Core.Bool.{cond, _&&_}
 use Prim.Native.Nat.{ℕ, _-_}
 use lib.Dec.{ltb, eqb}
 use lib.ListN.{getD}
-use Rattle.model.specs.declared.Measure.{Measure}
-use Rattle.model.specs.declared.Verdict.{Verdict}
-use Rattle.model.specs.declared.Outcome.{Outcome}
-use Rattle.model.specs.declared.Empty.{Empty}
-use Rattle.model.specs.declared.Answer.{Answer}
+use Rattle.values.specs.declared.Measure.{Measure}
+use Rattle.values.specs.declared.Verdict.{Verdict}
+use Rattle.values.specs.declared.Outcome.{Outcome}
+use Rattle.values.specs.declared.Empty.{Empty}
+use Rattle.values.specs.declared.Answer.{Answer}
 use Rattle.model.specs.Limits.{taskLimit}
 use Rattle.model.specs.Verdict.{brief}
 use Rattle.backlog.specs.WalkWorst.{noted}

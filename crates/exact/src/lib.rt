@@ -1,7 +1,7 @@
 // The exact test: a walk slot by slot, and at the first late deadline a search for the largest start.
 ghost use mathlib.Core.Path.{_≡_};
 ghost use Prim.Native.Nat.{ℕ, _-_, _≤_, _<_, max, min};
-ghost use Rattle.model.specs.declared.Judgement.{Judgement};
+ghost use Rattle.values.specs.declared.Judgement.{Judgement};
 ghost use Rattle.model.specs.Tasks.{judged};
 ghost use Rattle.model.specs.Demand.{jobsIn, demand};
 ghost use Rattle.model.specs.Verdict.{brief as briefly, Permitted};
@@ -9,17 +9,17 @@ ghost use Rattle.wellformed.specs.Ranges.{InRange, Ranged};
 ghost use Rattle.wellformed.specs.WellFormed.{horizonLimit};
 ghost use Rattle.exact.specs.Starts.{NoRelease, PassedOver};
 ghost use Rattle.exact.specs.Walked.{notedOf, emptied, emptyOf, concluded};
-use model::Answer;
-use model::Empty;
-use model::Judgement;
-use model::Measure;
-use model::Outcome;
-use model::TASK_LIMIT;
-use model::Table;
-use model::Task;
-use model::Verdict;
 use slots::NO_TASK;
 use slots::Numbers;
+use values::Answer;
+use values::Empty;
+use values::Judgement;
+use values::Measure;
+use values::Outcome;
+use values::TASK_LIMIT;
+use values::Table;
+use values::Task;
+use values::Verdict;
 
 // The difference, or 0.
 fn less(x: u64, y: u64) -> u64

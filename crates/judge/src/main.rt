@@ -8,11 +8,11 @@ ghost use Rattle.model.specs.Report.{written, outcomeTold, refusalLine, Printed
 ghost use Rattle.report.specs.Put.{exported};
 use libc::STDIN_FILENO;
 use libc::STDOUT_FILENO;
-use model::Admission;
-use model::Answer;
-use model::LONGEST_FILE;
-use model::Outcome;
-use model::REPORT_BYTES;
+use values::Admission;
+use values::Answer;
+use values::LONGEST_FILE;
+use values::Outcome;
+use values::REPORT_BYTES;
 
 // One byte more than the longest legal file has.
 const INPUT_BYTES: usize = LONGEST_FILE + 1;

@@ -1,9 +1,6 @@
 -- Demand, and intervals that ask too much.
-use mathlib.Core.Bool.{Bool, _&&_}
-use Prim.Native.Nat.{ℕ, _-_, _*_}
-use lib.Dec.{leb, ltb}
+use Rattle.model.specs.Notation.{Bool, _&&_, ℕ, _-_, _*_, leb, ltb, sum, count, some}
 use Rattle.model.specs.Values.{Task, Table}
-use Rattle.model.specs.Notation.{sum, count, some}
 use Rattle.model.specs.Tasks.{task, release, due}
 
 -- The job j is released at or after `from`, with its deadline at or before `to`.

@@ -1,11 +1,6 @@
 -- The dispatcher: its state, when a state belongs to a table, the start, and the step in its four rules.
-use mathlib.Core.List.{List}
-use mathlib.Core.Bool.{Bool, cond, not, _&&_, _||_}
-use Prim.Native.Nat.{ℕ, _-_, max}
-use lib.Dec.{ltb, eqb}
-use lib.ListN.{getD, replicate}
+use Rattle.model.specs.Notation.{List, Bool, cond, not, _&&_, _||_, ℕ, _-_, max, ltb, eqb, getD, replicate, count, first, bits, fill}
 use Rattle.model.specs.Values.{Table, Judgement, Admission, Turn, Given}
-use Rattle.model.specs.Notation.{count, first, bits, fill}
 use Rattle.model.specs.Limits.{taskLimit}
 use Rattle.model.specs.Tasks.{task, judged}
 use Rattle.model.specs.Run.{tieOrder, choose}

@@ -1,11 +1,6 @@
 -- Histories: what the dispatcher does step after step from a start, under any pattern of done reports.
-use mathlib.Core.Path.{_≡_}
-use mathlib.Core.Logic.{_⊎_}
-use mathlib.Core.Bool.{Bool, _&&_}
-use Prim.Native.Nat.{ℕ, zero, suc, min, _≤_, _<_}
-use lib.Dec.{T, leb, eqb}
+use Rattle.model.specs.Notation.{_≡_, _⊎_, Bool, _&&_, ℕ, zero, suc, min, _≤_, _<_, T, leb, eqb, count}
 use Rattle.model.specs.Values.{Table}
-use Rattle.model.specs.Notation.{count}
 use Rattle.model.specs.Tasks.{task, release}
 use Rattle.model.specs.Dispatcher.{State, startOf, after, ownerNow}
 

@@ -1,7 +1,7 @@
 -- What must be believed, in document 01's order.
+pub mod Notation
 pub mod Limits
 pub mod Values
-pub mod Notation
 pub mod Tasks
 pub mod Demand
 pub mod Schedule

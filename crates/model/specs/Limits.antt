@@ -1,5 +1,5 @@
 -- The limits of document 01, each once.
-use Prim.Native.Nat.{ℕ, _+_, _*_}
+use Rattle.model.specs.Notation.{ℕ, _+_, _*_}
 
 -- Tasks in a table. The same number stands for no task.
 abbrev pub taskLimit : ℕ

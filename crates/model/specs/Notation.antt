@@ -1,11 +1,13 @@
--- Sums, counts, searches and texts: the words that the definitions use. No word of scheduling.
-use mathlib.Core.List.{List, [], _∷_, _++_}
-use mathlib.Core.Bool.{Bool, true, false}
-use Prim.Native.Nat.{ℕ, zero, suc, _+_, _*_, _/_, _%_, _^_, max, _<_}
+-- The words that the definitions use: those of the library, all of them here, and sums, counts, searches and texts. None is of scheduling.
+pub use mathlib.Core.Path.{_≡_}
+pub use mathlib.Core.Logic.{_⊎_}
+pub use mathlib.Core.Bool.{Bool, true, false, cond, not, _&&_, _||_}
+pub use mathlib.Core.List.{List, [], _∷_, _++_}
+pub use Prim.Native.Nat.{ℕ, zero, suc, _+_, _-_, _*_, _/_, _%_, _^_, min, max, _≤_, _<_}
+pub use lib.Dec.{T, leb, ltb, eqb}
+pub use lib.ListN.{length, getD, set, replicate, drop}
 use Prim.Native.String as string
 use Prim.Native.Char.{code}
-use lib.Dec.{ltb, eqb}
-use lib.ListN.{set}
 
 -- `cond p a b` of the library is a where the test p holds, and else b. A test counts 1 where it holds.
 abbrev pub bit : Bool → ℕ

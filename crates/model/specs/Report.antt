@@ -1,12 +1,6 @@
 -- The report on an answer, byte for byte; the exported call; the program's output.
-use mathlib.Core.List.{List, [], _++_}
-use mathlib.Core.Bool.{cond}
-use mathlib.Core.Path.{_≡_}
-use Prim.Native.Nat.{ℕ, zero, suc, _+_, _*_}
-use lib.Dec.{ltb}
-use lib.ListN.{getD, length, drop}
+use Rattle.model.specs.Notation.{List, [], _++_, cond, _≡_, ℕ, zero, suc, _+_, _*_, ltb, getD, length, drop, text, decimal}
 use Rattle.model.specs.Values.{Refusal, Verdict, Outcome, Empty, Answer, Admission, Loaded}
-use Rattle.model.specs.Notation.{text, decimal}
 use Rattle.model.specs.Limits.{reportBytes}
 use Rattle.model.specs.TableFile.{loadedFrom}
 use Rattle.model.specs.Verdict.{Permitted}

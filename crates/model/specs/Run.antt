@@ -1,12 +1,6 @@
 -- The run: in each slot the released, unfinished job with the earliest deadline, ties by a fixed order of the tasks.
-use mathlib.Core.Path.{_≡_}
-use mathlib.Core.List.{List}
-use mathlib.Core.Bool.{Bool, cond, _&&_, _||_}
-use Prim.Native.Nat.{ℕ, zero, suc, _+_, _-_, _/_, _≤_}
-use lib.Dec.{leb, ltb, eqb}
-use lib.ListN.{getD, set, replicate}
+use Rattle.model.specs.Notation.{_≡_, List, Bool, cond, _&&_, _||_, ℕ, zero, suc, _+_, _-_, _/_, _≤_, leb, ltb, eqb, getD, set, replicate, first, Least}
 use Rattle.model.specs.Values.{Table}
-use Rattle.model.specs.Notation.{first, Least}
 use Rattle.model.specs.Limits.{taskLimit}
 use Rattle.model.specs.Tasks.{task, release, due, horizon}
 use Rattle.model.specs.Schedule.{none, job, Schedule, given}

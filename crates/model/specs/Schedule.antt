@@ -1,9 +1,6 @@
 -- Schedules, and when one is good.
-use mathlib.Core.Bool.{Bool, false, _&&_}
-use Prim.Native.Nat.{ℕ, _≤_, _<_}
-use lib.Dec.{leb, eqb}
+use Rattle.model.specs.Notation.{Bool, false, _&&_, ℕ, _≤_, _<_, leb, eqb, count}
 use Rattle.model.specs.Values.{Table}
-use Rattle.model.specs.Notation.{count}
 use Rattle.model.specs.Tasks.{task, release, due}
 
 -- Who has a slot: none, or the job j of task i.

@@ -1,11 +1,6 @@
 -- The dispatcher's state in a lent buffer, and the exported start and step of a camera's own loop.
-use mathlib.Core.List.{List, [], _∷_, _++_}
-use mathlib.Core.Bool.{cond, not}
-use Prim.Native.Nat.{ℕ, zero, suc, _+_, _*_, _/_, _%_, min}
-use lib.Dec.{eqb}
-use lib.ListN.{length, replicate}
+use Rattle.model.specs.Notation.{List, [], _∷_, _++_, cond, not, ℕ, zero, suc, _+_, _*_, _/_, _%_, min, eqb, length, replicate, fill}
 use Rattle.model.specs.Values.{Table, Admission, Turn, Given}
-use Rattle.model.specs.Notation.{fill}
 use Rattle.model.specs.Limits.{taskLimit}
 use Rattle.model.specs.TableFile.{four, formOf}
 use Rattle.model.specs.Dispatcher.{State, started, stepped}

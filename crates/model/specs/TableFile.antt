@@ -1,9 +1,5 @@
 -- The table file: for any list of bytes the refusal, or the budget and the tasks.
-use mathlib.Core.List.{List, [], _∷_, _++_}
-use mathlib.Core.Bool.{cond, _||_}
-use Prim.Native.Nat.{ℕ, zero, suc, _+_, _-_, _*_}
-use lib.Dec.{ltb, leb, eqb}
-use lib.ListN.{getD, length, replicate}
+use Rattle.model.specs.Notation.{List, [], _∷_, _++_, cond, _||_, ℕ, zero, suc, _+_, _-_, _*_, ltb, leb, eqb, getD, length, replicate}
 use Rattle.model.specs.Values.{Task, Table, Judgement, Admission, Loaded}
 use Rattle.model.specs.Limits.{taskLimit, budgetBytes, taskBytes}
 use Rattle.model.specs.Tasks.{noTask, judged}

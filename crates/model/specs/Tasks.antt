@@ -1,10 +1,6 @@
 -- Tasks, their ranges, and well-formed tables.
-use mathlib.Core.Bool.{Bool, cond, not, _&&_}
-use Prim.Native.Nat.{ℕ, _+_, _*_, _/_, _%_, _^_}
-use lib.Dec.{leb, ltb, eqb}
-use lib.ListN.{getD}
+use Rattle.model.specs.Notation.{Bool, cond, not, _&&_, ℕ, _+_, _*_, _/_, _%_, _^_, leb, ltb, eqb, getD, sum, largest, every, first}
 use Rattle.model.specs.Values.{Task, Table, Judgement}
-use Rattle.model.specs.Notation.{sum, largest, every, first}
 use Rattle.model.specs.Limits.{taskLimit, slotLimit, roundLimit}
 
 -- What stands past the end of a list of tasks.

@@ -1,19 +1,18 @@
--- The values of src/lib.rt by their names, and each case of an answer as a list: document 01's number first, then its values.
-use mathlib.Core.List.{List, [], _∷_}
-use Prim.Native.Nat.{ℕ}
-pub use Rattle.model.specs.declared.Task.{Task}
-pub use Rattle.model.specs.declared.Table.{Table}
-pub use Rattle.model.specs.declared.Refusal.{Refusal}
-pub use Rattle.model.specs.declared.Measure.{Measure}
-pub use Rattle.model.specs.declared.Judgement.{Judgement}
-pub use Rattle.model.specs.declared.Verdict.{Verdict}
-pub use Rattle.model.specs.declared.Outcome.{Outcome}
-pub use Rattle.model.specs.declared.Empty.{Empty}
-pub use Rattle.model.specs.declared.Answer.{Answer}
-pub use Rattle.model.specs.declared.Admission.{Admission}
-pub use Rattle.model.specs.declared.Loaded.{Loaded}
-pub use Rattle.model.specs.declared.Turn.{Turn}
-pub use Rattle.model.specs.declared.Given.{Given}
+-- The values of crate `values` by their names, and each case of an answer as a list: document 01's number first, then its values.
+use Rattle.model.specs.Notation.{List, [], _∷_, ℕ}
+pub use Rattle.values.specs.declared.Task.{Task}
+pub use Rattle.values.specs.declared.Table.{Table}
+pub use Rattle.values.specs.declared.Refusal.{Refusal}
+pub use Rattle.values.specs.declared.Measure.{Measure}
+pub use Rattle.values.specs.declared.Judgement.{Judgement}
+pub use Rattle.values.specs.declared.Verdict.{Verdict}
+pub use Rattle.values.specs.declared.Outcome.{Outcome}
+pub use Rattle.values.specs.declared.Empty.{Empty}
+pub use Rattle.values.specs.declared.Answer.{Answer}
+pub use Rattle.values.specs.declared.Admission.{Admission}
+pub use Rattle.values.specs.declared.Loaded.{Loaded}
+pub use Rattle.values.specs.declared.Turn.{Turn}
+pub use Rattle.values.specs.declared.Given.{Given}
 
 -- A verdict: its number in document 01's order, and the interval and demand of a late one.
 abbrev pub verdictSaid : Verdict → List ℕ

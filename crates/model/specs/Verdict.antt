@@ -1,12 +1,6 @@
 -- The verdict, and the one permitted answer to a table and a budget.
-use mathlib.Core.Path.{_≡_}
-use mathlib.Core.List.{List}
-use mathlib.Core.Bool.{cond}
-use Prim.Native.Nat.{ℕ, _≤_, _<_}
-use lib.Dec.{ltb}
-use lib.ListN.{getD, length, replicate}
+use Rattle.model.specs.Notation.{_≡_, List, cond, ℕ, _≤_, _<_, ltb, getD, length, replicate, first, last}
 use Rattle.model.specs.Values.{Table, Measure, Judgement, Verdict, Outcome, Empty, Answer}
-use Rattle.model.specs.Notation.{first, last}
 use Rattle.model.specs.Limits.{taskLimit}
 use Rattle.model.specs.Tasks.{round, load, horizon, judged}
 use Rattle.model.specs.Demand.{demand, asksTooMuch, lateAt}

@@ -7,11 +7,11 @@ use mathlib.Core.Bool.{Bool, false, not}
 use Prim.Native.Nat.{ℕ, suc, min, _≤_, _<_}
 use lib.Dec.{eqb}
 use lib.ListN.{length, replicate, length-replicate}
-use Rattle.model.specs.declared.Table.{Table}
-use Rattle.model.specs.declared.Refusal.{Refusal}
-use Rattle.model.specs.declared.Measure.{Measure}
-use Rattle.model.specs.declared.Judgement.{Judgement}
-use Rattle.model.specs.declared.Admission.{Admission}
+use Rattle.values.specs.declared.Table.{Table}
+use Rattle.values.specs.declared.Refusal.{Refusal}
+use Rattle.values.specs.declared.Measure.{Measure}
+use Rattle.values.specs.declared.Judgement.{Judgement}
+use Rattle.values.specs.declared.Admission.{Admission}
 use Rattle.model.specs.Limits.{taskLimit}
 use Rattle.model.specs.Notation.{sum, largest, count, first}
 use Rattle.model.specs.Tasks.{taskFault, firstFaulty, round, load, horizon, judged}

@@ -6,12 +6,12 @@ use native.Mathlib.Omega.{arith}
 use mathlib.Core.Logic.{_↔_, _⊎_, _≢_}
 use Prim.Native.Nat.{ℕ, _≤_, _<_}
 use lib.Dec.{T}
-use Rattle.model.specs.declared.Table.{Table}
-use Rattle.model.specs.declared.Measure.{Measure}
-use Rattle.model.specs.declared.Judgement.{Judgement}
-use Rattle.model.specs.declared.Verdict.{Verdict}
-use Rattle.model.specs.declared.Outcome.{Outcome}
-use Rattle.model.specs.declared.Answer.{Answer}
+use Rattle.values.specs.declared.Table.{Table}
+use Rattle.values.specs.declared.Measure.{Measure}
+use Rattle.values.specs.declared.Judgement.{Judgement}
+use Rattle.values.specs.declared.Verdict.{Verdict}
+use Rattle.values.specs.declared.Outcome.{Outcome}
+use Rattle.values.specs.declared.Answer.{Answer}
 use Rattle.model.specs.Notation.{Least}
 use Rattle.model.specs.Values.{verdictSaid, outcomeSaid}
 use Rattle.model.specs.Tasks.{task, release, due, round, load, horizon, judged}

@@ -4,14 +4,14 @@ use mathlib.Core.Path.{_≡_, refl}
 use mathlib.Core.Bool.{Bool}
 use Prim.Native.Nat.{ℕ, suc, _+_, _≤_, _<_}
 use lib.ListN.{getD}
-use Rattle.model.specs.declared.Table.{Table}
-use Rattle.model.specs.declared.Measure.{Measure}
-use Rattle.model.specs.declared.Judgement.{Judgement}
-use Rattle.model.specs.declared.Verdict.{Verdict}
-use Rattle.model.specs.declared.Outcome.{Outcome}
-use Rattle.model.specs.declared.Admission.{Admission}
-use Rattle.model.specs.declared.Given.{Given}
-use Rattle.model.specs.declared.Answer.{Answer}
+use Rattle.values.specs.declared.Table.{Table}
+use Rattle.values.specs.declared.Measure.{Measure}
+use Rattle.values.specs.declared.Judgement.{Judgement}
+use Rattle.values.specs.declared.Verdict.{Verdict}
+use Rattle.values.specs.declared.Outcome.{Outcome}
+use Rattle.values.specs.declared.Admission.{Admission}
+use Rattle.values.specs.declared.Given.{Given}
+use Rattle.values.specs.declared.Answer.{Answer}
 use Rattle.model.specs.Limits.{taskLimit}
 use Rattle.model.specs.Tasks.{task, release, due, judged}
 use Rattle.model.specs.Verdict.{Permitted}

@@ -3,12 +3,12 @@ use mathlib.Core.Path.{_≡_, refl, subst}
 use mathlib.Core.List.{List, [], _∷_, map}
 use Prim.Native.Nat.{ℕ}
 use lib.ListN.{replicate}
-use Rattle.model.specs.declared.Table.{Table}
-use Rattle.model.specs.declared.Measure.{Measure}
-use Rattle.model.specs.declared.Verdict.{Verdict}
-use Rattle.model.specs.declared.Outcome.{Outcome}
-use Rattle.model.specs.declared.Empty.{Empty}
-use Rattle.model.specs.declared.Answer.{Answer}
+use Rattle.values.specs.declared.Table.{Table}
+use Rattle.values.specs.declared.Measure.{Measure}
+use Rattle.values.specs.declared.Verdict.{Verdict}
+use Rattle.values.specs.declared.Outcome.{Outcome}
+use Rattle.values.specs.declared.Empty.{Empty}
+use Rattle.values.specs.declared.Answer.{Answer}
 use Rattle.model.specs.Values.{outcomeSaid}
 use Rattle.model.specs.Notation.{sum, largest, count, first, last, fill}
 use Rattle.model.specs.Tasks.{taskFault, firstFaulty, round, load, horizon, judged}

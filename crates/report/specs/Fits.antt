@@ -3,9 +3,9 @@ use mathlib.Core.List.{List, _++_}
 use Prim.Native.Nat.{ℕ, zero, suc, _+_, _*_, _-_, _^_, _≤_, _<_}
 use native.Mathlib.Omega.{arith}
 use lib.ListN.{length, getD, length-append}
-use Rattle.model.specs.declared.Answer.{Answer}
-use Rattle.model.specs.declared.Empty.{Empty}
-use Rattle.model.specs.declared.Verdict.{Verdict}
+use Rattle.values.specs.declared.Answer.{Answer}
+use Rattle.values.specs.declared.Empty.{Empty}
+use Rattle.values.specs.declared.Verdict.{Verdict}
 use Rattle.model.specs.Limits.{taskLimit, reportBytes}
 use Rattle.model.specs.Notation.{text, decimal}
 use Rattle.model.specs.Report.{line, verdictWord, worstLines, emptyWord, details, reportOf}

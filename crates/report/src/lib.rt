@@ -9,11 +9,11 @@ ghost use Rattle.model.specs.Report.{line, verdictWord, worstLines, emptyWord, 
 ghost use Rattle.counting.specs.Put.{Put};
 ghost use Rattle.report.specs.Put.{exported};
 ghost use Rattle.report.specs.Fits.{numberBytes, verdictBytes, worstBytes, worstRoom, emptyBytes, intervalBytes, detailsBytes};
-use model::Answer;
-use model::Empty;
-use model::Refusal;
-use model::TASK_LIMIT;
-use model::Verdict;
+use values::Answer;
+use values::Empty;
+use values::Refusal;
+use values::TASK_LIMIT;
+use values::Verdict;
 
 pub fn write_report(buffer: &mut [u8], tasks: usize, answer: Answer, verdict: Verdict) -> usize
     requires { ⌜ tasks ≤ taskLimit ⌝ }

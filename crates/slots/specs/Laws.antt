@@ -8,7 +8,7 @@ use native.Mathlib.Omega.{arith}
 use borrow.Author.Tests.{lt-ltb, le-ltb, eq-eqb, ne-eqb}
 use lib.Dec.{ltb, eqb, ltb→lt}
 use lib.ListN.{length, set, replicate}
-use Rattle.model.specs.declared.Table.{Table}
+use Rattle.values.specs.declared.Table.{Table}
 use Rattle.model.specs.Limits.{taskLimit}
 use Rattle.model.specs.Notation.{bit, bits, fill}
 use Rattle.model.specs.Tasks.{task}

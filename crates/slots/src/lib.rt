@@ -12,8 +12,8 @@ ghost use Rattle.slots.specs.Columns.{columnsOf};
 ghost use Rattle.slots.specs.Choice.{ranks, keyOf};
 ghost use Rattle.slots.specs.Serve.{Served};
 ghost use Rattle.slots.specs.Slot.{closed, isLate, isMember, closedAll, waitReleased, leftReleased};
-use model::TASK_LIMIT;
-use model::Table;
+use values::TASK_LIMIT;
+use values::Table;
 
 // Where a task is named, this is none.
 pub const NO_TASK: u32 = TASK_LIMIT as u32;

@@ -5,7 +5,7 @@ use Prim.Native.Nat.{ℕ, zero, suc, _+_, _*_, _/_, _%_, _<_}
 use native.Mathlib.Omega.{arith}
 use lib.ListN.{length, getD, replicate, length-append, length-replicate, List·getD-append}
 use lib.Seq.{ext-getD, getD-append-add}
-use Rattle.model.specs.declared.Turn.{Turn}
+use Rattle.values.specs.declared.Turn.{Turn}
 use Rattle.model.specs.Limits.{taskLimit}
 use Rattle.model.specs.TableFile.{four}
 use Rattle.model.specs.Dispatcher.{State}

@@ -6,7 +6,7 @@ use native.Mathlib.Numerals.{add-one}
 use native.Mathlib.Omega.{arith}
 use lib.ListN.{length, getD, set, take, length-append}
 use lib.Seq.{sets-eq, take-suc, drop-length}
-use Rattle.model.specs.declared.Turn.{Turn}
+use Rattle.values.specs.declared.Turn.{Turn}
 use Rattle.model.specs.Limits.{taskLimit}
 use Rattle.model.specs.Dispatcher.{State}
 use Rattle.model.specs.StateBuffer.{stateBytes, wordBytes, bytesOf, bufferOf}

@@ -7,9 +7,9 @@ ghost use Rattle.model.specs.StateBuffer.{stateBytes, wordBytes, bytesOf, buffe
 ghost use Rattle.counting.specs.Put.{Put};
 ghost use Rattle.dispatch.specs.State.{stateOf};
 use dispatch::Dispatcher;
-use model::TASK_LIMIT;
-use model::Turn;
 use slots::Numbers;
+use values::TASK_LIMIT;
+use values::Turn;
 
 const WORD_BYTES: usize = 4;
 

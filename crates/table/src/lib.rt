@@ -5,14 +5,14 @@ ghost use Rattle.model.specs.Limits.{taskLimit};
 ghost use Rattle.model.specs.Tasks.{within, taskFault, firstFaulty, load, horizon, refuse, judged};
 ghost use Rattle.wellformed.specs.Ranges.{Ranged};
 ghost use Rattle.wellformed.specs.Round.{RoundTold, RoundKept};
-use model::Judgement;
-use model::Measure;
-use model::ROUND_LIMIT;
-use model::Refusal;
-use model::SLOT_LIMIT;
-use model::TASK_LIMIT;
-use model::Table;
-use model::Task;
+use values::Judgement;
+use values::Measure;
+use values::ROUND_LIMIT;
+use values::Refusal;
+use values::SLOT_LIMIT;
+use values::TASK_LIMIT;
+use values::Table;
+use values::Task;
 
 pub fn judge(t: Table) -> Judgement
     ensures { λ r. ⌜ r ≡ judged t ⌝ }

@@ -4,11 +4,11 @@ use mathlib.Core.List.{List, [], _∷_, _++_}
 use Prim.Native.Nat.{ℕ, _+_, _<_, _≤_}
 use native.Mathlib.Omega.{arith}
 use lib.ListN.{length, length-append}
-use Rattle.model.specs.declared.Task.{Task}
-use Rattle.model.specs.declared.Table.{Table}
+use Rattle.values.specs.declared.Task.{Task}
+use Rattle.values.specs.declared.Table.{Table}
 use Rattle.tablefile.specs.declared.Record.{Record}
-use Rattle.model.specs.declared.Admission.{Admission}
-use Rattle.model.specs.declared.Loaded.{Loaded}
+use Rattle.values.specs.declared.Admission.{Admission}
+use Rattle.values.specs.declared.Loaded.{Loaded}
 use Rattle.model.specs.Limits.{taskLimit, budgetBytes, taskBytes, longestFile}
 use Rattle.model.specs.TableFile.{tableOf, formOf}
 use Rattle.tablefile.specs.declared.Reading.{Reading}

@@ -7,8 +7,8 @@ use native.Mathlib.Omega.{arith}
 use borrow.Author.Tests.{ne-eqb, lt-ltb, le-ltb, lt-leb}
 use lib.ListN.{getD, length, take}
 use lib.Seq.{length-take-le, take-all, getD-take}
-use Rattle.model.specs.declared.Task.{Task}
-use Rattle.model.specs.declared.Loaded.{Loaded}
+use Rattle.values.specs.declared.Task.{Task}
+use Rattle.values.specs.declared.Loaded.{Loaded}
 use Rattle.model.specs.Limits.{taskLimit, budgetBytes, taskBytes, longestFile}
 use Rattle.model.specs.TableFile.{four, eight, taskIn, readRecord, readFrom, formOf, judgedForm, loadedFrom}
 

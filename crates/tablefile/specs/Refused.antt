@@ -7,10 +7,10 @@ use native.Mathlib.Omega.{arith}
 use borrow.Author.Tests.{leb-true}
 use lib.Dec.{leb, ltb, eqb}
 use lib.ListN.{length, getD}
-use Rattle.model.specs.declared.Task.{Task}
-use Rattle.model.specs.declared.Judgement.{Judgement}
-use Rattle.model.specs.declared.Admission.{Admission}
-use Rattle.model.specs.declared.Loaded.{Loaded}
+use Rattle.values.specs.declared.Task.{Task}
+use Rattle.values.specs.declared.Judgement.{Judgement}
+use Rattle.values.specs.declared.Admission.{Admission}
+use Rattle.values.specs.declared.Loaded.{Loaded}
 use Rattle.model.specs.Limits.{taskLimit, budgetBytes, taskBytes, longestFile}
 use Rattle.model.specs.Tasks.{judged}
 use Rattle.model.specs.TableFile.{eight, taskIn, refuse, admit, whole, readRecord, readFrom, formOf, judgedTable, judgedForm, loadedFrom}

@@ -1,15 +1,15 @@
 -- From record to record: what was reached, and what reading there leads to.
 use mathlib.Core.Path.{_≡_, refl, sym, ap, _∙_}
-use mathlib.Core.Bool.{Bool, true, false, cond}
+use mathlib.Core.Bool.{false}
 use mathlib.Core.List.{List, [], _∷_, _++_}
 use Prim.Native.Nat.{ℕ, zero, suc, _+_, _*_, _<_, _≤_}
 use native.Mathlib.Omega.{arith}
 use borrow.Author.Tests.{eq-eqb, ne-eqb, lt-ltb, le-ltb, le-leb, lt-leb, ltb-true, ltb-false, leb-true, leb-false}
 use lib.Dec.{ltb, leb, eqb}
 use lib.ListN.{length, getD, drop, length-drop, length-append}
-use Rattle.model.specs.declared.Task.{Task}
+use Rattle.values.specs.declared.Task.{Task}
 use Rattle.tablefile.specs.declared.Record.{Record}
-use Rattle.model.specs.declared.Loaded.{Loaded}
+use Rattle.values.specs.declared.Loaded.{Loaded}
 use Rattle.model.specs.Limits.{taskLimit, budgetBytes, taskBytes, longestFile}
 use Rattle.model.specs.TableFile.{taskIn, refuse, admit, whole, readRecord, readFrom, formOf}
 use Rattle.tablefile.specs.declared.Reading.{Reading}

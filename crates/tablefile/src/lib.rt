@@ -1,11 +1,11 @@
 // A table file, read record by record where it lies.
-use model::Admission;
-use model::Judgement;
-use model::Loaded;
-use model::Refusal;
-use model::TASK_LIMIT;
-use model::Table;
-use model::Task;
+use values::Admission;
+use values::Judgement;
+use values::Loaded;
+use values::Refusal;
+use values::TASK_LIMIT;
+use values::Table;
+use values::Task;
 ghost use mathlib.Core.Path.{_≡_};
 ghost use mathlib.Core.List.{[]};
 ghost use Prim.Native.Nat.{_+_, _<_, _≤_};

@@ -4,7 +4,7 @@ use crate::files;
 use crate::files::Draft;
 use crate::say;
 use crate::tables;
-use model::STATE_BYTES;
+use values::STATE_BYTES;
 
 // The longest buffer that is lent.
 const ROOM: usize = 65_536;

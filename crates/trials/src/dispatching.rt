@@ -3,12 +3,12 @@ use crate::say;
 use crate::tables;
 use crate::tables::task;
 use dispatch::Dispatcher;
-use model::Admission;
-use model::Given;
-use model::TASK_LIMIT;
-use model::Table;
-use model::Turn;
 use slots::NO_TASK;
+use values::Admission;
+use values::Given;
+use values::TASK_LIMIT;
+use values::Table;
+use values::Turn;
 
 // A task's wait, and the slots left to its open job.
 struct Entry {

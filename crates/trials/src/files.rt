@@ -1,7 +1,7 @@
 // Table files, byte by byte as document 01 lays them out.
-use model::TASK_LIMIT;
-use model::Table;
-use model::Task;
+use values::TASK_LIMIT;
+use values::Table;
+use values::Task;
 
 const SPACE: usize = 320;
 

@@ -2,9 +2,9 @@
 use crate::say;
 use crate::tables;
 use crate::tables::task;
-use model::Judgement;
-use model::Table;
-use model::Task;
+use values::Judgement;
+use values::Table;
+use values::Task;
 
 pub fn counts() {
     judge(b"no task", tables::alike(0, task(0, 1, 1, 1)));

@@ -4,9 +4,9 @@ use crate::files::Draft;
 use crate::say;
 use crate::tables;
 use crate::tables::task;
-use model::Admission;
-use model::Loaded;
-use model::Table;
+use values::Admission;
+use values::Loaded;
+use values::Table;
 
 pub fn first_records() {
     load(b"empty", Draft::new());

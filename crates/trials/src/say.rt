@@ -1,11 +1,11 @@
 // The parts of a line.
 use libc::STDOUT_FILENO;
-use model::Measure;
-use model::Refusal;
-use model::TASK_LIMIT;
-use model::Table;
-use model::Task;
 use slots::Numbers;
+use values::Measure;
+use values::Refusal;
+use values::TASK_LIMIT;
+use values::Table;
+use values::Task;
 
 pub fn words(s: &[u8]) {
     io::write_all(STDOUT_FILENO, s);

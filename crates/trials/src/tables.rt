@@ -1,8 +1,8 @@
 // Document 01's tables, and the means to write others.
-use model::TASK_LIMIT;
-use model::Table;
-use model::Task;
 use std::num::wrapping_add_u32;
+use values::TASK_LIMIT;
+use values::Table;
+use values::Task;
 
 pub fn task(offset: u32, cost: u32, deadline: u32, period: u32) -> Task {
     Task {

@@ -2,11 +2,11 @@
 use crate::say;
 use crate::tables;
 use crate::tables::task;
-use model::Answer;
-use model::Empty;
-use model::Outcome;
-use model::Table;
-use model::Verdict;
+use values::Answer;
+use values::Empty;
+use values::Outcome;
+use values::Table;
+use values::Verdict;
 
 pub fn verdicts() {
     test(b"a", tables::a(), 1000);

@@ -3,9 +3,9 @@ use mathlib.Core.Path.{_≡_, refl, ap, _∙_}
 use mathlib.Core.List.{[], _∷_}
 use Prim.Native.Nat.{ℕ}
 use native.Mathlib.Omega.{arith}
-use Rattle.model.specs.declared.Task.{Task}
-use Rattle.model.specs.declared.Table.{Table}
-use Rattle.model.specs.declared.Judgement.{Judgement}
+use Rattle.values.specs.declared.Task.{Task}
+use Rattle.values.specs.declared.Table.{Table}
+use Rattle.values.specs.declared.Judgement.{Judgement}
 use Rattle.model.specs.Notation.{sum, largest, first}
 use Rattle.model.specs.Tasks.{taskFault, firstFaulty, round, load, horizon, refuse, judged}
 use Rattle.model.specs.TableFile.{tableOf}

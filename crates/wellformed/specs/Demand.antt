@@ -2,8 +2,8 @@
 use Prim.Native.Nat.{ℕ, _*_, _≤_, _<_}
 use native.Mathlib.Nat.{mul-le-mul, le-refl}
 use native.Mathlib.Omega.{arith}
-use Rattle.model.specs.declared.Task.{Task}
-use Rattle.model.specs.declared.Table.{Table}
+use Rattle.values.specs.declared.Task.{Task}
+use Rattle.values.specs.declared.Table.{Table}
 use Rattle.model.specs.Limits.{taskLimit, slotLimit}
 use Rattle.model.specs.Tasks.{task}
 use Rattle.model.specs.Demand.{jobsIn, demand}

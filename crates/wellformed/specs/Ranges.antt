@@ -7,8 +7,8 @@ use native.Mathlib.Decide.{ℕ-discrete}
 use native.Mathlib.Omega.{arith}
 use borrow.Author.Tests.{ne-eqb}
 use lib.Dec.{T, leb, eqb, leb→le, le→leb}
-use Rattle.model.specs.declared.Task.{Task}
-use Rattle.model.specs.declared.Table.{Table}
+use Rattle.values.specs.declared.Task.{Task}
+use Rattle.values.specs.declared.Table.{Table}
 use Rattle.model.specs.Limits.{taskLimit, slotLimit}
 use Rattle.model.specs.Tasks.{task, within, taskFault, firstFaulty}
 use Rattle.counting.specs.Count.{and-iff}

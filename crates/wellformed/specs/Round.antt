@@ -3,7 +3,7 @@ use mathlib.Core.Path.{_≡_, sym, _∙_}
 use Prim.Native.Nat.{ℕ, _*_, _/_, _^_, _≤_, _<_, _∣_}
 use native.Mathlib.Nat.{div-le-self, mul-le-mul, mul-div-le, mul-le-mul-right, le-trans}
 use native.Mathlib.Omega.{arith}
-use Rattle.model.specs.declared.Table.{Table}
+use Rattle.values.specs.declared.Table.{Table}
 use Rattle.model.specs.Limits.{slotLimit, roundLimit}
 use Rattle.model.specs.Tasks.{task, round}
 use Rattle.counting.specs.Divisors.{lcmAll, lcmAll-mono, lcmAll-pos, lcmAll-le-product, product-le, divides-lcmAll, first-multiple}

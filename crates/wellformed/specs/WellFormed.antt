@@ -5,9 +5,9 @@ use Prim.Native.Nat.{ℕ, _+_, _*_, _≤_, _<_}
 use native.Mathlib.Omega.{arith}
 use lib.Dec.{eqb, ltb}
 use borrow.Author.Tests.{eqb-false, ltb-false, ne-eqb, le-ltb, lt-ltb}
-use Rattle.model.specs.declared.Table.{Table}
-use Rattle.model.specs.declared.Measure.{Measure}
-use Rattle.model.specs.declared.Judgement.{Judgement}
+use Rattle.values.specs.declared.Table.{Table}
+use Rattle.values.specs.declared.Measure.{Measure}
+use Rattle.values.specs.declared.Judgement.{Judgement}
 use Rattle.model.specs.Limits.{taskLimit, slotLimit, roundLimit}
 use Rattle.model.specs.Tasks.{task, taskFault, firstFaulty, round, load, horizon, refuse, judged}
 use Rattle.counting.specs.Search.{le-largest, largest-le}

@@ -2,10 +2,10 @@
 use mathlib.Core.Path.{_≡_, sym, ap, _∙_}
 use mathlib.Core.List.{List}
 use Prim.Native.Nat.{ℕ}
-use Rattle.model.specs.declared.Admission.{Admission}
-use Rattle.model.specs.declared.Answer.{Answer}
-use Rattle.model.specs.declared.Loaded.{Loaded}
-use Rattle.model.specs.declared.Outcome.{Outcome}
+use Rattle.values.specs.declared.Admission.{Admission}
+use Rattle.values.specs.declared.Answer.{Answer}
+use Rattle.values.specs.declared.Loaded.{Loaded}
+use Rattle.values.specs.declared.Outcome.{Outcome}
 use Rattle.model.specs.Report.{Exported, refused, written, outcomeTold, FileTold}
 
 abbrev pub FileExported : List ℕ → Loaded → Exported → Admission → Type 0

@@ -12,16 +12,16 @@ ghost use Rattle.model.specs.StateBuffer.{stateBytes, stateIn, quiet, startWrit
 ghost use Rattle.report.specs.Put.{exported};
 ghost use Rattle.yolizadwa.specs.Outcomes.{FileExported, exportOf};
 use dispatch::Dispatcher;
-use model::Admission;
-use model::Answer;
-use model::Given;
-use model::Outcome;
-use model::REPORT_BYTES;
-use model::Refusal;
-use model::STATE_BYTES;
-use model::Table;
-use model::Turn;
 use slots::NO_TASK;
+use values::Admission;
+use values::Answer;
+use values::Given;
+use values::Outcome;
+use values::REPORT_BYTES;
+use values::Refusal;
+use values::STATE_BYTES;
+use values::Table;
+use values::Turn;
 
 const SHORT_BUFFER: u32 = 30;
 

@@ -2,7 +2,7 @@
 use mathlib.Core.Path.{_≡_, sym, _∙_}
 use native.Mathlib.Omega.{arith}
 use borrow.Author.Needs.{needs}
-use Rattle.model.specs.declared.Judgement.{Judgement}
+use Rattle.values.specs.declared.Judgement.{Judgement}
 use Rattle.model.specs.Tasks.{judged}
 use Rattle.model.specs.Verdict.{Permitted}
 use Rattle.wellformed.specs.WellFormed.{well-formed}

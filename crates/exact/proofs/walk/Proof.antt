@@ -7,7 +7,7 @@ use native.Mathlib.Decide.{decLt}
 use native.Mathlib.Omega.{arith}
 use lib.Dec.{T}
 use borrow.Author.Needs.{needs}
-use Rattle.model.specs.declared.Table.{Table}
+use Rattle.values.specs.declared.Table.{Table}
 use Rattle.model.specs.Tasks.{round, load}
 use Rattle.model.specs.Demand.{demand, asksTooMuch}
 use Rattle.wellformed.specs.WellFormed.{WellFormed, well-formed}

@@ -1,0 +1,104 @@
+// The values that pass between the calls. What they mean stands in `model`.
+
+// The limits of the code, each once: they are those of `model`, or the proofs fail.
+pub const TASK_LIMIT: usize = 16;
+
+pub const SLOT_LIMIT: u32 = 60_000;
+
+pub const ROUND_LIMIT: u64 = 1_000_000_000;
+
+pub const LONGEST_FILE: usize = 282;
+
+pub const REPORT_BYTES: usize = 512;
+
+pub const STATE_BYTES: usize = 144;
+
+// A task: the first release, the slots of each job, the deadline after each release, and the period.
+pub struct Task {
+    pub offset: u32,
+    pub cost: u32,
+    pub deadline: u32,
+    pub period: u32,
+}
+
+// The tasks below `count`. Any value may be handed to a public call; entries from `count` on are not read.
+pub struct Table {
+    pub count: usize,
+    pub tasks: [Task; TASK_LIMIT],
+}
+
+// A refusal: document 01's number and place.
+pub struct Refusal {
+    pub number: u32,
+    pub place: u32,
+}
+
+// What a well-formed table measures: H, the slots its jobs ask for in H slots, and its horizon.
+pub struct Measure {
+    pub round: u64,
+    pub load: u64,
+    pub horizon: u64,
+}
+
+// Whether a table is well-formed.
+pub enum Judgement {
+    Refused(Refusal),
+    WellFormed(Measure),
+}
+
+// What the exact test decides.
+pub enum Verdict {
+    Passes,
+    Overload,
+    Late { from: u64, to: u64, demand: u64 },
+    Undecided,
+}
+
+// The answer of the exact test: a refusal or a verdict.
+pub enum Outcome {
+    Refused(Refusal),
+    Tested(Verdict),
+}
+
+// The first empty slot of the run before the horizon, or none.
+pub enum Empty {
+    Slot(u64),
+    Nowhere,
+}
+
+// All that the exact test says. What the outcome leaves nothing to say of is 0, or nowhere.
+pub struct Answer {
+    pub outcome: Outcome,
+    pub measure: Measure,
+    pub settled: u64,
+    pub worst: [u32; TASK_LIMIT],
+    pub empty: Empty,
+}
+
+// Whether a buffer, a file, or a table to start with, is taken.
+pub enum Admission {
+    Refused(Refusal),
+    Admitted,
+}
+
+// What a table file holds. Of a refused file the budget is 0 and the table empty.
+pub struct Loaded {
+    pub admission: Admission,
+    pub budget: u64,
+    pub table: Table,
+}
+
+// What a step says: the task that owns the slot, or 16; the tasks closed late as a set of bits, how many they are, and
+// the lowest of them, or 16.
+pub struct Turn {
+    pub owner: u32,
+    pub late: u32,
+    pub closed: u32,
+    pub lowest: u32,
+}
+
+// The answer of a step: a refusal, or what it says.
+pub enum Given {
+    Refused(Refusal),
+    Slot(Turn),
+}
