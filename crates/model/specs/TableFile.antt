@@ -29,7 +29,8 @@ admit b ks = record { admission = Admission.Admitted; budget = b; table = tableO
 abbrev pub whole : List ℕ → ℕ → ℕ → Loaded → Loaded
 whole s at bytes go = cond (ltb (length s) (at + bytes)) (refuse 20 at) go
 
--- The record at a place after the budget b and the tasks ks; `go` is what a task leads to. Whatever follows the end is 24.
+-- The record at a place after the budget b and the tasks ks: kind 1 is a budget, 2 a task, which leads to `go`, 3 the end. A kind is known,
+-- or 21; then allowed here, or 23 or 25; then its body is whole, or 20. Whatever follows the end is 24.
 abbrev pub readRecord : List ℕ → ℕ → List Task → ℕ → Loaded → Loaded
 readRecord s b ks at go =
     cond (leb (length s) at) (refuse 26 (length s))
@@ -43,7 +44,7 @@ readFrom s b ks zero at = readRecord s b ks at (refuse 25 at)
 readFrom s b ks (suc room) at =
     readRecord s b ks at (whole s at taskBytes (readFrom s b (ks ++ (taskIn s (at + 1) ∷ [])) room (at + taskBytes)))
 
--- The form of a file: the budget first, once; then the tasks; then the end, and nothing after it. Kind 1 is a budget, 2 a task, 3 the end.
+-- The form of a file: the budget first, once; then the tasks; then the end, and nothing after it.
 unfoldable pub formOf : List ℕ → Loaded
 formOf s =
     cond (eqb (length s) 0) (refuse 22 0)

@@ -38,7 +38,7 @@ firstFaulty t = first (λ i. not (eqb (taskFault (task t i)) 0)) 0 (t .count)
 abbrev pub commonMultiple : Table → ℕ → Bool
 commonMultiple t h = ltb 0 h && every (λ i. eqb (h % task t i .period) 0) (t .count)
 
--- H: the least common multiple of all periods. Where these keep their range it is at most `slotLimit` to the power of their number.
+-- H: the least common multiple of all periods, looked for up to `slotLimit` to the power of their number: periods in range have it there.
 unfoldable pub round : Table → ℕ
 round t = first (commonMultiple t) 0 (slotLimit ^ t .count)
 

@@ -9,7 +9,7 @@ use Prim.Native.Nat.{ℕ, suc, _/_, _%_, _≤_, _<_}
 use native.Mathlib.Omega.{arith}
 use borrow.Author.Tests.{ltb-true, lt-ltb, le-ltb}
 use lib.Dec.{ltb}
-use lib.ListN.{length, getD, take}
+use lib.ListN.{length, take}
 use Rattle.values.specs.declared.Table.{Table}
 use Rattle.values.specs.declared.Refusal.{Refusal}
 use Rattle.values.specs.declared.Measure.{Measure}
@@ -36,7 +36,8 @@ use Rattle.backlog.specs.Answers.{permitted-unique}
 use Rattle.backlog.specs.Computed.{answerOf, computed}
 use Rattle.tablefile.specs.declared.Record.{Record}
 use Rattle.tablefile.specs.declared.Reading.{Reading}
-use Rattle.tablefile.specs.Reading.{recordSaid, readingAt, OfKind, record-kind}
+use Rattle.tablefile.specs.Reading.{readingAt}
+use Rattle.tablefile.specs.Said.{recordSaid, numbersAt, Has, record-said}
 use Rattle.tablefile.specs.Longer.{first-bytes}
 use Rattle.tablefile.specs.Refused.{AdmissionTellable, load-tellable}
 use Rattle.report.specs.Permitted.{Fitting, permitted-fits}
@@ -154,9 +155,9 @@ pub refused-form : (file : List ℕ) (r : Refusal) → formOf file .admission �
 unfolding loadedFrom
 refused-form file r e = rw e refl
 
--- A record is of the kind that its first byte says.
-pub of-kind : (s : List ℕ) (at n : ℕ) (k : Record) → readingAt s at n ≡ Reading.Whole k → getD (recordSaid k) 0 0 ≡ getD s at 0
-of-kind s at n k e = subst (OfKind (getD s at 0)) e (record-kind s at n)
+-- A record that is read has the numbers that stand in the file: its kind byte, and those of its body.
+pub record-read : (s : List ℕ) (at n : ℕ) (k : Record) → readingAt s at n ≡ Reading.Whole k → recordSaid k ≡ numbersAt s at
+record-read s at n k e = subst (Has (numbersAt s at)) e (record-said s at n)
 
 -- A table that is refused is refused by the test with the same number and place, and nothing else is told.
 pub refused-answer : (t : Table) (budget : ℕ) (r : Refusal) (a : Answer) → judged t ≡ Judgement.Refused r → Permitted t budget a → a ≡ brief (Outcome.Refused r) (record { round = 0; load = 0; horizon = 0 }) 0

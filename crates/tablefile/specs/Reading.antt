@@ -1,9 +1,8 @@
 -- What reading at a place comes to: the checks in their order, over the rest of the file after the kind byte.
-use mathlib.Core.List.{List, [], _∷_}
-use mathlib.Core.Path.{_≡_, refl, sym}
+use mathlib.Core.List.{List}
+use mathlib.Core.Path.{_≡_, refl}
 use mathlib.Core.Bool.{Bool, true, false, cond}
 use Prim.Native.Nat.{ℕ, _+_, _-_}
-use borrow.Author.Tests.{eqb-true}
 use lib.Dec.{ltb, leb, eqb}
 use lib.ListN.{getD, length, drop}
 use Rattle.tablefile.specs.declared.Record.{Record}
@@ -20,12 +19,6 @@ taskBody = taskBytes - 1
 
 abbrev pub refused : ℕ → ℕ → Reading
 refused n p = Reading.Refused (record { number = n; place = p })
-
--- A record's kind, and the numbers of its body in their order.
-abbrev pub recordSaid : Record → List ℕ
-recordSaid (Record.Budget b) = 1 ∷ b ∷ []
-recordSaid (Record.OneTask k) = 2 ∷ k .offset ∷ k .cost ∷ k .deadline ∷ k .period ∷ []
-recordSaid Record.End = 3 ∷ []
 
 -- A budget, a task after n tasks, an end: its kind byte stands at this place, and this is the rest of the file.
 abbrev pub budgetReading : List ℕ → ℕ → Reading
@@ -56,20 +49,3 @@ readingAt s at n =
 pub either : (P : Reading → Type 0) (test : Bool) (x y : Reading) → (test ≡ true → P x) → (test ≡ false → P y) → P (cond test x y)
 either P true x y f g = f refl
 either P false x y f g = g refl
-
--- A record that is read is of this kind.
-abbrev pub OfKind : ℕ → Reading → Type 0
-OfKind kind (Reading.Refused r) = Unit
-OfKind kind (Reading.Whole k) = getD (recordSaid k) 0 0 ≡ kind
-
--- It is of the kind that its first byte says.
-pub record-kind : (s : List ℕ) (at n : ℕ) → OfKind (getD s at 0) (readingAt s at n)
-unfolding readingAt
-record-kind s at n =
-    let kind = getD s at 0 in
-    let is = either (OfKind kind) in
-    let rest = drop (at + 1) s in
-    is (leb (length s) at) _ _ (λ e. is (eqb at 0) _ _ (λ e. tt) (λ e. tt))
-    (λ e. is (eqb kind 1) _ _ (λ k. is (ltb 0 at) _ _ (λ e. tt) (λ e. is (ltb (length rest) budgetBody) _ _ (λ e. tt) (λ e. sym (eqb-true kind 1 k))))
-    (λ e. is (eqb kind 2) _ _ (λ k. is (eqb at 0) _ _ (λ e. tt) (λ e. is (leb taskLimit n) _ _ (λ e. tt) (λ e. is (ltb (length rest) taskBody) _ _ (λ e. tt) (λ e. sym (eqb-true kind 2 k)))))
-    (λ e. is (eqb kind 3) _ _ (λ k. is (eqb at 0) _ _ (λ e. tt) (λ e. is (ltb 0 (length rest)) _ _ (λ e. tt) (λ e. sym (eqb-true kind 3 k)))) (λ e. tt))))

@@ -50,6 +50,7 @@ pub enum Record {
     End,
 }
 
+// What reading at a place comes to.
 pub enum Reading {
     Refused(Refusal),
     Whole(Record),
