@@ -40,7 +40,7 @@ module _ (t : Table) (r : Ranged t) where
       go v n (passed g b l) e = (g, λ from to w. let (u, m, h) = late-soon t r g to (late-at-iff t to .1 (from, w)) in none-late t l .1 u m h)
 
   -- With no interval that ever asks too much, a budget that reaches the horizon gives a pass.
-  pub passed-of-never : (budget : ℕ) → horizon t ≤ budget → NeverTooMuch t → verdict t budget ≡ Verdict.Passes
+  passed-of-never : (budget : ℕ) → horizon t ≤ budget → NeverTooMuch t → verdict t budget ≡ Verdict.Passes
   passed-of-never budget b h = is-passed t budget light (omega (arith, needed-le t)) (quiet (needed t)) .0
     where
       quiet : (to : ℕ) → Late t to → ⊥

@@ -109,7 +109,7 @@ module _ (J : Jobs) where
               omega (arith, o .fresh i j k r)
 
 module _ (J : Jobs) (lf : ℕ → ℕ → ℕ) (P : Dispatch J lf) where
-  pub held-step : (κ t : ℕ) → held J lf κ (suc t) ≤ (held J lf κ t + arrive J κ t) - 1
+  held-step : (κ t : ℕ) → held J lf κ (suc t) ≤ (held J lf κ t + arrive J κ t) - 1
   unfolding held arrive
   held-step κ t = go (P .turn t)
     where
@@ -148,11 +148,11 @@ module _ (J : Jobs) (lf : ℕ → ℕ → ℕ) (P : Dispatch J lf) where
       each i l (yes p) = P .start i l
       each i l (no p) = refl
 
-  pub held-bounded : (κ t : ℕ) → held J lf κ t ≤ backlog (arrive J κ) t
+  held-bounded : (κ t : ℕ) → held J lf κ t ≤ backlog (arrive J κ) t
   held-bounded κ = backlog-bounds (arrive J κ) (held J lf κ) (omega (arith, held-start κ)) (held-step κ)
 
   -- While no job of it is released, what is left of a stream's open job does not grow.
-  pub only-falls : (i t u : ℕ) → i < J .n → t ≤ u → below (J .rel i) u ≡ below (J .rel i) t → lf u i ≤ lf t i
+  only-falls : (i t u : ℕ) → i < J .n → t ≤ u → below (J .rel i) u ≡ below (J .rel i) t → lf u i ≤ lf t i
   only-falls i t u l h = le-ind (λ (v : ℕ). below (J .rel i) v ≡ below (J .rel i) t → lf v i ≤ lf t i) (λ e. le-refl _) step u h
     where
       slot : (v : ℕ) (x : ℕ → ℕ) → Rests J x (lf (suc v)) ⊎ ((k : ℕ) × Gives J v x (lf (suc v)) k) → lf (suc v) i ≤ x i
@@ -171,11 +171,11 @@ module _ (J : Jobs) (lf : ℕ → ℕ → ℕ) (P : Dispatch J lf) where
 
   module _ (s : ℕ → ℕ → ℕ) (R : Run J s) where
     -- The run at full cost is the worst case, for every cut.
-    pub held-le-left : (κ t : ℕ) → held J lf κ t ≤ left J s κ t
+    held-le-left : (κ t : ℕ) → held J lf κ t ≤ left J s κ t
     held-le-left κ t = omega (arith, held-bounded κ t, left-is J s R κ t)
 
     -- Where no work up to its key is left in the run, the open job has nothing left.
-    pub none-held : (i j t : ℕ) → i < J .n → below (J .rel i) t ≡ suc j → left J s (J .key i j) t ≡ 0 → lf t i ≡ 0
+    none-held : (i j t : ℕ) → i < J .n → below (J .rel i) t ≡ suc j → left J s (J .key i j) t ≡ 0 → lf t i ≡ 0
     unfolding held
     none-held i j t l e z = at (decLe (openKey J t i) (J .key i j)) (omega (arith, held-le-left (J .key i j) t, sum-member (J .n) (heldOf J (J .key i j) t (lf t)) i l))
       where

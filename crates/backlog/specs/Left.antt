@@ -43,7 +43,7 @@ module _ (J : Jobs) (s : ℕ → ℕ → ℕ) (R : Run J s) where
       sym (sum-add (J .n) (leftOf J κ t (s t)) (arriveOf J κ t))
       ∙ sum-eq (J .n) _ _ (λ i l. sym (merge (work J κ i) (released J t i) (released J (suc t) i) (s t i) (served-le t i l) (released-mono J i l t (suc t) (omega arith))))
 
-  pub left-step : (κ t : ℕ) → left J s κ (suc t) ≡ (left J s κ t + arrive J κ t) - 1
+  left-step : (κ t : ℕ) → left J s κ (suc t) ≡ (left J s κ t + arrive J κ t) - 1
   unfolding left
   left-step κ t = go (R .slot t)
     where
@@ -106,7 +106,7 @@ module _ (J : Jobs) (s : ℕ → ℕ → ℕ) (R : Run J s) where
       )
 
   -- And in the slot that finishes a job, no work is left up to its key.
-  pub none-left-of-done : (t i j : ℕ) → i < J .n → s t i < J .cost i * suc j → J .cost i * suc j ≤ s (suc t) i → left J s (J .key i j) (suc t) ≡ 0
+  none-left-of-done : (t i j : ℕ) → i < J .n → s t i < J .cost i * suc j → J .cost i * suc j ≤ s (suc t) i → left J s (J .key i j) (suc t) ≡ 0
   unfolding left
   none-left-of-done t i j l a b = go (R .slot t)
     where

@@ -23,7 +23,7 @@ part c p q r s e h = let g : p ≤ r = omega arith in rw (min-eq-left h, min-eq-
 
 module _ (J : Jobs) (s : ℕ → ℕ → ℕ) (R : Run J s) where
   -- The work up to the key of a job is the work before it and the rest of the job itself.
-  pub job-left : (t i j κ : ℕ) → i < J .n → suc κ ≡ J .key i j → J .rel i j < t → left J s (J .key i j) t ≡ left J s κ t + restOf J s t i j
+  job-left : (t i j κ : ℕ) → i < J .n → suc κ ≡ J .key i j → J .rel i j < t → left J s (J .key i j) t ≡ left J s κ t + restOf J s t i j
   unfolding left
   job-left t i j κ l e r = sum-by (J .n) (leftOf J (J .key i j) t (s t)) (leftOf J κ t (s t)) i (restOf J s t i j) l own other
     where
@@ -52,7 +52,7 @@ module _ (J : Jobs) (s : ℕ → ℕ → ℕ) (R : Run J s) where
           )
 
   -- Nothing is left of a job exactly if it is done.
-  pub rest-done : (t i j : ℕ) → i < J .n → (restOf J s t i j ≡ 0) ↔ (J .cost i * suc j ≤ s t i)
+  rest-done : (t i j : ℕ) → i < J .n → (restOf J s t i j ≡ 0) ↔ (J .cost i * suc j ≤ s t i)
   rest-done t i j l = (λ e. omega (arith, J .cost-pos i l), λ h. omega arith)
 
 module _ (S : System) (Y : Cycle S) (light : Light S Y) (s : ℕ → ℕ → ℕ) (R : Run (jobs S) s) where

@@ -165,7 +165,7 @@ module _ (t : Table) (r : Ranged t) (done : ℕ → Bool) where
     nothing-left = streams.none-late (jobs table-system) (dues table-system) _ open' ready gave step-history (constrained table-system) (servedOf table-system) (model-run table-system) met
 
     -- NONE IS CUT OFF: no step closes a job as late.
-    pub none-closed : (n i : ℕ) → T (isLate t (stateAt t done n) (done n) i) → ⊥
+    none-closed : (n i : ℕ) → T (isLate t (stateAt t done n) (done n) i) → ⊥
     none-closed n i h =
         let l : i < t .count = ltb→lt i (t .count) (and-iff (ltb i (t .count)) _ .0 h .0) in
         let (p, (j, e, b)) = late-is t r done n i (sound t r done n) l h in

@@ -147,7 +147,7 @@ module _ (t : Table) (r : Ranged t) (done : ℕ → Bool) where
   given n i = omega arith
 
   module _ (n : ℕ) (s : Sound n) where
-    pub wait-after : (i : ℕ) → i < t .count → waitOf (before (suc n)) i ≡ waitReleased t (before n) (done n) i - 1
+    wait-after : (i : ℕ) → i < t .count → waitOf (before (suc n)) i ≡ waitReleased t (before n) (done n) i - 1
     unfolding stateAt after
     wait-after i l = fill-passed (t .count) (λ i. waitReleased t (before n) (done n) i - 1) (before n .wait) i 0 l (omega (arith, s .waits, r .few))
 

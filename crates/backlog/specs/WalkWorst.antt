@@ -49,7 +49,7 @@ worstBy t zero = replicate taskLimit 0
 worstBy t (suc n) =
     cond (finishing t n) (noted (worstBy t n) (ownerAt t quiet n) (task t (ownerAt t quiet n) .period - waitOf (stateAt t quiet (suc n)) (ownerAt t quiet n))) (worstBy t n)
 
-pub worst-length : (t : Table) (n : ℕ) → length (worstBy t n) ≡ taskLimit
+worst-length : (t : Table) (n : ℕ) → length (worstBy t n) ≡ taskLimit
 unfolding worstBy
 worst-length t zero = length-replicate {A = ℕ} taskLimit 0
 worst-length t (suc n) = go (finishing t n) (worst-length t n)

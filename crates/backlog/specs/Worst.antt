@@ -26,7 +26,7 @@ module _ (S : System) (Y : Cycle S) (light : Light S Y) (s : ℕ → ℕ → ℕ
       (f, d, finish (jobs S) s R i j l f .0 d .0 .0, h)
 
   -- The twin, a round later, of a job that finishes at f from one round after the start on is done a round after f.
-  pub done-later : (j f : ℕ) → Y .start + Y .round ≤ f → DoneFirst (jobs S) s i j f → costOf S i * suc (j + Y .times i) ≤ s (f + Y .round) i
+  done-later : (j f : ℕ) → Y .start + Y .round ≤ f → DoneFirst (jobs S) s i j f → costOf S i * suc (j + Y .times i) ≤ s (f + Y .round) i
   done-later j f h d =
       let c = finish (jobs S) s R i j l f .0 d .0 in
       done-of-none-left (jobs S) s R (keyOf S i j + size S * Y .round) (f + Y .round) i (j + Y .times i) l
@@ -45,7 +45,7 @@ module _ (S : System) (Y : Cycle S) (light : Light S Y) (s : ℕ → ℕ → ℕ
   Seen j f = (k : ℕ) × (g : ℕ) × DoneFirst (jobs S) s i k g × (g ≤ horizonOf S Y) × (f - releaseOf S i j ≤ g - releaseOf S i k)
 
   -- Every response is at most one that is seen by the horizon.
-  pub worst-seen : (j f : ℕ) → DoneFirst (jobs S) s i j f → Seen j f
+  worst-seen : (j f : ℕ) → DoneFirst (jobs S) s i j f → Seen j f
   worst-seen j = strong {P = λ j. (f : ℕ) → DoneFirst (jobs S) s i j f → Seen j f} step j
     where
       step : (j : ℕ) → ((k : ℕ) → k < j → (f : ℕ) → DoneFirst (jobs S) s i k f → Seen k f) → (f : ℕ) → DoneFirst (jobs S) s i j f → Seen j f
@@ -99,7 +99,7 @@ module _ (S : System) (Y : Cycle S) (light : Light S Y) (met : Met (jobs S) (due
   pub ends : (j : ℕ) → (f : ℕ) × Ends j f × (releaseOf S i j < f) × (f ≤ dueOf S i j)
   ends j = let (f, d, a, b) = finishes S Y light (servedOf S) (model-run S) met i l j in (f, finishes-iff S i j f l .1 d, a, b)
 
-  pub ends-once : (j f g : ℕ) → Ends j f → Ends j g → f ≡ g
+  ends-once : (j f g : ℕ) → Ends j f → Ends j g → f ≡ g
   unfolding Finishes
   ends-once j f g a b = least-unique _ f g a b
 

@@ -56,7 +56,7 @@ module _ (f : ℕ → ℕ) (g : Grows f) where
   below-least x k h = elim (decLt (below f x) k) [ yes p ↦ absurd (omega (arith, lt-below x (below f x) .1 (h (below f x) p))) | no p ↦ omega arith ]
 
   -- The law determines the count.
-  pub below-unique : (x k : ℕ) → ((j : ℕ) → (j < k) ↔ (f j < x)) → below f x ≡ k
+  below-unique : (x k : ℕ) → ((j : ℕ) → (j < k) ↔ (f j < x)) → below f x ≡ k
   below-unique x k h = omega (arith, below-most x k (λ j. h j .1), below-least x k (λ j. h j .0))
 
   pub below-mono : (x y : ℕ) → x ≤ y → below f x ≤ below f y

@@ -44,7 +44,7 @@ bit-no true h = absurd (h tt)
 bit-no false h = refl
 
 -- A test that gives another counts no more.
-pub bit-le : (p q : Bool) → (T p → T q) → bit p ≤ bit q
+bit-le : (p q : Bool) → (T p → T q) → bit p ≤ bit q
 bit-le true true h = omega arith
 bit-le true false h = absurd (h tt)
 bit-le false q h = zero-le

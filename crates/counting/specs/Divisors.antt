@@ -50,7 +50,7 @@ pub record IsGcd (a b g : ℕ) : Type 0 where
   pub greatest : (d : ℕ) → d ∣ a → d ∣ b → d ∣ g
 
 -- There is only one such number.
-pub gcd-unique : {a b g h : ℕ} → IsGcd a b g → IsGcd a b h → g ≡ h
+gcd-unique : {a b g h : ℕ} → IsGcd a b g → IsGcd a b h → g ≡ h
 gcd-unique {g = g} {h = h} p q = dvd-antisymm (q .greatest g (p .divides-left) (p .divides-right)) (p .greatest h (q .divides-left) (q .divides-right))
 
 -- The divisor of a number that is not 0 is not 0.
@@ -90,7 +90,7 @@ euclid-is (suc n) a zero l = gcd-zero a
 euclid-is (suc n) a (suc b) l = gcd-step (euclid-is n (suc b) (a % suc b) (omega (arith, mod-lt a (zero-lt-suc b))))
 
 -- `gcd` makes enough steps.
-pub gcd-is : (a b : ℕ) → IsGcd a b (gcd a b)
+gcd-is : (a b : ℕ) → IsGcd a b (gcd a b)
 unfolding gcd
 gcd-is a b = euclid-is b a b (le-refl b)
 
@@ -109,7 +109,7 @@ gcd-mul m a b pos =
     rw e at (mul-dvd-mul-left c m (gcd-is a b .greatest c p q))
 
 -- The least common multiple times the greatest common divisor is the product.
-pub lcm-mul-gcd : (a b : ℕ) → lcm a b * gcd a b ≡ a * b
+lcm-mul-gcd : (a b : ℕ) → lcm a b * gcd a b ≡ a * b
 unfolding lcm
 lcm-mul-gcd a b = mul-right-comm (a / gcd a b) b (gcd a b) ∙ ap (λ (x : ℕ). x * b) (div-mul-cancel (gcd a b) (gcd-is a b .divides-left))
 
@@ -132,7 +132,7 @@ lcm-least a b x pos p q =
     dvd-of-mul-dvd-mul-right (lcm a b) positive (rw lcm-mul-gcd (dvd-trans (a * b) (gcd-is (x * a) (x * b) .greatest (a * b) y z) (gcd-mul x a b pos)))
 
 -- The least common multiple divides exactly what both numbers divide.
-pub lcm-iff : (a b x : ℕ) → (lcm a b ∣ x) ↔ ((a ∣ x) × (b ∣ x))
+lcm-iff : (a b x : ℕ) → (lcm a b ∣ x) ↔ ((a ∣ x) × (b ∣ x))
 lcm-iff a b x = (λ h. (dvd-trans a (divides-lcm a b .0) h, dvd-trans b (divides-lcm a b .1) h), λ h. go (eq-zero-or-pos x) h)
   where
     go : (x ≡ 0) ⊎ (0 < x) → (a ∣ x) × (b ∣ x) → lcm a b ∣ x
@@ -145,7 +145,7 @@ lcmAll zero f = 1
 lcmAll (suc n) f = lcm (lcmAll n f) (f n)
 
 -- It divides exactly what all of the numbers divide.
-pub lcmAll-iff : (n : ℕ) (f : ℕ → ℕ) (x : ℕ) → (lcmAll n f ∣ x) ↔ ((i : ℕ) → i < n → f i ∣ x)
+lcmAll-iff : (n : ℕ) (f : ℕ → ℕ) (x : ℕ) → (lcmAll n f ∣ x) ↔ ((i : ℕ) → i < n → f i ∣ x)
 unfolding lcmAll
 lcmAll-iff zero f x = (λ h i l. absurd (omega arith), λ h. one-dvd x)
 lcmAll-iff (suc n) f x = go (lcm-iff (lcmAll n f) (f n) x) (lcmAll-iff n f x)
@@ -161,7 +161,7 @@ pub divides-lcmAll : (n : ℕ) (f : ℕ → ℕ) (i : ℕ) → i < n → f i ∣
 divides-lcmAll n f = lcmAll-iff n f (lcmAll n f) .0 (dvd-refl (lcmAll n f))
 
 -- The least common multiple of fewer numbers divides that of more.
-pub lcmAll-divides : (n m : ℕ) (f : ℕ → ℕ) → n ≤ m → lcmAll n f ∣ lcmAll m f
+lcmAll-divides : (n m : ℕ) (f : ℕ → ℕ) → n ≤ m → lcmAll n f ∣ lcmAll m f
 lcmAll-divides n m f h = lcmAll-iff n f (lcmAll m f) .1 (λ i l. divides-lcmAll m f i (omega arith))
 
 -- The start of a loop that finds the least common multiple.
@@ -186,7 +186,7 @@ divides-product zero f i l = absurd (omega arith)
 divides-product (suc n) f i l = elim (ℕ-discrete i n) [ yes e ↦ rw e (dvd-mul-left (f n) (product n f)) | no e ↦ dvd-mul-right-of-dvd (f i) (divides-product n f i (omega arith)) (f n) ]
 
 -- The least common multiple divides the product.
-pub lcmAll-product : (n : ℕ) (f : ℕ → ℕ) → lcmAll n f ∣ product n f
+lcmAll-product : (n : ℕ) (f : ℕ → ℕ) → lcmAll n f ∣ product n f
 lcmAll-product n f = lcmAll-iff n f (product n f) .1 (divides-product n f)
 
 -- A product of numbers that are not 0 is not 0.

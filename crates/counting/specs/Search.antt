@@ -40,7 +40,7 @@ is-first p n (suc m) = go (p n) refl (is-first p (suc n) m)
         }
 
 -- The first is at least n.
-pub first-from : (p : ℕ → Bool) (n m : ℕ) → n ≤ first p n m
+first-from : (p : ℕ → Bool) (n m : ℕ) → n ≤ first p n m
 first-from p n m = is-first p n m .from
 
 -- The first is at most n + m.
@@ -117,7 +117,7 @@ is-last p (suc n) = go (p n) refl (is-last p n)
         }
 
 -- The last is below n.
-pub last-lt : (p : ℕ → Bool) (n : ℕ) → 0 < n → last p n < n
+last-lt : (p : ℕ → Bool) (n : ℕ) → 0 < n → last p n < n
 last-lt p n h = omega (arith, is-last p n .upto)
 
 -- No number behind the last passes.
@@ -150,7 +150,7 @@ largest-le zero f b h = omega arith
 largest-le (suc n) f b h = omega (arith, largest-le n f b (λ i l. h i (le-step l)), h n (le-refl (suc n)))
 
 -- The largest is one of the values.
-pub largest-attained : (n : ℕ) (f : ℕ → ℕ) → 0 < n → (i : ℕ) × (i < n) × (f i ≡ largest n f)
+largest-attained : (n : ℕ) (f : ℕ → ℕ) → 0 < n → (i : ℕ) × (i < n) × (f i ≡ largest n f)
 unfolding largest
 largest-attained zero f h = absurd (omega arith)
 largest-attained (suc zero) f h = (0, le-refl 1, omega arith)

@@ -75,13 +75,13 @@ module _ (t : Table) (r : Ranged t) (n : ℕ) where
     | no l ↦ rw (le-ltb i (t .count) (omega arith))
   ]
 
-  pub clear-more : Clear t n → ((i : ℕ) → i < t .count → T (seen i) → ⊥) → Clear t (suc n)
+  clear-more : Clear t n → ((i : ℕ) → i < t .count → T (seen i) → ⊥) → Clear t (suc n)
   clear-more c none u l h = elim (ℕ-discrete u n) [
     | no q ↦ c u (omega arith) h
     | yes q ↦ (let (i, m, x) = late-iff t r n c .1 (subst (λ (v : ℕ). T (lateAt t v)) q h) in none i m (subst T (sym (same-late i)) x))
   ]
 
-  pub late-found : Clear t n → (i : ℕ) × (i < t .count) × T (seen i) → T (lateAt t n)
+  late-found : Clear t n → (i : ℕ) × (i < t .count) × T (seen i) → T (lateAt t n)
   late-found c h = let (i, l, x) = h in late-iff t r n c .0 (i, l, subst T (same-late i) x)
 
   -- A served slot is step n.
@@ -96,7 +96,7 @@ module _ (t : Table) (r : Ranged t) (n : ℕ) where
     unfolding ownerNow
     owner-is = slotted .owned
 
-    pub waits-are : wait′ ≡ stateAt t quiet (suc n) .wait
+    waits-are : wait′ ≡ stateAt t quiet (suc n) .wait
     unfolding stateAt after
     waits-are = slotted .waits
 
@@ -143,7 +143,7 @@ module _ (t : Table) (r : Ranged t) (n : ℕ) where
             ]
 
     -- So what holds before slot n holds before the next.
-    pub walking-next : {worst : List ℕ} {empty : ℕ} → worst ≡ worstBy t n → empty ≡ emptyBy t (horizon t) n → n < horizon t
+    walking-next : {worst : List ℕ} {empty : ℕ} → worst ≡ worstBy t n → empty ≡ emptyBy t (horizon t) n → n < horizon t
         → Walking t (n + 1) wait′ left′ (notedOf worst owner (columnsOf t .period) wait′ left′) (emptied empty (horizon t) owner n)
     walking-next e f h = rw (add-one, e, f) (record { clear = clear; waits = waits-are; lefts = lefts-are; worsts = worst-next; empties = empty-next h })
 

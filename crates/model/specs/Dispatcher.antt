@@ -44,7 +44,7 @@ firstStrange t d = first (strange t d) 0 (t .count)
 abbrev pub lastStrange : Table → State → Bool
 lastStrange t d = not (eqb (d .last) taskLimit || ltb (d .last) (t .count))
 
--- At the start the waits are the offsets, no job is open and no task ran last.
+-- At the start the waits are the offsets, no job is open and no task ran last. A refused start hands out zeros.
 unfoldable pub startOf : Table → State
 startOf t = record { wait = fill (t .count) (λ i. task t i .offset) (replicate taskLimit 0); left = replicate taskLimit 0; last = taskLimit }
 

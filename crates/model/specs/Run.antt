@@ -31,7 +31,7 @@ current t s i = getD s i 0 / task t i .cost
 unfoldable pub ownerOf : Table → Order → ℕ → List ℕ → ℕ
 ownerOf t rank u s = choose (λ i. leb (release (task t i) (current t s i)) u) (λ i. due (task t i) (current t s i)) rank (t .count)
 
--- The slots given to each task before slot u.
+-- The slots given to each task before slot u; who owns slot u.
 unfoldable pub served : Table → Order → ℕ → List ℕ
 served t rank zero = replicate (t .count) 0
 served t rank (suc u) = let s = served t rank u in let k = ownerOf t rank u s in set s k (getD s k 0 + 1)

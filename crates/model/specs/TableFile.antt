@@ -15,7 +15,7 @@ eight s at = four s at + 4294967296 * four s (at + 4)
 abbrev pub taskIn : List ℕ → ℕ → Task
 taskIn s at = record { offset = four s at; cost = four s (at + 4); deadline = four s (at + 8); period = four s (at + 12) }
 
--- A table of these tasks.
+-- A table of these tasks. A refused file holds none, and its budget is 0; an admitted one holds what was read.
 abbrev pub tableOf : List Task → Table
 tableOf ks = record { count = length ks; tasks = ks ++ replicate (taskLimit - length ks) noTask }
 

@@ -71,7 +71,7 @@ pub record Slotted (n : ℕ) (W L P C S : ℕ → ℕ) (R : Order) (wait left wa
   pub lefts : left′ ≡ fill n (λ i. leftThen W L C i - cond (eqb owner i) 1 0) left
 
 -- The same slot in numbers that the lists have.
-pub slotted-has :
+slotted-has :
     (n : ℕ) (wait left period cost slack rank : List ℕ) (W L P C S : ℕ → ℕ) (R : Order) {wait′ left′ : List ℕ} {owner : ℕ}
     → Has n wait W → Has n left L → Has n period P → Has n cost C → Has n slack S → Has n rank R
     → Slotted n (at wait) (at left) (at period) (at cost) (at slack) (at rank) wait left wait′ left′ owner

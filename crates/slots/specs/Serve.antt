@@ -51,7 +51,7 @@ module _ (wait₀ left₀ period cost slack rank : List ℕ) (n : ℕ) where
   late-here i l h e = rw (lt-ltb i n l, lt-ltb 0 (at left₀ i) h, eq-eqb (at wait₀ i) (at slack i) e) tt
 
   -- It is not, and neither were those before.
-  pub quiet-more : (i : ℕ) → ((k : ℕ) → k < i → T (isLate wait₀ left₀ slack n k) → ⊥) → (0 < at left₀ i → at wait₀ i ≡ at slack i → ⊥) → (k : ℕ) → k < i + 1 → T (isLate wait₀ left₀ slack n k) → ⊥
+  quiet-more : (i : ℕ) → ((k : ℕ) → k < i → T (isLate wait₀ left₀ slack n k) → ⊥) → (0 < at left₀ i → at wait₀ i ≡ at slack i → ⊥) → (k : ℕ) → k < i + 1 → T (isLate wait₀ left₀ slack n k) → ⊥
   quiet-more i q h k l x = elim (ℕ-discrete k i) [
     | no a ↦ q k (omega arith) x
     | yes a ↦
@@ -116,7 +116,7 @@ module _ (wait₀ left₀ period cost slack rank : List ℕ) (n : ℕ) where
 
   -- The lists after the pass, with the owner's slot taken off.
   module _ {i owner least rest : ℕ} {wait left : List ℕ} (few : n ≤ taskLimit) (done : i ≡ n) (w : Serving i owner least rest wait left) where
-    pub left-end : cond (ltb owner taskLimit) (set left owner rest) left ≡ fill n (λ k. leftReleased wait₀ left₀ cost k - cond (eqb owner k) 1 0) left₀
+    left-end : cond (ltb owner taskLimit) (set left owner rest) left ≡ fill n (λ k. leftReleased wait₀ left₀ cost k - cond (eqb owner k) 1 0) left₀
     left-end =
         rw (w .lefts, done)
         (store-fill n _ _ left₀ owner rest few range (λ l. w .rests (omega arith) ∙ rw (eq-eqb owner owner refl))
@@ -125,7 +125,7 @@ module _ (wait₀ left₀ period cost slack rank : List ℕ) (n : ℕ) where
         range : (owner ≡ taskLimit) ⊎ (owner < n)
         range = rw (w .best .owned, done) (choose-range _ _ _ n)
 
-    pub served-slot : {left′ : List ℕ} → left′ ≡ cond (ltb owner taskLimit) (set left owner rest) left
+    served-slot : {left′ : List ℕ} → left′ ≡ cond (ltb owner taskLimit) (set left owner rest) left
         → Slotted n (at wait₀) (at left₀) (at period) (at cost) (at slack) (at rank) wait₀ left₀ wait left′ owner
     served-slot e =
         record {
