@@ -171,7 +171,7 @@ module _ (J : Jobs) (lf : ℕ → ℕ → ℕ) (P : Dispatch J lf) where
 
   module _ (s : ℕ → ℕ → ℕ) (R : Run J s) where
     -- The run at full cost is the worst case, for every cut.
-    held-le-left : (κ t : ℕ) → held J lf κ t ≤ left J s κ t
+    pub held-le-left : (κ t : ℕ) → held J lf κ t ≤ left J s κ t
     held-le-left κ t = omega (arith, held-bounded κ t, left-is J s R κ t)
 
     -- Where no work up to its key is left in the run, the open job has nothing left.

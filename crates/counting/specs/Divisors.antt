@@ -50,7 +50,7 @@ pub record IsGcd (a b g : ℕ) : Type 0 where
   pub greatest : (d : ℕ) → d ∣ a → d ∣ b → d ∣ g
 
 -- There is only one such number.
-gcd-unique : {a b g h : ℕ} → IsGcd a b g → IsGcd a b h → g ≡ h
+pub gcd-unique : {a b g h : ℕ} → IsGcd a b g → IsGcd a b h → g ≡ h
 gcd-unique {g = g} {h = h} p q = dvd-antisymm (q .greatest g (p .divides-left) (p .divides-right)) (p .greatest h (q .divides-left) (q .divides-right))
 
 -- The divisor of a number that is not 0 is not 0.

@@ -30,7 +30,7 @@ abbrev pub whole : List ℕ → ℕ → ℕ → Loaded → Loaded
 whole s at bytes go = cond (ltb (length s) (at + bytes)) (refuse 20 at) go
 
 -- The record at a place after the budget b and the tasks ks: kind 1 is a budget, 2 a task, which leads to `go`, 3 the end. A kind is known,
--- or 21; then allowed here, or 23 or 25; then its body is whole, or 20. Whatever follows the end is 24.
+-- or 21; then allowed here, or 23 or 25; then its body is whole, or 20. Where the file stops it is 26. Whatever follows the end is 24.
 abbrev pub readRecord : List ℕ → ℕ → List Task → ℕ → Loaded → Loaded
 readRecord s b ks at go =
     cond (leb (length s) at) (refuse 26 (length s))

@@ -20,7 +20,7 @@ recordSaid (Record.Budget b) = 1 ∷ b ∷ []
 recordSaid (Record.OneTask k) = 2 ∷ k .offset ∷ k .cost ∷ k .deadline ∷ k .period ∷ []
 recordSaid Record.End = 3 ∷ []
 
--- The numbers that stand at a place: the kind byte; behind a budget's eight bytes, behind a task's four times four.
+-- The numbers that stand at a place: the kind byte, then a budget's of eight bytes, or a task's four of four bytes each.
 abbrev pub numbersAt : List ℕ → ℕ → List ℕ
 numbersAt s at =
     let kind = getD s at 0 in
