@@ -16,7 +16,8 @@ use Rattle.model.specs.Limits.{taskLimit}
 use Rattle.model.specs.Notation.{bits, fill}
 use Rattle.model.specs.Tasks.{task}
 use Rattle.model.specs.Run.{tieOrder}
-use Rattle.model.specs.Dispatcher.{State, Stepped, waitOf, firstStrange, lastStrange, leftDone, isLate, leftLate, leftReleased, ownerNow, after, turn, refuse}
+use Rattle.model.specs.Values.{refusal}
+use Rattle.model.specs.Dispatcher.{State, Stepped, waitOf, firstStrange, lastStrange, leftDone, isLate, leftLate, leftReleased, ownerNow, after, turn, refuseStep}
 use Rattle.counting.specs.Count.{and-iff}
 use Rattle.counting.specs.Fill.{fill-eq, fill-same, fill-again}
 use Rattle.counting.specs.Bits.{bits-eq, ones-bits, trailing-bits}
@@ -35,8 +36,8 @@ taken t d done = record { given = Given.Slot (turn t d done); state = after t d 
 -- A step on a well-formed table: refused by 8, or taken.
 abbrev pub stepWellFormed : Table → State → Bool → Stepped
 stepWellFormed t d done =
-    cond (ltb (firstStrange t d) (t .count)) (refuse 8 (firstStrange t d) d)
-    (cond (lastStrange t d) (refuse 8 taskLimit d) (taken t d done))
+    cond (ltb (firstStrange t d) (t .count)) (refuseStep (refusal 8 (firstStrange t d)) d)
+    (cond (lastStrange t d) (refuseStep (refusal 8 taskLimit) d) (taken t d done))
 
 -- The answer of a step: how many bits the late set has, and its lowest.
 abbrev pub turnOf : ℕ → ℕ → Turn

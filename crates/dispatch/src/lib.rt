@@ -4,7 +4,8 @@ ghost use mathlib.Core.Bool.{cond, not, _||_};
 ghost use Prim.Native.Nat.{_-_, _^_, max, _≤_, _<_};
 ghost use lib.Dec.{ltb, eqb};
 ghost use Rattle.model.specs.Limits.{taskLimit};
-ghost use Rattle.model.specs.Dispatcher.{firstStrange, refuse, started, stepped};
+ghost use Rattle.model.specs.Values.{refusal};
+ghost use Rattle.model.specs.Dispatcher.{firstStrange, refuseStep, started, stepped};
 ghost use Rattle.slots.specs.Slot.{closed};
 ghost use Rattle.dispatch.specs.State.{stateOf, startedOf, steppedOf};
 ghost use Rattle.dispatch.specs.Strange.{strangeAt, Belongs};
@@ -67,17 +68,17 @@ impl Dispatcher {
         ensures { λ r. ⌜ steppedOf r ≡ stepped t (stateOf self) done ⌝ }
     {
         match table::judge(t) {
-            Judgement::Refused(refusal) => refused(self, refusal),
+            Judgement::Refused(why) => refused(self, why),
             Judgement::WellFormed(_) => step_well_formed(self, t, done),
         }
     }
 }
 
-fn refused(d: Dispatcher, refusal: Refusal) -> Stepped
-    ensures { λ r. ⌜ steppedOf r ≡ refuse (refusal .number) (refusal .place) (stateOf d) ⌝ }
+fn refused(d: Dispatcher, why: Refusal) -> Stepped
+    ensures { λ r. ⌜ steppedOf r ≡ refuseStep why (stateOf d) ⌝ }
 {
     Stepped {
-        given: Given::Refused(refusal),
+        given: Given::Refused(why),
         next: d,
     }
 }
@@ -98,7 +99,7 @@ fn step_well_formed(d: Dispatcher, t: Table, done: bool) -> Stepped
 
 // The state does not belong to the table: this task is the first that does not, or no task is.
 fn strange_state(d: Dispatcher, place: u32) -> Stepped
-    ensures { λ r. ⌜ steppedOf r ≡ refuse 8 place (stateOf d) ⌝ }
+    ensures { λ r. ⌜ steppedOf r ≡ refuseStep (refusal 8 place) (stateOf d) ⌝ }
 {
     refused(d, Refusal { number: 8, place })
 }

@@ -1,6 +1,6 @@
 -- The dispatcher: its state, when a state belongs to a table, the start, and the step in its four rules.
 use Rattle.model.specs.Notation.{List, Bool, cond, not, _&&_, _||_, ℕ, _-_, max, ltb, eqb, getD, replicate, count, first, bits, fill}
-use Rattle.model.specs.Values.{Table, Judgement, Admission, Turn, Given}
+use Rattle.model.specs.Values.{Table, Refusal, Judgement, Admission, Turn, Given, refusal}
 use Rattle.model.specs.Limits.{taskLimit}
 use Rattle.model.specs.Tasks.{task, judged}
 use Rattle.model.specs.Run.{tieOrder, choose}
@@ -89,14 +89,14 @@ module _ (t : Table) (d : State) (done : Bool) where
   turn = record { owner = ownerNow; late = bits isLate taskLimit; closed = count isLate taskLimit; lowest = first isLate 0 taskLimit }
 
 -- A step on any table and any state: refused by the table's number, then by 8, or taken. A refusal hands the state back as it came.
-abbrev pub refuse : ℕ → ℕ → State → Stepped
-refuse n p d = record { given = Given.Refused (record { number = n; place = p }); state = d }
+abbrev pub refuseStep : Refusal → State → Stepped
+refuseStep r d = record { given = Given.Refused r; state = d }
 
 abbrev pub stepJudged : Table → State → Bool → Judgement → Stepped
-stepJudged t d done (Judgement.Refused r) = refuse (r .number) (r .place) d
+stepJudged t d done (Judgement.Refused r) = refuseStep r d
 stepJudged t d done (Judgement.WellFormed m) =
-    cond (ltb (firstStrange t d) (t .count)) (refuse 8 (firstStrange t d) d)
-    (cond (lastStrange t d) (refuse 8 taskLimit d)
+    cond (ltb (firstStrange t d) (t .count)) (refuseStep (refusal 8 (firstStrange t d)) d)
+    (cond (lastStrange t d) (refuseStep (refusal 8 taskLimit) d)
     (record { given = Given.Slot (turn t d done); state = after t d done }))
 
 unfoldable pub stepped : Table → State → Bool → Stepped

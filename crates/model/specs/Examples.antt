@@ -4,10 +4,10 @@ use mathlib.Core.List.{List, [], _∷_, _++_, map}
 use mathlib.Core.Bool.{Bool, true, false}
 use Prim.Native.Nat.{ℕ, zero, suc, _-_, _/_, _%_}
 use lib.ListN.{replicate}
-use Rattle.model.specs.Values.{Task, Table, Judgement, Verdict, Outcome, Empty, Admission, Given}
+use Rattle.model.specs.Values.{Task, Table, Judgement, Verdict, Outcome, Empty, Admission, Given, refusal}
 use Rattle.model.specs.Notation.{sum, largest, count, first, last, bits, fill, text, digits, decimal}
 use Rattle.model.specs.Limits.{taskLimit, longestFile}
-use Rattle.model.specs.Tasks.{taskFault, firstFaulty, round, load, horizon, refuse, judged}
+use Rattle.model.specs.Tasks.{taskFault, firstFaulty, round, load, horizon, judgedBy, judged}
 use Rattle.model.specs.Demand.{jobsIn, demand, asksTooMuch, lateAt}
 use Rattle.model.specs.Schedule.{given}
 use Rattle.model.specs.Run.{tieOrder, choose, ownerOf, served, owner, run, firstEmpty}
@@ -58,6 +58,9 @@ table-k = tableOf (of 0 1 1 4 ∷ of 1 1 1 4 ∷ of 1 1 1 4 ∷ [])
 -- ---- tables
 
 -- The numbers 1 to 6 with their places: no task, seventeen tasks, then T, D, C and O of task 1, each alone and before a later fault.
+abbrev refuse : ℕ → ℕ → Judgement
+refuse n p = Judgement.Refused (refusal n p)
+
 faulty : Task → Judgement
 faulty k = judged (tableOf (of 0 1 1 1 ∷ k ∷ []))
 
@@ -72,6 +75,13 @@ refusals = (refl, refl, refl)
 task-by-task : judged (tableOf (of 60001 1 1 5 ∷ of 0 0 0 0 ∷ [])) ≡ refuse 6 0
 unfolding judged firstFaulty taskFault first
 task-by-task = refl
+
+-- Number 7 and its place, by a given H, since a search for so large a one is too long to compute: 10^9 is read, one more is refused. What is wrong with a task comes first.
+refused-by-round :
+    map (λ h. judgedBy (record { round = h; load = 0; horizon = 0 }) table-b) (1000000000 ∷ 1000000001 ∷ []) ++ (judgedBy (record { round = 1000000001; load = 0; horizon = 0 }) (tableOf (of 60001 1 1 5 ∷ [])) ∷ [])
+    ≡ Judgement.WellFormed (record { round = 1000000000; load = 0; horizon = 0 }) ∷ refuse 7 0 ∷ refuse 6 0 ∷ []
+unfolding firstFaulty taskFault first
+refused-by-round = refl
 
 -- The ends of the ranges are inside them.
 inside-ranges : map taskFault (of 0 1 1 1 ∷ of 60000 60000 60000 60000 ∷ []) ≡ 0 ∷ 0 ∷ []
@@ -100,6 +110,11 @@ verdicts = refl
 settled : map (λ t. settledBy t 1000) tables ≡ 2 ∷ 38 ∷ 15 ∷ 7 ∷ 5 ∷ 1 ∷ 8 ∷ 7 ∷ 0 ∷ 8 ∷ []
 unfolding settledBy needed lateAt first round load horizon largest sum count demand jobsIn
 settled = refl
+
+-- A load of exactly 1 is no overload.
+load-of-one : verdict table-a 2 ≡ Verdict.Passes
+unfolding verdict needed lateStart lateAt first last round load horizon largest sum count demand jobsIn
+load-of-one = refl
 
 -- A budget equal to the needed count suffices, and one slot less does not; overload needs none.
 budgets :
@@ -180,7 +195,7 @@ abbrev refusalOf : List ℕ → Admission
 refusalOf s = loadedFrom s .admission
 
 abbrev at : ℕ → ℕ → Admission
-at n p = Admission.Refused (record { number = n; place = p })
+at n p = Admission.Refused (refusal n p)
 
 -- The first fault wins; at a record: kind known, kind allowed here, body whole. The table is judged after the form.
 file-refusals :
@@ -240,7 +255,7 @@ state w0 w1 l0 l1 last = stepped two (record { wait = w0 ∷ w1 ∷ replicate 14
 
 strangers :
     state 5 0 0 0 16 ∷ state 0 10 0 0 16 ∷ state 2 0 3 0 16 ∷ state 0 0 1 0 16 ∷ state 4 0 1 0 16 ∷ state 0 4 0 1 16 ∷ state 0 0 0 0 2 ∷ state 0 0 0 0 17 ∷ []
-    ≡ map (λ p. Given.Refused (record { number = 8; place = p })) (0 ∷ 1 ∷ 0 ∷ 0 ∷ 0 ∷ 1 ∷ 16 ∷ 16 ∷ [])
+    ≡ map (λ p. Given.Refused (refusal 8 p)) (0 ∷ 1 ∷ 0 ∷ 0 ∷ 0 ∷ 1 ∷ 16 ∷ 16 ∷ [])
 unfolding state stepped firstStrange judged firstFaulty taskFault first round load horizon largest sum count
 strangers = refl
 
@@ -288,7 +303,7 @@ report-a = refl
 -- The exported call: a short buffer is 30 at its length; a refusal is 65,536 · number + place and writes nowhere; bytes behind a report stay.
 exported :
     (Checked [] (7 ∷ []) (record { number = 1966081; buffer = 7 ∷ [] }))
-    × (refused (record { number = 21; place = 9 }) (7 ∷ []) ≡ record { number = 1376265; buffer = 7 ∷ [] })
+    × (refused (refusal 21 9) (7 ∷ []) ≡ record { number = 1376265; buffer = 7 ∷ [] })
     × (written (5 ∷ 6 ∷ []) (1 ∷ 2 ∷ 3 ∷ []) ≡ record { number = 2; buffer = 5 ∷ 6 ∷ 3 ∷ [] })
 exported = (refl, refl, refl)
 
@@ -298,7 +313,7 @@ wide-numbers :
     × (taskIn (2 ∷ 1 ∷ 0 ∷ 0 ∷ 0 ∷ 0 ∷ 1 ∷ 0 ∷ 0 ∷ 0 ∷ 0 ∷ 1 ∷ 0 ∷ 0 ∷ 0 ∷ 0 ∷ 1 ∷ []) 1 ≡ of 1 256 65536 16777216)
 wide-numbers = (refl, refl)
 
-refusal-line : refusalLine (record { number = 21; place = 9 }) ≡ text "refused 21 at 9\n"
+refusal-line : refusalLine (refusal 21 9) ≡ text "refused 21 at 9\n"
 unfolding text decimal digits
 refusal-line = refl
 

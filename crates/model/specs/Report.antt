@@ -1,6 +1,6 @@
 -- The report on an answer, byte for byte; the exported call; the program's output.
 use Rattle.model.specs.Notation.{List, [], _++_, cond, _≡_, ℕ, zero, suc, _+_, _*_, ltb, getD, length, drop, text, decimal}
-use Rattle.model.specs.Values.{Refusal, Verdict, Outcome, Empty, Answer, Admission, Loaded}
+use Rattle.model.specs.Values.{Refusal, Verdict, Outcome, Empty, Answer, Admission, Loaded, refusal}
 use Rattle.model.specs.Limits.{reportBytes}
 use Rattle.model.specs.TableFile.{loadedFrom}
 use Rattle.model.specs.Verdict.{Permitted}
@@ -68,7 +68,7 @@ FileTold refuse tell l x Admission.Admitted = (a : Answer) × Permitted (l .tabl
 -- The one permitted result of the exported call on any file and any buffer. A short buffer is refused by 30 before all else.
 abbrev pub Checked : List ℕ → List ℕ → Exported → Type 0
 Checked file buffer e =
-    let admission = cond (ltb (length buffer) reportBytes) (Admission.Refused (record { number = 30; place = length buffer })) (loadedFrom file .admission) in
+    let admission = cond (ltb (length buffer) reportBytes) (Admission.Refused (refusal 30 (length buffer))) (loadedFrom file .admission) in
     FileTold (λ r. refused r buffer) (λ report. written report buffer) (loadedFrom file) e admission
 
 -- The line that names a refusal.

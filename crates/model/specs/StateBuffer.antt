@@ -1,6 +1,6 @@
 -- The dispatcher's state in a lent buffer, and the exported start and step of a camera's own loop.
 use Rattle.model.specs.Notation.{List, [], _∷_, _++_, cond, not, ℕ, zero, suc, _+_, _*_, _/_, _%_, min, eqb, length, replicate, fill}
-use Rattle.model.specs.Values.{Table, Admission, Turn, Given}
+use Rattle.model.specs.Values.{Table, Admission, Turn, Given, refusal}
 use Rattle.model.specs.Limits.{taskLimit}
 use Rattle.model.specs.TableFile.{four, formOf}
 use Rattle.model.specs.Dispatcher.{State, started, stepped}
@@ -45,7 +45,7 @@ stepWritten buffer d (Given.Slot u) = record { number = u .owner; buffer = buffe
 -- The order of the refusals: 50 for a buffer of another length, at its length or the largest place; the file's form; the table; the state.
 abbrev pub onFile : List ℕ → List ℕ → (Table → Exported) → Exported
 onFile file buffer go =
-    let strange = Admission.Refused (record { number = 50; place = min (length buffer) 65535 }) in
+    let strange = Admission.Refused (refusal 50 (min (length buffer) 65535)) in
     let admission = cond (eqb (length buffer) stateBytes) (formOf file .admission) strange in
     elim admission [ Admission.Refused r ↦ refused r buffer | Admission.Admitted ↦ go (formOf file .table) ]
 

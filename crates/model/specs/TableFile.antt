@@ -1,6 +1,6 @@
 -- The table file: for any list of bytes the refusal, or the budget and the tasks.
 use Rattle.model.specs.Notation.{List, [], _∷_, _++_, cond, _||_, ℕ, zero, suc, _+_, _-_, _*_, ltb, leb, eqb, getD, length, replicate}
-use Rattle.model.specs.Values.{Task, Table, Judgement, Admission, Loaded}
+use Rattle.model.specs.Values.{Task, Table, Judgement, Admission, Loaded, refusal}
 use Rattle.model.specs.Limits.{taskLimit, budgetBytes, taskBytes}
 use Rattle.model.specs.Tasks.{noTask, judged}
 
@@ -19,41 +19,41 @@ taskIn s at = record { offset = four s at; cost = four s (at + 4); deadline = fo
 abbrev pub tableOf : List Task → Table
 tableOf ks = record { count = length ks; tasks = ks ++ replicate (taskLimit - length ks) noTask }
 
-abbrev pub refuse : ℕ → ℕ → Loaded
-refuse n p = record { admission = Admission.Refused (record { number = n; place = p }); budget = 0; table = tableOf [] }
+abbrev pub refuseFile : ℕ → ℕ → Loaded
+refuseFile n p = record { admission = Admission.Refused (refusal n p); budget = 0; table = tableOf [] }
 
 abbrev pub admit : ℕ → List Task → Loaded
 admit b ks = record { admission = Admission.Admitted; budget = b; table = tableOf ks }
 
 -- The record at this place is whole, or else refused by 20.
 abbrev pub whole : List ℕ → ℕ → ℕ → Loaded → Loaded
-whole s at bytes go = cond (ltb (length s) (at + bytes)) (refuse 20 at) go
+whole s at bytes go = cond (ltb (length s) (at + bytes)) (refuseFile 20 at) go
 
 -- The record at a place after the budget b and the tasks ks: kind 1 is a budget, 2 a task, which leads to `go`, 3 the end. A kind is known,
 -- or 21; then allowed here, or 23 or 25; then its body is whole, or 20. Where the file stops it is 26. Whatever follows the end is 24.
 abbrev pub readRecord : List ℕ → ℕ → List Task → ℕ → Loaded → Loaded
 readRecord s b ks at go =
-    cond (leb (length s) at) (refuse 26 (length s))
-    (cond (eqb (getD s at 0) 1) (refuse 23 at)
+    cond (leb (length s) at) (refuseFile 26 (length s))
+    (cond (eqb (getD s at 0) 1) (refuseFile 23 at)
     (cond (eqb (getD s at 0) 2) go
-    (cond (eqb (getD s at 0) 3) (cond (ltb (at + 1) (length s)) (refuse 24 (at + 1)) (admit b ks)) (refuse 21 at))))
+    (cond (eqb (getD s at 0) 3) (cond (ltb (at + 1) (length s)) (refuseFile 24 (at + 1)) (admit b ks)) (refuseFile 21 at))))
 
 -- The records after the budget, with room for this many more tasks.
 unfoldable pub readFrom : List ℕ → ℕ → List Task → ℕ → ℕ → Loaded
-readFrom s b ks zero at = readRecord s b ks at (refuse 25 at)
+readFrom s b ks zero at = readRecord s b ks at (refuseFile 25 at)
 readFrom s b ks (suc room) at =
     readRecord s b ks at (whole s at taskBytes (readFrom s b (ks ++ (taskIn s (at + 1) ∷ [])) room (at + taskBytes)))
 
 -- The form of a file: the budget first, once; then the tasks; then the end, and nothing after it.
 unfoldable pub formOf : List ℕ → Loaded
 formOf s =
-    cond (eqb (length s) 0) (refuse 22 0)
+    cond (eqb (length s) 0) (refuseFile 22 0)
     (cond (eqb (getD s 0 0) 1) (whole s 0 budgetBytes (readFrom s (eight s 1) [] taskLimit budgetBytes))
-    (cond (eqb (getD s 0 0) 2 || eqb (getD s 0 0) 3) (refuse 22 0) (refuse 21 0)))
+    (cond (eqb (getD s 0 0) 2 || eqb (getD s 0 0) 3) (refuseFile 22 0) (refuseFile 21 0)))
 
 -- The table of a file is judged only after the file's form is good.
 abbrev pub judgedTable : Loaded → Judgement → Loaded
-judgedTable l (Judgement.Refused r) = refuse (r .number) (r .place)
+judgedTable l (Judgement.Refused r) = refuseFile (r .number) (r .place)
 judgedTable l (Judgement.WellFormed m) = l
 
 abbrev pub judgedForm : Loaded → Admission → Loaded

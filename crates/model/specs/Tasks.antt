@@ -1,6 +1,6 @@
 -- Tasks, their ranges, and well-formed tables.
 use Rattle.model.specs.Notation.{Bool, cond, not, _&&_, ℕ, _+_, _*_, _/_, _%_, _^_, leb, ltb, eqb, getD, sum, largest, every, first}
-use Rattle.model.specs.Values.{Task, Table, Judgement}
+use Rattle.model.specs.Values.{Task, Table, Measure, Judgement, refusal}
 use Rattle.model.specs.Limits.{taskLimit, slotLimit, roundLimit}
 
 -- What stands past the end of a list of tasks.
@@ -50,14 +50,17 @@ load t = sum (t .count) (λ i. task t i .cost * (round t / task t i .period))
 unfoldable pub horizon : Table → ℕ
 horizon t = largest (t .count) (λ i. task t i .offset) + 2 * round t
 
--- The refusal of any table, 1 to 7 in order; what it measures, if it is well-formed.
-abbrev pub refuse : ℕ → ℕ → Judgement
-refuse n p = Judgement.Refused (record { number = n; place = p })
+-- What is measured of a table.
+abbrev pub measure : Table → Measure
+measure t = record { round = round t; load = load t; horizon = horizon t }
+
+-- The refusal of any table of which this is measured, 1 to 7 in order; the measure, if it is well-formed.
+abbrev pub judgedBy : Measure → Table → Judgement
+judgedBy m t =
+    cond (eqb (t .count) 0) (Judgement.Refused (refusal 1 0))
+    (cond (ltb taskLimit (t .count)) (Judgement.Refused (refusal 2 taskLimit))
+    (cond (ltb (firstFaulty t) (t .count)) (Judgement.Refused (refusal (taskFault (task t (firstFaulty t))) (firstFaulty t)))
+    (cond (ltb roundLimit (m .round)) (Judgement.Refused (refusal 7 0)) (Judgement.WellFormed m))))
 
 unfoldable pub judged : Table → Judgement
-judged t =
-    cond (eqb (t .count) 0) (refuse 1 0)
-    (cond (ltb taskLimit (t .count)) (refuse 2 taskLimit)
-    (cond (ltb (firstFaulty t) (t .count)) (refuse (taskFault (task t (firstFaulty t))) (firstFaulty t))
-    (cond (ltb roundLimit (round t)) (refuse 7 0)
-    (Judgement.WellFormed (record { round = round t; load = load t; horizon = horizon t })))))
+judged t = judgedBy (measure t) t

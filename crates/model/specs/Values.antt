@@ -22,6 +22,9 @@ verdictSaid (Verdict.Late from to demand) = 3 ∷ from ∷ to ∷ demand ∷ []
 verdictSaid Verdict.Passes = 4 ∷ []
 
 -- A refusal: its number and its place.
+abbrev pub refusal : ℕ → ℕ → Refusal
+refusal n p = record { number = n; place = p }
+
 abbrev pub refusalSaid : Refusal → List ℕ
 refusalSaid r = r .number ∷ r .place ∷ []
 

@@ -1,8 +1,10 @@
 // Judges any table: document 01's refusals 1 to 7, or what a well-formed table measures.
 ghost use mathlib.Core.Path.{_≡_};
 ghost use Prim.Native.Nat.{_≤_};
+ghost use Rattle.values.specs.declared.Judgement.{Judgement};
+ghost use Rattle.model.specs.Values.{refusal};
 ghost use Rattle.model.specs.Limits.{taskLimit};
-ghost use Rattle.model.specs.Tasks.{within, taskFault, firstFaulty, load, horizon, refuse, judged};
+ghost use Rattle.model.specs.Tasks.{within, taskFault, firstFaulty, load, horizon, judged};
 ghost use Rattle.wellformed.specs.Ranges.{Ranged};
 ghost use Rattle.wellformed.specs.Round.{RoundTold, RoundKept};
 use values::Judgement;
@@ -40,7 +42,7 @@ pub fn judge(t: Table) -> Judgement
 }
 
 fn refused(number: u32, place: u32) -> Judgement
-    ensures { λ r. ⌜ r ≡ refuse number place ⌝ }
+    ensures { λ r. ⌜ r ≡ Judgement.Refused (refusal number place) ⌝ }
 {
     Judgement::Refused(Refusal { number, place })
 }

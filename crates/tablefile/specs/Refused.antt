@@ -13,7 +13,7 @@ use Rattle.values.specs.declared.Admission.{Admission}
 use Rattle.values.specs.declared.Loaded.{Loaded}
 use Rattle.model.specs.Limits.{taskLimit, budgetBytes, taskBytes, longestFile}
 use Rattle.model.specs.Tasks.{judged}
-use Rattle.model.specs.TableFile.{eight, taskIn, refuse, admit, whole, readRecord, readFrom, formOf, judgedTable, judgedForm, loadedFrom}
+use Rattle.model.specs.TableFile.{eight, taskIn, refuseFile, admit, whole, readRecord, readFrom, formOf, judgedTable, judgedForm, loadedFrom}
 use Rattle.wellformed.specs.Refused.{Tellable, JudgementTellable, judged-tellable}
 
 -- An admission that is tellable if it refuses.
@@ -25,7 +25,7 @@ module _ (s : List ℕ) where
   whole-tellable : (at bytes : ℕ) (l : Loaded) → at < longestFile → AdmissionTellable (l .admission) → AdmissionTellable (whole s at bytes l .admission)
   whole-tellable at bytes l near h = go (ltb (length s) (at + bytes))
     where
-      go : (b : Bool) → AdmissionTellable (cond b (refuse 20 at) l .admission)
+      go : (b : Bool) → AdmissionTellable (cond b (refuseFile 20 at) l .admission)
       go true = (omega arith, omega arith)
       go false = h
 
@@ -33,7 +33,7 @@ module _ (s : List ℕ) where
   record-tellable b ks at l near h = go (leb (length s) at) (eqb (getD s at 0) 1) (eqb (getD s at 0) 2) (eqb (getD s at 0) 3) (ltb (at + 1) (length s)) (leb-true (length s) at)
     where
       go : (past budget task end more : Bool) → (past ≡ true → length s ≤ at)
-          → AdmissionTellable (cond past (refuse 26 (length s)) (cond budget (refuse 23 at) (cond task l (cond end (cond more (refuse 24 (at + 1)) (admit b ks)) (refuse 21 at)))) .admission)
+          → AdmissionTellable (cond past (refuseFile 26 (length s)) (cond budget (refuseFile 23 at) (cond task l (cond end (cond more (refuseFile 24 (at + 1)) (admit b ks)) (refuseFile 21 at)))) .admission)
       go true budget task end more e = let p = e refl in (omega arith, omega arith)
       go false true task end more e = (omega arith, omega arith)
       go false false true end more e = h
@@ -43,7 +43,7 @@ module _ (s : List ℕ) where
 
   from-tellable : (b : ℕ) (ks : List Task) (room at : ℕ) → at + room * taskBytes < longestFile → AdmissionTellable (readFrom s b ks room at .admission)
   unfolding readFrom
-  from-tellable b ks zero at near = record-tellable b ks at (refuse 25 at) (omega arith) (omega arith, omega arith)
+  from-tellable b ks zero at near = record-tellable b ks at (refuseFile 25 at) (omega arith) (omega arith, omega arith)
   from-tellable b ks (suc room) at near = record-tellable b ks at _ (omega arith) (whole-tellable at taskBytes _ (omega arith) (from-tellable b (ks ++ (taskIn s (at + 1) ∷ [])) room (at + taskBytes) (omega arith)))
 
   pub form-tellable : AdmissionTellable (formOf s .admission)
@@ -51,7 +51,7 @@ module _ (s : List ℕ) where
   form-tellable = go (eqb (length s) 0) (eqb (getD s 0 0) 1) (eqb (getD s 0 0) 2 || eqb (getD s 0 0) 3)
     where
       go : (none budget other : Bool)
-          → AdmissionTellable (cond none (refuse 22 0) (cond budget (whole s 0 budgetBytes (readFrom s (eight s 1) [] taskLimit budgetBytes)) (cond other (refuse 22 0) (refuse 21 0))) .admission)
+          → AdmissionTellable (cond none (refuseFile 22 0) (cond budget (whole s 0 budgetBytes (readFrom s (eight s 1) [] taskLimit budgetBytes)) (cond other (refuseFile 22 0) (refuseFile 21 0))) .admission)
       go true budget other = (omega arith, omega arith)
       go false true other = whole-tellable 0 budgetBytes _ (omega arith) (from-tellable (eight s 1) [] taskLimit budgetBytes (omega arith))
       go false false true = (omega arith, omega arith)

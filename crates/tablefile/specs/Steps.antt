@@ -11,7 +11,7 @@ use Rattle.values.specs.declared.Task.{Task}
 use Rattle.tablefile.specs.declared.Record.{Record}
 use Rattle.values.specs.declared.Loaded.{Loaded}
 use Rattle.model.specs.Limits.{taskLimit, budgetBytes, taskBytes, longestFile}
-use Rattle.model.specs.TableFile.{taskIn, refuse, admit, whole, readRecord, readFrom, formOf}
+use Rattle.model.specs.TableFile.{taskIn, refuseFile, admit, whole, readRecord, readFrom, formOf}
 use Rattle.tablefile.specs.declared.Reading.{Reading}
 use Rattle.tablefile.specs.Reading.{budgetBody, taskBody, taskReading, readingAt, either}
 use Rattle.tablefile.specs.Part.{eight-part, task-part}
@@ -29,14 +29,14 @@ bounds (later room all here inside same) = omega arith
 
 -- What reading there leads to: the form of the file, or the next place.
 abbrev pub Follows : List ℕ → ℕ → List Task → ℕ → Reading → Type 0
-Follows s b ks at (Reading.Refused r) = refuse (r .number) (r .place) ≡ formOf s
+Follows s b ks at (Reading.Refused r) = refuseFile (r .number) (r .place) ≡ formOf s
 Follows s b ks at (Reading.Whole (Record.Budget x)) = Reached s x ks (at + budgetBytes)
 Follows s b ks at (Reading.Whole (Record.OneTask k)) = Reached s b (ks ++ (k ∷ [])) (at + taskBytes)
 Follows s b ks at (Reading.Whole Record.End) = admit b ks ≡ formOf s
 
 -- What a task leads to in the model, with room for this many.
 unfoldable afterTask : List ℕ → ℕ → List Task → ℕ → ℕ → Loaded
-afterTask s b ks zero at = refuse 25 at
+afterTask s b ks zero at = refuseFile 25 at
 afterTask s b ks (suc room) at = whole s at taskBytes (readFrom s b (ks ++ (taskIn s (at + 1) ∷ [])) room (at + taskBytes))
 
 module _ (s : List ℕ) (b : ℕ) (ks : List Task) (at : ℕ) where
@@ -74,7 +74,7 @@ module _ (s : List ℕ) (b : ℕ) (ks : List Task) (at : ℕ) (here : at ≡ bud
   unfolding readingAt
   step-later room all inside same =
       either (Follows s b ks at) (leb (length s) at) _ _
-      (λ e0. let stop : at ≡ length s = omega (arith, leb-true) in rw (ne-eqb at 0 (omega arith)) (ap (refuse 26) stop ∙ rw e0 at same))
+      (λ e0. let stop : at ≡ length s = omega (arith, leb-true) in rw (ne-eqb at 0 (omega arith)) (ap (refuseFile 26) stop ∙ rw e0 at same))
       (λ e0. either (Follows s b ks at) (eqb (getD s at 0) 1) _ _ (λ e1. rw (lt-ltb 0 at (omega arith)) (rw (e0, e1) at same))
       (λ e1. either (Follows s b ks at) (eqb (getD s at 0) 2) _ _ (λ e2. step-task room all (leb-false _ _ e0) (rw (e0, e1, e2) at same))
       (λ e2. either (Follows s b ks at) (eqb (getD s at 0) 3) _ _

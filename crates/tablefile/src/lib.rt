@@ -11,7 +11,7 @@ ghost use mathlib.Core.List.{[]};
 ghost use Prim.Native.Nat.{_+_, _<_, _≤_};
 ghost use lib.ListN.{length};
 ghost use Rattle.model.specs.Limits.{taskLimit, longestFile};
-ghost use Rattle.model.specs.TableFile.{four, eight, taskIn, tableOf, refuse, formOf, loadedFrom};
+ghost use Rattle.model.specs.TableFile.{four, eight, taskIn, tableOf, refuseFile, formOf, loadedFrom};
 ghost use Rattle.tablefile.specs.Reading.{budgetBody, taskBody, refused, budgetReading, taskReading, endReading, readingAt};
 ghost use Rattle.tablefile.specs.Built.{withTask};
 
@@ -199,7 +199,7 @@ fn with_task(table: Table, task: Task) -> Table
 }
 
 fn refused_file(why: Refusal) -> Loaded
-    ensures { λ r. ⌜ r ≡ refuse (why .number) (why .place) ⌝ }
+    ensures { λ r. ⌜ r ≡ refuseFile (why .number) (why .place) ⌝ }
 {
     Loaded {
         admission: Admission::Refused(why),

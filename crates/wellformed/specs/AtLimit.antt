@@ -7,12 +7,13 @@ use Rattle.values.specs.declared.Task.{Task}
 use Rattle.values.specs.declared.Table.{Table}
 use Rattle.values.specs.declared.Judgement.{Judgement}
 use Rattle.model.specs.Notation.{sum, largest, first}
-use Rattle.model.specs.Tasks.{taskFault, firstFaulty, round, load, horizon, refuse, judged}
+use Rattle.model.specs.Values.{refusal}
+use Rattle.model.specs.Tasks.{taskFault, firstFaulty, round, load, horizon, measure, judged}
 use Rattle.model.specs.TableFile.{tableOf}
 use Rattle.counting.specs.Divisors.{gcd, lcm, lcmAll}
 use Rattle.wellformed.specs.Ranges.{Ranged, ranged}
 use Rattle.wellformed.specs.Round.{period, round-lcm}
-use Rattle.wellformed.specs.WellFormed.{measure, judged-long, judged-of}
+use Rattle.wellformed.specs.WellFormed.{judged-long, judged-of}
 
 abbrev once : ℕ → Task
 once p = record { offset = 0; cost = 1; deadline = p; period = p }
@@ -45,7 +46,7 @@ round-within = round-lcm within-limit within-ranged ∙ within-round
 round-above : round above-limit ≡ 1000045752
 round-above = round-lcm above-limit above-ranged ∙ above-round
 
-pub refused-above : judged above-limit ≡ refuse 7 0
+pub refused-above : judged above-limit ≡ Judgement.Refused (refusal 7 0)
 refused-above = judged-long above-limit above-ranged (omega (arith, round-above))
 
 measured : measure within-limit ≡ record { round = 999982506; load = 63245; horizon = 1999965012 }

@@ -8,8 +8,9 @@ use lib.Dec.{T, ltb, eqb}
 use Rattle.values.specs.declared.Table.{Table}
 use Rattle.values.specs.declared.Refusal.{Refusal}
 use Rattle.values.specs.declared.Judgement.{Judgement}
+use Rattle.model.specs.Values.{refusal}
 use Rattle.model.specs.Limits.{taskLimit, roundLimit}
-use Rattle.model.specs.Tasks.{task, taskFault, firstFaulty, round, load, horizon, refuse, judged}
+use Rattle.model.specs.Tasks.{task, taskFault, firstFaulty, round, measure, judged}
 use Rattle.counting.specs.Search.{first-passes}
 
 -- A refusal of which 65,536 · number + place tells both, and that it is a refusal.
@@ -34,7 +35,7 @@ unfolding judged
 judged-tellable t = go (eqb (t .count) 0) (ltb taskLimit (t .count)) (ltb (firstFaulty t) (t .count)) (ltb roundLimit (round t)) refl refl
   where
     go : (a b c d : Bool) → ltb taskLimit (t .count) ≡ b → ltb (firstFaulty t) (t .count) ≡ c
-        → JudgementTellable (cond a (refuse 1 0) (cond b (refuse 2 taskLimit) (cond c (refuse (taskFault (task t (firstFaulty t))) (firstFaulty t)) (cond d (refuse 7 0) (Judgement.WellFormed (record { round = round t; load = load t; horizon = horizon t }))))))
+        → JudgementTellable (cond a (Judgement.Refused (refusal 1 0)) (cond b (Judgement.Refused (refusal 2 taskLimit)) (cond c (Judgement.Refused (refusal (taskFault (task t (firstFaulty t))) (firstFaulty t))) (cond d (Judgement.Refused (refusal 7 0)) (Judgement.WellFormed (measure t))))))
     go true b c d few e = (omega arith, omega arith)
     go false true c d few e = (omega arith, omega arith)
     go false false true d few e = let l : firstFaulty t < t .count = ltb-true _ _ e in (faulty t l, omega (arith, ltb-false taskLimit (t .count) few))

@@ -8,8 +8,9 @@ use borrow.Author.Tests.{eqb-false, ltb-false, ne-eqb, le-ltb, lt-ltb}
 use Rattle.values.specs.declared.Table.{Table}
 use Rattle.values.specs.declared.Measure.{Measure}
 use Rattle.values.specs.declared.Judgement.{Judgement}
+use Rattle.model.specs.Values.{refusal}
 use Rattle.model.specs.Limits.{taskLimit, slotLimit, roundLimit}
-use Rattle.model.specs.Tasks.{task, taskFault, firstFaulty, round, load, horizon, refuse, judged}
+use Rattle.model.specs.Tasks.{task, taskFault, firstFaulty, round, load, horizon, measure, judged}
 use Rattle.counting.specs.Search.{le-largest, largest-le}
 use Rattle.wellformed.specs.Ranges.{Ranged, ranged, none-faulty}
 use Rattle.wellformed.specs.Round.{round-pos}
@@ -28,17 +29,13 @@ pub record WellFormed (t : Table) (m : Measure) : Type 0 where
   pub offset-le : (i : ℕ) → i < t .count → task t i .offset + 2 * round t ≤ horizon t
   pub horizon-le : horizon t ≤ horizonLimit
 
--- What a table measures.
-abbrev pub measure : Table → Measure
-measure t = record { round = round t; load = load t; horizon = horizon t }
-
 -- Of a table that keeps its ranges, H decides.
-judged-ranged : (t : Table) → Ranged t → judged t ≡ cond (ltb roundLimit (round t)) (refuse 7 0) (Judgement.WellFormed (measure t))
+judged-ranged : (t : Table) → Ranged t → judged t ≡ cond (ltb roundLimit (round t)) (Judgement.Refused (refusal 7 0)) (Judgement.WellFormed (measure t))
 unfolding judged
 judged-ranged t r = rw (ne-eqb (t .count) 0 (omega arith), le-ltb taskLimit (t .count) (omega arith), le-ltb (firstFaulty t) (t .count) (omega (arith, none-faulty t r)))
 
 -- It is refused where H is above its limit.
-pub judged-long : (t : Table) → Ranged t → roundLimit < round t → judged t ≡ refuse 7 0
+pub judged-long : (t : Table) → Ranged t → roundLimit < round t → judged t ≡ Judgement.Refused (refusal 7 0)
 judged-long t r h = rw (judged-ranged t r, lt-ltb roundLimit (round t) h)
 
 -- Else it is well-formed, and measures this.
@@ -46,7 +43,7 @@ pub judged-of : (t : Table) → Ranged t → round t ≤ roundLimit → judged t
 judged-of t r h = rw (judged-ranged t r, le-ltb roundLimit (round t) h)
 
 -- A table that one test does not refuse goes on to the next.
-passed : (p : Bool) (n place : ℕ) {j : Judgement} {m : Measure} → cond p (refuse n place) j ≡ Judgement.WellFormed m → (p ≡ false) × (j ≡ Judgement.WellFormed m)
+passed : (p : Bool) (n place : ℕ) {j : Judgement} {m : Measure} → cond p (Judgement.Refused (refusal n place)) j ≡ Judgement.WellFormed m → (p ≡ false) × (j ≡ Judgement.WellFormed m)
 passed true n place e = let z : _≡_ {A = ℕ} 0 1 = cc in absurd (omega arith)
 passed false n place e = (refl, e)
 

@@ -9,8 +9,8 @@ use Rattle.dispatch.proofs.Dispatcher.step.Tie as tie
 judge-requires : tie.Need-judge-requires
 judge-requires c κs = search needs
 
-enum-known-refusal : tie.Need-enum-known-refusal
-enum-known-refusal c = search needs
+enum-known-why : tie.Need-enum-known-why
+enum-known-why c = search needs
 
 refused-requires : tie.Need-refused-requires
 refused-requires c κs = search needs
@@ -23,7 +23,7 @@ step-well-formed-requires c κs = well-formed _ _ (sym (c .before .before .judge
 
 returns : tie.Need-returns
 unfolding stepped
-returns c = rw (← c .before .before .before .before .judge .ensures, c .before .before .refusal .given .1) (c .refused .ensures)
+returns c = rw (← c .before .before .before .before .judge .ensures, c .before .before .why .given .1) (c .refused .ensures)
 
 returns-2 : tie.Need-returns-2
 unfolding stepped
@@ -34,7 +34,7 @@ step-spec =
     tie.close
     (tie.spec
     judge-requires
-    enum-known-refusal
+    enum-known-why
     refused-requires
     enum-told
     step-well-formed-requires
