@@ -1,13 +1,9 @@
 // The exact test: a walk slot by slot, and at the first late deadline a search for the largest start.
 ghost use mathlib.Core.Path.{_≡_};
-ghost use Prim.Native.Nat.{ℕ, _-_, _≤_, _<_, max, min};
+ghost use Prim.Native.Nat.{_≤_, max, min};
 ghost use Rattle.values.specs.declared.Judgement.{Judgement};
 ghost use Rattle.model.specs.Tasks.{judged};
-ghost use Rattle.model.specs.Demand.{jobsIn, demand};
 ghost use Rattle.model.specs.Verdict.{brief as briefly, Permitted};
-ghost use Rattle.wellformed.specs.Ranges.{InRange, Ranged};
-ghost use Rattle.wellformed.specs.WellFormed.{horizonLimit};
-ghost use Rattle.exact.specs.Starts.{NoRelease, PassedOver};
 ghost use Rattle.exact.specs.Walked.{notedOf, emptied, emptyOf, concluded};
 use slots::NO_TASK;
 use slots::Numbers;
@@ -18,82 +14,7 @@ use values::Measure;
 use values::Outcome;
 use values::TASK_LIMIT;
 use values::Table;
-use values::Task;
 use values::Verdict;
-
-// The difference, or 0.
-fn less(x: u64, y: u64) -> u64
-    ensures { λ r. ⌜ r ≡ x - y ⌝ }
-{
-    if x < y { 0 } else { x - y }
-}
-
-fn to_u64(x: u32) -> u64
-    ensures { λ r. ⌜ (r ≡ x) × (x < 4294967296) ⌝ }
-{
-    x as u64
-}
-
-// The jobs of a task inside an interval: those due by its end, less those released before its start.
-fn jobs_in(k: Task, from: u64, to: u64) -> u64
-    requires { ⌜ InRange k ⌝ }
-    requires { ⌜ (from ≤ to) × (to ≤ horizonLimit) ⌝ }
-    ensures { λ r. ⌜ r ≡ jobsIn k from to ⌝ }
-{
-    let period = to_u64(k.period);
-    let offset = to_u64(k.offset);
-    let due = less(to + period, offset + to_u64(k.deadline)) / period;
-    let released = (less(from, offset) + (period - 1)) / period;
-    less(due, released)
-}
-
-// The slots that an interval asks for.
-fn demand(t: Table, from: u64, to: u64) -> u64
-    requires { ⌜ Ranged t ⌝ }
-    requires { ⌜ (from ≤ to) × (to ≤ horizonLimit) ⌝ }
-    ensures { λ r. ⌜ r ≡ demand t from to ⌝ }
-{
-    let n = t.count;
-    let mut asked: u64 = 0;
-    for i in 0..n {
-        let task = t.tasks[i];
-        asked = asked + to_u64(task.cost) * jobs_in(task, from, to);
-    }
-    asked
-}
-
-// The latest release of a task before `from`, or 0.
-fn release_before(k: Task, from: u64) -> u64
-    requires { ⌜ InRange k ⌝ }
-    ensures { λ r. ⌜ (0 < from → r < from) × NoRelease k r from ⌝ }
-{
-    let offset = to_u64(k.offset);
-    if from <= offset {
-        return 0;
-    }
-    let period = to_u64(k.period);
-    offset + (from - offset - 1) / period * period
-}
-
-// The next start to look at, where the interval from `from` leaves some slots to spare: the latest release before it of a task
-// whose n-fold cost exceeds them, or 0.
-fn start_before(t: Table, from: u64, spare: u64) -> u64
-    requires { ⌜ Ranged t ⌝ }
-    ensures { λ r. ⌜ (0 < from → r < from) × ((i : ℕ) → i < t .count → PassedOver t spare r from i) ⌝ }
-{
-    let n = t.count;
-    let mut start: u64 = 0;
-    for i in 0..n {
-        let task = t.tasks[i];
-        if spare < n as u64 * to_u64(task.cost) {
-            let release = release_before(task, from);
-            if start < release {
-                start = release;
-            }
-        }
-    }
-    start
-}
 
 fn larger(x: u32, y: u32) -> u32
     ensures { λ r. ⌜ r ≡ max x y ⌝ }
@@ -210,8 +131,8 @@ fn walk(t: Table, m: Measure, budget: u64) -> Answer
         } else {
             from = at;
             while from > 0 {
-                from = start_before(t, from, at - from - asked);
-                asked = demand(t, from, at);
+                from = intervals::start_before(t, from, at - from - asked);
+                asked = intervals::demand(t, from, at);
                 if asked > at - from {
                     break 'search;
                 }

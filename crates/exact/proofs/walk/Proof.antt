@@ -13,7 +13,7 @@ use Rattle.model.specs.Demand.{demand, asksTooMuch}
 use Rattle.wellformed.specs.WellFormed.{WellFormed, well-formed}
 use Rattle.backlog.specs.Decided.{late-at-iff, too-much-iff}
 use Rattle.slots.specs.declared.Columns.{Columns}
-use Rattle.exact.specs.Starts.{demand-none, none-between}
+use Rattle.intervals.specs.Starts.{demand-none, none-between}
 use Rattle.exact.specs.Walking.{Setting, Walking, walking-start, one-found, none-found, walk-slot, permitted-quiet, permitted-late}
 use Rattle.exact.proofs.walk.Statement.{statement}
 use Rattle.exact.proofs.walk.Tie as tie

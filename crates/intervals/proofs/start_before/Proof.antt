@@ -8,9 +8,9 @@ use native.Mathlib.Omega.{arith}
 use borrow.Author.Needs.{needs}
 use Rattle.values.specs.declared.Table.{Table}
 use Rattle.model.specs.Limits.{taskLimit}
-use Rattle.exact.specs.Starts.{PassedOver}
-use Rattle.exact.proofs.start_before.Statement.{statement}
-use Rattle.exact.proofs.start_before.Tie as tie
+use Rattle.intervals.specs.Starts.{PassedOver}
+use Rattle.intervals.proofs.start_before.Statement.{statement}
+use Rattle.intervals.proofs.start_before.Tie as tie
 
 abbrev Inv-loop : tie.InvT-loop
 Inv-loop from spare t n start₀ i₀ start i = (i ≤ n) × (0 < from → start < from) × ((k : ℕ) → k < i → PassedOver t spare start from k)

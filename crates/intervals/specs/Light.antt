@@ -12,7 +12,7 @@ use Rattle.counting.specs.Below.{below, below-most, below-next, grows-mono}
 use Rattle.counting.specs.Sum.{sum-le, sum-mul}
 use Rattle.wellformed.specs.Ranges.{InRange, Ranged}
 use Rattle.wellformed.specs.Round.{round-pos, period-divides, share}
-use Rattle.exact.specs.Closed.{releases}
+use Rattle.intervals.specs.Closed.{releases}
 
 -- For H = q · p and b periods p within x slots.
 cross : (c b q p x : ℕ) → b * p ≤ x → q * p * (c * b) ≤ x * (c * q)

@@ -18,8 +18,8 @@ use Rattle.counting.specs.Sum.{sum-le, sum-add, sum-mul, sum-zero, sum-bound}
 use Rattle.wellformed.specs.Ranges.{InRange, Ranged}
 use Rattle.wellformed.specs.Round.{share}
 use Rattle.backlog.specs.Decided.{too-much-iff}
-use Rattle.exact.specs.Closed.{releases, dues}
-use Rattle.exact.specs.Light.{new-le, shares-le}
+use Rattle.intervals.specs.Closed.{releases, dues}
+use Rattle.intervals.specs.Light.{new-le, shares-le}
 
 -- No release of the task lies after `start` and before `from`.
 abbrev pub NoRelease : Task → ℕ → ℕ → Type 0

@@ -7,8 +7,8 @@ use Rattle.model.specs.Notation.{sum}
 use Rattle.model.specs.Demand.{demand}
 use Rattle.counting.specs.Sum.{sum-none, sum-more}
 use Rattle.wellformed.specs.Demand.{asks, asksLimit, asks-le}
-use Rattle.exact.proofs.demand.Statement.{statement}
-use Rattle.exact.proofs.demand.Tie as tie
+use Rattle.intervals.proofs.demand.Statement.{statement}
+use Rattle.intervals.proofs.demand.Tie as tie
 
 abbrev Inv-loop : tie.InvT-loop
 Inv-loop from to t n asked₀ i₀ asked i = (i ≤ n) × (asked ≤ i * asksLimit) × (asked ≡ sum i (asks t from to))

@@ -3,9 +3,9 @@ use mathlib.Core.Path.{_≡_}
 use Prim.Native.Nat.{_+_, _-_, _*_, _/_, _<_}
 use native.Mathlib.Omega.{arith}
 use borrow.Author.Needs.{needs}
-use Rattle.exact.specs.Starts.{before-from, no-release}
-use Rattle.exact.proofs.release_before.Statement.{statement}
-use Rattle.exact.proofs.release_before.Tie as tie
+use Rattle.intervals.specs.Starts.{before-from, no-release}
+use Rattle.intervals.proofs.release_before.Statement.{statement}
+use Rattle.intervals.proofs.release_before.Tie as tie
 
 -- What is computed, in the task's own numbers.
 is : (c : tie.After-to-u642) → let s = c .before .before .before in let o = c .before .before .to-u64 .result in let p = c .to-u642 .result in o + (s .args .from - o - 1) / p * p ≡ s .args .k .offset + (s .args .from - s .args .k .offset - 1) / s .args .k .period * s .args .k .period

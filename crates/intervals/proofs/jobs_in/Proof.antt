@@ -1,8 +1,8 @@
 -- The closed form.
 use borrow.Author.Needs.{needs}
-use Rattle.exact.specs.Closed.{jobs-closed}
-use Rattle.exact.proofs.jobs_in.Statement.{statement}
-use Rattle.exact.proofs.jobs_in.Tie as tie
+use Rattle.intervals.specs.Closed.{jobs-closed}
+use Rattle.intervals.proofs.jobs_in.Statement.{statement}
+use Rattle.intervals.proofs.jobs_in.Tie as tie
 
 to-u64-requires : tie.Need-to-u64-requires
 to-u64-requires c κs = search needs
