@@ -16,7 +16,7 @@ use Rattle.values.specs.declared.Answer.{Answer}
 use Rattle.model.specs.Limits.{taskLimit}
 use Rattle.model.specs.Tasks.{round, load, horizon, judged}
 use Rattle.model.specs.Run.{tieOrder, Worst}
-use Rattle.model.specs.Verdict.{needed, verdict, settledBy, Worsts, Answers, Judged, Permitted}
+use Rattle.model.specs.Verdict.{needed, verdict, settledBy, Worsts, Answers, PermittedBy, Permitted}
 use Rattle.counting.specs.Fill.{fill-length, fill-passed, fill-ahead}
 use Rattle.wellformed.specs.Ranges.{Ranged}
 use Rattle.backlog.specs.Criterion.{Met}
@@ -120,7 +120,7 @@ answers-unique t budget m a b Verdict.Overload e f = cc
 answers-unique t budget m a b (Verdict.Late x y z) e f = cc
 answers-unique t budget m a b Verdict.Undecided e f = cc
 
-judged-unique : (t : Table) (budget : ℕ) (a b : Answer) (j : Judgement) → Judged t budget a j → Judged t budget b j → a ≡ b
+judged-unique : (t : Table) (budget : ℕ) (a b : Answer) (j : Judgement) → PermittedBy t budget a j → PermittedBy t budget b j → a ≡ b
 judged-unique t budget a b (Judgement.Refused r) e f = cc
 judged-unique t budget a b (Judgement.WellFormed m) e f = answers-unique t budget m a b (verdict t budget) e f
 

@@ -8,7 +8,7 @@ use Rattle.values.specs.declared.Verdict.{Verdict}
 use Rattle.values.specs.declared.Outcome.{Outcome}
 use Rattle.values.specs.declared.Answer.{Answer}
 use Rattle.model.specs.Tasks.{horizon, judged}
-use Rattle.model.specs.Verdict.{verdict, settledBy, emptyIn, brief, Answers, Judged, Permitted}
+use Rattle.model.specs.Verdict.{verdict, settledBy, emptyIn, brief, Answers, PermittedBy, Permitted}
 use Rattle.wellformed.specs.WellFormed.{well-formed}
 use Rattle.wellformed.specs.Ranges.{Ranged}
 use Rattle.backlog.specs.Decided.{late-at-iff}
@@ -36,7 +36,7 @@ answers t r budget m Verdict.Overload e = refl
 answers t r budget m (Verdict.Late from to asked) e = refl
 answers t r budget m Verdict.Undecided e = refl
 
-judged-answer : (t : Table) (budget : ℕ) (j : Judgement) → judged t ≡ j → Judged t budget (answerJudged t budget j) j
+judged-answer : (t : Table) (budget : ℕ) (j : Judgement) → judged t ≡ j → PermittedBy t budget (answerJudged t budget j) j
 judged-answer t budget (Judgement.Refused r) e = refl
 judged-answer t budget (Judgement.WellFormed m) e = answers t (well-formed t m e .ranged) budget m (verdict t budget) refl
 

@@ -3,11 +3,11 @@ use mathlib.Core.Path.{_≡_, refl}
 use mathlib.Core.List.{List, [], _∷_, _++_, map}
 use mathlib.Core.Bool.{Bool, true, false}
 use Prim.Native.Nat.{ℕ, zero, suc, _-_, _/_, _%_}
-use lib.ListN.{replicate}
-use Rattle.model.specs.Values.{Task, Table, Judgement, Verdict, Outcome, Empty, Admission, Given, refusal}
+use lib.ListN.{length, replicate}
+use Rattle.model.specs.Values.{Task, Table, Measure, Judgement, Verdict, Outcome, Empty, Admission, Given, refusal, verdictSaid}
 use Rattle.model.specs.Notation.{sum, largest, count, first, last, bits, fill, text, digits, decimal}
 use Rattle.model.specs.Limits.{taskLimit, longestFile}
-use Rattle.model.specs.Tasks.{taskFault, firstFaulty, round, load, horizon, judgedBy, judged}
+use Rattle.model.specs.Tasks.{taskFault, firstFaulty, round, load, horizon, measure, judgedBy, judged}
 use Rattle.model.specs.Demand.{jobsIn, demand, asksTooMuch, lateAt}
 use Rattle.model.specs.Schedule.{given}
 use Rattle.model.specs.Run.{tieOrder, choose, ownerOf, served, owner, run, firstEmpty}
@@ -57,17 +57,17 @@ table-k = tableOf (of 0 1 1 4 ∷ of 1 1 1 4 ∷ of 1 1 1 4 ∷ [])
 
 -- ---- tables
 
--- The numbers 1 to 6 with their places: no task, seventeen tasks, then T, D, C and O of task 1, each alone and before a later fault.
 abbrev refuse : ℕ → ℕ → Judgement
 refuse n p = Judgement.Refused (refusal n p)
 
+-- The numbers 1 to 6 with their places: no task, seventeen tasks, then T, D, C and O of task 1, each before later faults and, but for T = 0, alone.
 faulty : Task → Judgement
 faulty k = judged (tableOf (of 0 1 1 1 ∷ k ∷ []))
 
 refusals :
     (judged (tableOf []) ≡ refuse 1 0)
     × (judged (record { count = 17; tasks = replicate taskLimit (of 0 1 1 1) }) ≡ refuse 2 16)
-    × (map faulty (of 0 0 0 0 ∷ of 0 1 1 60001 ∷ of 0 1 0 5 ∷ of 60001 1 6 5 ∷ of 0 0 1 5 ∷ of 60001 5 4 5 ∷ of 60001 1 1 5 ∷ []) ≡ refuse 3 1 ∷ refuse 3 1 ∷ refuse 4 1 ∷ refuse 4 1 ∷ refuse 5 1 ∷ refuse 5 1 ∷ refuse 6 1 ∷ [])
+    × (map faulty (of 0 0 0 0 ∷ of 0 1 1 60001 ∷ of 0 1 0 5 ∷ of 60001 1 6 5 ∷ of 0 1 6 5 ∷ of 0 0 1 5 ∷ of 60001 5 4 5 ∷ of 60001 1 1 5 ∷ []) ≡ refuse 3 1 ∷ refuse 3 1 ∷ refuse 4 1 ∷ refuse 4 1 ∷ refuse 4 1 ∷ refuse 5 1 ∷ refuse 5 1 ∷ refuse 6 1 ∷ [])
 unfolding faulty judged firstFaulty taskFault first
 refusals = (refl, refl, refl)
 
@@ -76,12 +76,27 @@ task-by-task : judged (tableOf (of 60001 1 1 5 ∷ of 0 0 0 0 ∷ [])) ≡ refus
 unfolding judged firstFaulty taskFault first
 task-by-task = refl
 
--- Number 7 and its place, by a given H, since a search for so large a one is too long to compute: 10^9 is read, one more is refused. What is wrong with a task comes first.
+-- Number 7 and its place. The search for an H so large is too long to compute, so it is given: document 01's periods at the limit, of which
+-- the first two are read; periods whose H is 10^9 + 1; and what is wrong with a task comes first.
+abbrev once : ℕ → Task
+once p = of 0 1 p p
+
+abbrev pub within-limit : Table
+within-limit = tableOf (once 31622 ∷ once 31623 ∷ [])
+
+abbrev pub above-limit : Table
+above-limit = tableOf (once 31623 ∷ once 31624 ∷ [])
+
+abbrev measured : ℕ → ℕ → ℕ → Measure
+measured h l z = record { round = h; load = l; horizon = z }
+
 refused-by-round :
-    map (λ h. judgedBy (record { round = h; load = 0; horizon = 0 }) table-b) (1000000000 ∷ 1000000001 ∷ []) ++ (judgedBy (record { round = 1000000001; load = 0; horizon = 0 }) (tableOf (of 60001 1 1 5 ∷ [])) ∷ [])
-    ≡ Judgement.WellFormed (record { round = 1000000000; load = 0; horizon = 0 }) ∷ refuse 7 0 ∷ refuse 6 0 ∷ []
+    (judgedBy (measured 999982506 63245 1999965012) within-limit ≡ Judgement.WellFormed (measured 999982506 63245 1999965012))
+    × (judgedBy (measured 1000045752 63247 2000091504) above-limit ≡ refuse 7 0)
+    × (judgedBy (measured 1000000001 71598 2000000002) (tableOf (once 19019 ∷ once 52579 ∷ [])) ≡ refuse 7 0)
+    × (judgedBy (measured 1000045752 63247 2000091504) (tableOf (once 31623 ∷ of 60001 1 1 31624 ∷ [])) ≡ refuse 6 1)
 unfolding firstFaulty taskFault first
-refused-by-round = refl
+refused-by-round = (refl, refl, refl, refl)
 
 -- The ends of the ranges are inside them.
 inside-ranges : map taskFault (of 0 1 1 1 ∷ of 60000 60000 60000 60000 ∷ []) ≡ 0 ∷ 0 ∷ []
@@ -111,6 +126,10 @@ settled : map (λ t. settledBy t 1000) tables ≡ 2 ∷ 38 ∷ 15 ∷ 7 ∷ 5 �
 unfolding settledBy needed lateAt first round load horizon largest sum count demand jobsIn
 settled = refl
 
+-- The numbers of the verdicts, and what is told with them.
+said : map verdictSaid (Verdict.Overload ∷ Verdict.Undecided ∷ Verdict.Late 8 15 7 ∷ Verdict.Passes ∷ []) ≡ (1 ∷ []) ∷ (2 ∷ []) ∷ (3 ∷ 8 ∷ 15 ∷ 7 ∷ []) ∷ (4 ∷ []) ∷ []
+said = refl
+
 -- A load of exactly 1 is no overload.
 load-of-one : verdict table-a 2 ≡ Verdict.Passes
 unfolding verdict needed lateStart lateAt first last round load horizon largest sum count demand jobsIn
@@ -134,12 +153,12 @@ settled-short : (settledBy table-b 37 ≡ 37) × (settledBy table-c 0 ≡ 0) × 
 unfolding settledBy needed lateAt first round load horizon largest sum count demand jobsIn
 settled-short = (refl, refl, refl)
 
--- The closed formula of the source documents would name 0 to 3 on h: it invents a job of task 0 before its first release at 4.
+-- The closed formula of the source documents would name 0 to 3 on h: it invents two jobs of task 0 before its first release at 4.
 no-job-before-the-first : (jobsIn (of 4 1 1 2) 0 3 ≡ 0) × (asksTooMuch table-h 0 3 ≡ false)
 unfolding demand jobsIn sum count
 no-job-before-the-first = (refl, refl)
 
--- A quotient rounded toward zero counts one job at 3 here; there is none by 3, and one by 5.
+-- A quotient rounded toward zero counts one job by 3 here; there is none by 3, and one by 5.
 rounding : (jobsIn (of 4 1 1 4) 0 3 ≡ 0) × (jobsIn (of 4 1 1 4) 0 5 ≡ 1)
 unfolding jobsIn count
 rounding = (refl, refl)
@@ -156,9 +175,13 @@ owners : map (owner table-b (tieOrder table-b)) (0 ∷ 1 ∷ 2 ∷ 8 ∷ 9 ∷ 1
 unfolding owner ownerOf served choose
 owners = refl
 
-job-given : given (run table-b (tieOrder table-b)) 0 0 8 15 ≡ 5
+-- The slots of one job, between two instants: job 0 of task 0; job 1 of task 1, which job 0 has none of.
+job-given :
+    (map (λ u. given (run table-b (tieOrder table-b)) 0 0 u 15) (8 ∷ 9 ∷ 13 ∷ []) ≡ 5 ∷ 4 ∷ 2 ∷ [])
+    × (map (given (run table-b (tieOrder table-b)) 0 0 0) (8 ∷ 14 ∷ 15 ∷ []) ≡ 0 ∷ 4 ∷ 5 ∷ [])
+    × (map (λ j. given (run table-b (tieOrder table-b)) 1 j 5 7) (0 ∷ 1 ∷ []) ≡ 0 ∷ 2 ∷ [])
 unfolding given run owner ownerOf served choose count
-job-given = refl
+job-given = (refl, refl, refl)
 
 -- Ties go to the lower number, or to whichever task the order puts first.
 ties : (map (owner table-g (tieOrder table-g)) (0 ∷ 1 ∷ 2 ∷ 3 ∷ []) ≡ 0 ∷ 0 ∷ 1 ∷ 1 ∷ []) × (map (owner table-g (λ k. 1 - k)) (0 ∷ 1 ∷ 2 ∷ 3 ∷ []) ≡ 1 ∷ 1 ∷ 0 ∷ 0 ∷ [])
@@ -187,9 +210,18 @@ rowsOfOne : ℕ → List ℕ
 rowsOfOne zero = []
 rowsOfOne (suc n) = rowOf (of 0 1 1 1) ++ rowsOfOne n
 
-files : (loadedFrom file-b ≡ record { admission = Admission.Admitted; budget = 1000; table = table-b }) × (longestFile ≡ 282)
-unfolding loadedFrom formOf readFrom judged firstFaulty taskFault first round load horizon largest sum count
-files = (refl, refl)
+-- A file is read; of one whose table is refused nothing is kept; the longest legal file has 282 bytes, and its 16 tasks are read.
+abbrev file-of-16 : List ℕ
+file-of-16 = budgetOf 0 ++ rowsOfOne 16 ++ (3 ∷ [])
+
+files :
+    (loadedFrom file-b ≡ record { admission = Admission.Admitted; budget = 1000; table = table-b })
+    × (loadedFrom (budgetOf 1000 ++ (3 ∷ [])) ≡ record { admission = Admission.Refused (refusal 1 0); budget = 0; table = tableOf [] })
+    × (loadedFrom file-of-16 .admission ≡ Admission.Admitted)
+    × (length file-of-16 ≡ 282)
+    × (longestFile ≡ 282)
+unfolding loadedFrom formOf readFrom judged firstFaulty taskFault first round load horizon largest sum count rowsOfOne
+files = (refl, refl, refl, refl, refl)
 
 abbrev refusalOf : List ℕ → Admission
 refusalOf s = loadedFrom s .admission
@@ -229,6 +261,16 @@ dispatched :
 unfolding steps startOf after turn ownerNow choose fill bits sum count first
 dispatched = (refl, refl, refl)
 
+-- The earliest deadline goes first, not the next release; a job at its deadline is closed before the next one of its task is released.
+abbrev hurried : Table
+hurried = tableOf (of 0 1 5 5 ∷ of 0 1 2 10 ∷ [])
+
+in-order :
+    (steps hurried (startOf hurried) (false ∷ false ∷ []) ≡ 1 ∷ 0 ∷ [])
+    × (turn table-g (record { wait = replicate 16 0; left = 1 ∷ replicate 15 0; last = 1 }) false ≡ record { owner = 0; late = 1; closed = 1; lowest = 0 })
+unfolding steps startOf after turn ownerNow choose fill bits sum count first
+in-order = (refl, refl)
+
 -- Two jobs closed at once; where none is closed the lowest number is 16.
 abbrev both-late : State
 both-late = record { wait = 1 ∷ 1 ∷ replicate 14 0; left = 1 ∷ 1 ∷ replicate 14 0; last = 16 }
@@ -253,6 +295,19 @@ two = tableOf (of 0 2 3 4 ∷ of 9 1 4 4 ∷ [])
 state : ℕ → ℕ → ℕ → ℕ → ℕ → Given
 state w0 w1 l0 l1 last = stepped two (record { wait = w0 ∷ w1 ∷ replicate 14 7; left = l0 ∷ l1 ∷ replicate 14 7; last = last }) false .given
 
+-- A refusal hands the state back; the table's number comes before 8.
+abbrev any-state : State
+any-state = record { wait = 1 ∷ 2 ∷ []; left = 3 ∷ 4 ∷ []; last = 5 }
+
+handed-back : map (λ t. stepped t any-state true) (tableOf [] ∷ two ∷ []) ≡ map (λ r. record { given = Given.Refused r; state = any-state }) (refusal 1 0 ∷ refusal 8 0 ∷ [])
+unfolding stepped firstStrange judged firstFaulty taskFault first round load horizon largest sum count
+handed-back = refl
+
+-- A closed job may wait for as long as the offset or the period is.
+no-strangers : state 4 9 0 0 16 ≡ Given.Slot (record { owner = 16; late = 0; closed = 0; lowest = 16 })
+unfolding state stepped turn ownerNow choose bits firstStrange judged firstFaulty taskFault first round load horizon largest sum count
+no-strangers = refl
+
 strangers :
     state 5 0 0 0 16 ∷ state 0 10 0 0 16 ∷ state 2 0 3 0 16 ∷ state 0 0 1 0 16 ∷ state 4 0 1 0 16 ∷ state 0 4 0 1 16 ∷ state 0 0 0 0 2 ∷ state 0 0 0 0 17 ∷ []
     ≡ map (λ p. Given.Refused (refusal 8 p)) (0 ∷ 1 ∷ 0 ∷ 0 ∷ 0 ∷ 1 ∷ 16 ∷ 16 ∷ [])
@@ -270,9 +325,9 @@ at-deadline = (refl, refl)
 -- ---- the report
 
 report-b :
-    reportOf 2 (record { outcome = Outcome.Tested Verdict.Passes; measure = record { round = 15; load = 11; horizon = 38 }; settled = 38; worst = 7 ∷ 2 ∷ replicate 14 0; empty = Empty.Slot 2 }) Verdict.Passes
+    reportOf (table-b .count) (record { outcome = Outcome.Tested Verdict.Passes; measure = measure table-b; settled = settledBy table-b 1000; worst = 7 ∷ 2 ∷ replicate 14 0; empty = emptyIn table-b }) (verdict table-b 1000)
     ≡ text "tasks 2\nload 11/15\nhorizon 38\nverdict passes\nsettled 38\nworst 0 7\nworst 1 2\nempty 2\n"
-unfolding reportOf worstLines text decimal digits
+unfolding reportOf worstLines text decimal digits settledBy verdict needed lateStart lateAt first last round load horizon largest sum count demand jobsIn firstEmpty owner ownerOf served choose
 report-b = refl
 
 report-c :
@@ -300,12 +355,16 @@ report-a :
 unfolding reportOf worstLines text decimal digits
 report-a = refl
 
--- The exported call: a short buffer is 30 at its length; a refusal is 65,536 · number + place and writes nowhere; bytes behind a report stay.
+-- The exported call: a short buffer is 30 at its length, and one of 512 bytes is not short; a refusal is 65,536 · number + place and writes
+-- nowhere; bytes behind a report stay.
 exported :
     (Checked [] (7 ∷ []) (record { number = 1966081; buffer = 7 ∷ [] }))
+    × (Checked [] (replicate 511 7) (record { number = 1966591; buffer = replicate 511 7 }))
+    × (Checked (budgetOf 0 ++ (9 ∷ [])) (replicate 512 7) (record { number = 1376265; buffer = replicate 512 7 }))
     × (refused (refusal 21 9) (7 ∷ []) ≡ record { number = 1376265; buffer = 7 ∷ [] })
     × (written (5 ∷ 6 ∷ []) (1 ∷ 2 ∷ 3 ∷ []) ≡ record { number = 2; buffer = 5 ∷ 6 ∷ 3 ∷ [] })
-exported = (refl, refl, refl)
+unfolding loadedFrom formOf readFrom
+exported = (refl, refl, refl, refl, refl)
 
 -- A budget of more than four bytes, and numbers of three and four.
 wide-numbers :
@@ -321,8 +380,8 @@ refusal-line = refl
 
 -- The first wait stands at byte 0, the slots left from byte 64 on, the last-run task at 128, and behind it what the step told.
 layout :
-    bufferOf (record { wait = 258 ∷ replicate 15 0; left = 3 ∷ replicate 15 0; last = 4 }) (record { owner = 4; late = 5; closed = 6; lowest = 7 })
-    ≡ 2 ∷ 1 ∷ replicate 62 0 ++ word 3 ++ replicate 60 0 ++ word 4 ++ word 5 ++ word 6 ++ word 7
+    bufferOf (record { wait = 67305985 ∷ replicate 15 0; left = 3 ∷ replicate 15 0; last = 4 }) (record { owner = 4; late = 5; closed = 6; lowest = 7 })
+    ≡ 1 ∷ 2 ∷ 3 ∷ 4 ∷ replicate 60 0 ++ word 3 ++ replicate 60 0 ++ word 4 ++ word 5 ++ word 6 ++ word 7
 unfolding bufferOf bytesOf
 layout = refl
 

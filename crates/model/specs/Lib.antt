@@ -3,8 +3,8 @@ pub mod Notation
 pub mod Limits
 pub mod Values
 pub mod Tasks
-pub mod Demand
 pub mod Schedule
+pub mod Demand
 pub mod Run
 pub mod Verdict
 pub mod TableFile

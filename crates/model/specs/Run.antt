@@ -5,7 +5,7 @@ use Rattle.model.specs.Limits.{taskLimit}
 use Rattle.model.specs.Tasks.{task, release, due, horizon}
 use Rattle.model.specs.Schedule.{none, job, Schedule, given}
 
--- An order of the tasks: of two that tie, the one of lower rank goes first.
+-- An order of the tasks: of two that tie, the one of lower rank goes first, and of one rank the lower number.
 abbrev pub Order : Type 0
 Order = ℕ → ℕ
 

@@ -45,8 +45,8 @@ stepWritten buffer d (Given.Slot u) = record { number = u .owner; buffer = buffe
 -- The order of the refusals: 50 for a buffer of another length, at its length or the largest place; the file's form; the table; the state.
 abbrev pub onFile : List ℕ → List ℕ → (Table → Exported) → Exported
 onFile file buffer go =
-    let strange = Admission.Refused (refusal 50 (min (length buffer) 65535)) in
-    let admission = cond (eqb (length buffer) stateBytes) (formOf file .admission) strange in
+    let unfit = Admission.Refused (refusal 50 (min (length buffer) 65535)) in
+    let admission = cond (eqb (length buffer) stateBytes) (formOf file .admission) unfit in
     elim admission [ Admission.Refused r ↦ refused r buffer | Admission.Admitted ↦ go (formOf file .table) ]
 
 -- The one permitted result of each on any file and any buffer; a done report is any number but 0.

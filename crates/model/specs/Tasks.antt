@@ -38,7 +38,7 @@ firstFaulty t = first (λ i. not (eqb (taskFault (task t i)) 0)) 0 (t .count)
 abbrev pub commonMultiple : Table → ℕ → Bool
 commonMultiple t h = ltb 0 h && every (λ i. eqb (h % task t i .period) 0) (t .count)
 
--- H: the least common multiple of all periods, looked for up to `slotLimit` to the power of their number: periods in range have it there.
+-- H: the least common multiple of all periods. Periods in range have one that is at most `slotLimit` to the power of their number.
 unfoldable pub round : Table → ℕ
 round t = first (commonMultiple t) 0 (slotLimit ^ t .count)
 
@@ -46,7 +46,7 @@ round t = first (commonMultiple t) 0 (slotLimit ^ t .count)
 unfoldable pub load : Table → ℕ
 load t = sum (t .count) (λ i. task t i .cost * (round t / task t i .period))
 
--- The horizon: the largest offset and 2 H.
+-- The horizon: the largest offset, plus 2 H.
 unfoldable pub horizon : Table → ℕ
 horizon t = largest (t .count) (λ i. task t i .offset) + 2 * round t
 
@@ -54,7 +54,7 @@ horizon t = largest (t .count) (λ i. task t i .offset) + 2 * round t
 abbrev pub measure : Table → Measure
 measure t = record { round = round t; load = load t; horizon = horizon t }
 
--- The refusal of any table of which this is measured, 1 to 7 in order; the measure, if it is well-formed.
+-- By a measure: the first of the refusals 1 to 7, or else well-formed, with this measure.
 abbrev pub judgedBy : Measure → Table → Judgement
 judgedBy m t =
     cond (eqb (t .count) 0) (Judgement.Refused (refusal 1 0))
@@ -62,5 +62,6 @@ judgedBy m t =
     (cond (ltb (firstFaulty t) (t .count)) (Judgement.Refused (refusal (taskFault (task t (firstFaulty t))) (firstFaulty t)))
     (cond (ltb roundLimit (m .round)) (Judgement.Refused (refusal 7 0)) (Judgement.WellFormed m))))
 
+-- Any table is judged by its own measure.
 unfoldable pub judged : Table → Judgement
 judged t = judgedBy (measure t) t

@@ -28,7 +28,7 @@ refusal n p = record { number = n; place = p }
 abbrev pub refusalSaid : Refusal → List ℕ
 refusalSaid r = r .number ∷ r .place ∷ []
 
--- The answer of the test: a refusal, or a verdict; of a table's judge: a refusal, or 0 with H, load and horizon.
+-- Of the test: a refusal, of two entries, or a verdict, of one or four. Of a table's judge: a refusal, or 0 with H, load and horizon.
 abbrev pub outcomeSaid : Outcome → List ℕ
 outcomeSaid (Outcome.Refused r) = refusalSaid r
 outcomeSaid (Outcome.Tested v) = verdictSaid v

@@ -18,7 +18,7 @@ use Rattle.model.specs.Tasks.{task, release, due, round, load, horizon, judged}
 use Rattle.model.specs.Demand.{demand, asksTooMuch, lateAt}
 use Rattle.model.specs.Schedule.{none, job, Schedule, given, Good}
 use Rattle.model.specs.Run.{tieOrder, run}
-use Rattle.model.specs.Verdict.{needed, lateStart, verdict, settledBy, emptyIn, Worsts, Answers, Judged, Permitted}
+use Rattle.model.specs.Verdict.{needed, lateStart, verdict, settledBy, emptyIn, Worsts, Answers, PermittedBy, Permitted}
 use Rattle.wellformed.specs.WellFormed.{well-formed}
 use Rattle.backlog.specs.Decided.{sufficient}
 use Rattle.backlog.specs.Verdicts.{Case, overload, undecided, late, passed, the-case, needed-le, needed-is, none-before, none-late, is-late, start-asks, start-largest, is-overload, undecided-iff, longer}
@@ -139,7 +139,7 @@ answered t budget m a Verdict.Overload e o = let z : _≡_ {A = ℕ} 0 1 = cc (a
 answered t budget m a (Verdict.Late f k d) e o = let z : _≡_ {A = ℕ} 0 1 = cc (ap (λ (x : Answer). x .outcome) e) in absurd (omega arith)
 answered t budget m a Verdict.Undecided e o = let z : _≡_ {A = ℕ} 0 1 = cc (ap (λ (x : Answer). x .outcome) e) in absurd (omega arith)
 
-judged-passed : (t : Table) (budget : ℕ) (a : Answer) (j : Judgement) → Judged t budget a j → a .outcome ≡ Outcome.Tested Verdict.Passes → (verdict t budget ≡ Verdict.Passes) × Worsts t (a .worst) × (a .empty ≡ emptyIn t)
+judged-passed : (t : Table) (budget : ℕ) (a : Answer) (j : Judgement) → PermittedBy t budget a j → a .outcome ≡ Outcome.Tested Verdict.Passes → (verdict t budget ≡ Verdict.Passes) × Worsts t (a .worst) × (a .empty ≡ emptyIn t)
 judged-passed t budget a (Judgement.Refused r) e o = let z : _≡_ {A = ℕ} 0 1 = cc (ap (λ (x : Answer). x .outcome) e) in absurd (omega arith)
 judged-passed t budget a (Judgement.WellFormed m) h o = answered t budget m a (verdict t budget) h o
 

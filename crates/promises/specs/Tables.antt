@@ -27,8 +27,8 @@ pub record Row : Type 0 where
   pub budget : ℕ
   pub answer : Answer
 
-abbrev measure : ℕ → ℕ → ℕ → Measure
-measure round load horizon = record { round = round; load = load; horizon = horizon }
+abbrev measured : ℕ → ℕ → ℕ → Measure
+measured round load horizon = record { round = round; load = load; horizon = horizon }
 
 abbrev passes : Measure → List ℕ → Empty → Answer
 passes m worst empty = record { outcome = Outcome.Tested Verdict.Passes; measure = m; settled = m .horizon; worst = worst; empty = empty }
@@ -41,20 +41,20 @@ row t budget a = record { table = t; budget = budget; answer = a }
 
 abbrev pub rows : List Row
 rows =
-    row table-a 1000 (passes (measure 1 1 2) (1 ∷ replicate 15 0) Empty.Nowhere)
-    ∷ row table-b 1000 (passes (measure 15 11 38) (7 ∷ 2 ∷ replicate 14 0) (Empty.Slot 2))
-    ∷ row table-c 1000 (told (Verdict.Late 8 15 8) (measure 15 12 38) 15)
-    ∷ row table-d 1000 (told (Verdict.Late 0 7 9) (measure 15 11 30) 7)
-    ∷ row table-e 1000 (passes (measure 2 2 5) (1 ∷ 1 ∷ replicate 14 0) Empty.Nowhere)
-    ∷ row table-f 1000 (told (Verdict.Late 0 1 2) (measure 2 2 4) 1)
-    ∷ row table-g 1000 (passes (measure 4 4 8) (2 ∷ 4 ∷ replicate 14 0) Empty.Nowhere)
-    ∷ row table-h 1000 (told (Verdict.Late 4 7 4) (measure 4 4 12) 7)
-    ∷ row table-i 1000 (told Verdict.Overload (measure 5 6 12) 0)
-    ∷ row table-j 1000 (passes (measure 2 1 8) (1 ∷ replicate 15 0) (Empty.Slot 0))
-    ∷ row table-b 37 (told Verdict.Undecided (measure 15 11 38) 37)
-    ∷ row table-b 38 (passes (measure 15 11 38) (7 ∷ 2 ∷ replicate 14 0) (Empty.Slot 2))
-    ∷ row table-c 14 (told Verdict.Undecided (measure 15 12 38) 14)
-    ∷ row table-c 15 (told (Verdict.Late 8 15 8) (measure 15 12 38) 15)
+    row table-a 1000 (passes (measured 1 1 2) (1 ∷ replicate 15 0) Empty.Nowhere)
+    ∷ row table-b 1000 (passes (measured 15 11 38) (7 ∷ 2 ∷ replicate 14 0) (Empty.Slot 2))
+    ∷ row table-c 1000 (told (Verdict.Late 8 15 8) (measured 15 12 38) 15)
+    ∷ row table-d 1000 (told (Verdict.Late 0 7 9) (measured 15 11 30) 7)
+    ∷ row table-e 1000 (passes (measured 2 2 5) (1 ∷ 1 ∷ replicate 14 0) Empty.Nowhere)
+    ∷ row table-f 1000 (told (Verdict.Late 0 1 2) (measured 2 2 4) 1)
+    ∷ row table-g 1000 (passes (measured 4 4 8) (2 ∷ 4 ∷ replicate 14 0) Empty.Nowhere)
+    ∷ row table-h 1000 (told (Verdict.Late 4 7 4) (measured 4 4 12) 7)
+    ∷ row table-i 1000 (told Verdict.Overload (measured 5 6 12) 0)
+    ∷ row table-j 1000 (passes (measured 2 1 8) (1 ∷ replicate 15 0) (Empty.Slot 0))
+    ∷ row table-b 37 (told Verdict.Undecided (measured 15 11 38) 37)
+    ∷ row table-b 38 (passes (measured 15 11 38) (7 ∷ 2 ∷ replicate 14 0) (Empty.Slot 2))
+    ∷ row table-c 14 (told Verdict.Undecided (measured 15 12 38) 14)
+    ∷ row table-c 15 (told (Verdict.Late 8 15 8) (measured 15 12 38) 15)
     ∷ []
 
 -- Every row's answer is the one permitted.

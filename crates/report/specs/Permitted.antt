@@ -16,7 +16,7 @@ use Rattle.values.specs.declared.Answer.{Answer}
 use Rattle.model.specs.Limits.{taskLimit, reportBytes}
 use Rattle.model.specs.Tasks.{round, load, horizon, judged}
 use Rattle.model.specs.Run.{tieOrder, firstEmpty}
-use Rattle.model.specs.Verdict.{needed, lateStart, verdict, settledBy, emptyIn, Worsts, brief, Answers, Judged, Permitted}
+use Rattle.model.specs.Verdict.{needed, lateStart, verdict, settledBy, emptyIn, Worsts, brief, Answers, PermittedBy, Permitted}
 use Rattle.model.specs.Report.{reportOf}
 use Rattle.counting.specs.Sum.{sum-bound}
 use Rattle.wellformed.specs.Round.{share, share-le}
@@ -120,7 +120,7 @@ pub permitted-fits : (t : Table) (budget : ℕ) (a : Answer) → Permitted t bud
 unfolding Permitted
 permitted-fits t budget a p = go (judged t) refl p (judged-tellable t)
   where
-    go : (j : Judgement) → judged t ≡ j → Judged t budget a j → JudgementTellable j → Fitting (t .count) a (a .outcome)
+    go : (j : Judgement) → judged t ≡ j → PermittedBy t budget a j → JudgementTellable j → Fitting (t .count) a (a .outcome)
     go (Judgement.Refused r) q f h = rw f h
     go (Judgement.WellFormed m) q f h =
         subst (Fitting (t .count) a) (sym (told t budget m a (verdict t budget) f)) (fits (t .count) a (verdict t budget) (printable t m (well-formed t m q) budget a (verdict t budget) refl f))

@@ -1,28 +1,15 @@
--- Document 01's two tables at the limit of H, whose search is too long to compute: one is read, one refused by 7 at 0.
+-- Two tables with document 01's periods at the limit of H, whose search is too long to compute: one is read, one refused by 7 at 0.
 use mathlib.Core.Path.{_≡_, refl, ap, _∙_}
-use mathlib.Core.List.{[], _∷_}
-use Prim.Native.Nat.{ℕ}
 use native.Mathlib.Omega.{arith}
-use Rattle.values.specs.declared.Task.{Task}
-use Rattle.values.specs.declared.Table.{Table}
 use Rattle.values.specs.declared.Judgement.{Judgement}
 use Rattle.model.specs.Notation.{sum, largest, first}
 use Rattle.model.specs.Values.{refusal}
 use Rattle.model.specs.Tasks.{taskFault, firstFaulty, round, load, horizon, measure, judged}
-use Rattle.model.specs.TableFile.{tableOf}
+use Rattle.model.specs.Examples.{within-limit, above-limit}
 use Rattle.counting.specs.Divisors.{gcd, lcm, lcmAll}
 use Rattle.wellformed.specs.Ranges.{Ranged, ranged}
 use Rattle.wellformed.specs.Round.{period, round-lcm}
 use Rattle.wellformed.specs.WellFormed.{judged-long, judged-of}
-
-abbrev once : ℕ → Task
-once p = record { offset = 0; cost = 1; deadline = p; period = p }
-
-abbrev within-limit : Table
-within-limit = tableOf (once 31622 ∷ once 31623 ∷ [])
-
-abbrev above-limit : Table
-above-limit = tableOf (once 31623 ∷ once 31624 ∷ [])
 
 within-ranged : Ranged within-limit
 unfolding firstFaulty taskFault first
