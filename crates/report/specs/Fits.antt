@@ -9,11 +9,7 @@ use Rattle.values.specs.declared.Verdict.{Verdict}
 use Rattle.model.specs.Limits.{taskLimit, reportBytes}
 use Rattle.model.specs.Notation.{text, decimal}
 use Rattle.model.specs.Report.{line, verdictWord, worstLines, emptyWord, details, reportOf}
-use Rattle.report.specs.Decimal.{short}
-
--- A number of 64 bits.
-abbrev pub numberBytes : ℕ
-numberBytes = 20
+use Rattle.text.specs.Decimal.{numberBytes, short, wide}
 
 -- The lines `verdict undecided`, `worst 15 ..` with a number of 32 bits, `empty ..` and `interval .. .. demand ..`.
 abbrev pub verdictBytes : ℕ
@@ -59,9 +55,6 @@ pub record Printable (n : ℕ) (a : Answer) (v : Verdict) : Type 0 where
   pub worst : (k : ℕ) → k < n → getD (a .worst) k 0 < 2 ^ 32
   pub empty : EmptyWide (a .empty)
   pub verdict : VerdictWide v
-
-pub wide : (x : ℕ) → Wide x → length (decimal x) ≤ numberBytes
-wide x h = short 19 x (omega arith)
 
 pub worst-short : (k x : ℕ) → k < taskLimit → x < 2 ^ 32 → length (line (text "worst " ++ decimal k ++ text " " ++ decimal x)) ≤ worstBytes
 unfolding text

@@ -1,5 +1,4 @@
--- Pieces put into a buffer one behind the other; numbers in decimal; how long a report is.
+-- A report put into a buffer, and how long it is.
 pub mod Put
-pub mod Decimal
 pub mod Fits
 pub mod Permitted

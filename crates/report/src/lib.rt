@@ -1,6 +1,6 @@
 // The text of an answer, written byte for byte into a lent buffer.
 ghost use mathlib.Core.Path.{_≡_};
-ghost use mathlib.Core.List.{_++_, _∷_, []};
+ghost use mathlib.Core.List.{_++_};
 ghost use Prim.Native.Nat.{_+_, _*_, _<_, _≤_};
 ghost use lib.ListN.{length};
 ghost use Rattle.model.specs.Limits.{taskLimit, reportBytes};
@@ -8,7 +8,7 @@ ghost use Rattle.model.specs.Notation.{text, decimal};
 ghost use Rattle.model.specs.Report.{line, verdictWord, worstLines, emptyWord, details, reportOf, refusalLine, written};
 ghost use Rattle.counting.specs.Put.{Put};
 ghost use Rattle.report.specs.Put.{exported};
-ghost use Rattle.report.specs.Fits.{numberBytes, verdictBytes, worstBytes, worstRoom, emptyBytes, intervalBytes, detailsBytes};
+ghost use Rattle.report.specs.Fits.{verdictBytes, worstBytes, worstRoom, emptyBytes, intervalBytes, detailsBytes};
 use values::Answer;
 use values::Empty;
 use values::Refusal;
@@ -22,11 +22,11 @@ pub fn write_report(buffer: &mut [u8], tasks: usize, answer: Answer, verdict: Ve
     ensures { λ r. ⌜ r ≤ reportBytes ⌝ }
 {
     let measure = answer.measure;
-    let at = put_line(buffer, 0, b"tasks ", tasks as u64);
-    let at = put_pair(buffer, at, b"load ", measure.load, b"/", measure.round);
-    let at = put_line(buffer, at, b"horizon ", measure.horizon);
+    let at = text::put_line(buffer, 0, b"tasks ", tasks as u64);
+    let at = text::put_pair(buffer, at, b"load ", measure.load, b"/", measure.round);
+    let at = text::put_line(buffer, at, b"horizon ", measure.horizon);
     let at = put_verdict(buffer, at, verdict);
-    let at = put_line(buffer, at, b"settled ", answer.settled);
+    let at = text::put_line(buffer, at, b"settled ", answer.settled);
     put_details(buffer, at, tasks, answer, verdict)
 }
 
@@ -37,7 +37,7 @@ pub fn write_refusal(buffer: &mut [u8], refusal: Refusal) -> usize
 {
     let number = refusal.number as u64;
     let place = refusal.place as u64;
-    put_pair(buffer, 0, b"refused ", number, b" at ", place)
+    text::put_pair(buffer, 0, b"refused ", number, b" at ", place)
 }
 
 fn put_verdict(buffer: &mut [u8], at: usize, verdict: Verdict) -> usize
@@ -46,14 +46,14 @@ fn put_verdict(buffer: &mut [u8], at: usize, verdict: Verdict) -> usize
     ensures { λ r. ⌜ r ≤ at + verdictBytes ⌝ }
 {
     match verdict {
-        Verdict::Passes => put_text(buffer, at, b"verdict passes\n"),
-        Verdict::Overload => put_text(buffer, at, b"verdict overload\n"),
+        Verdict::Passes => text::put_text(buffer, at, b"verdict passes\n"),
+        Verdict::Overload => text::put_text(buffer, at, b"verdict overload\n"),
         Verdict::Late {
             from: _,
             to: _,
             demand: _,
-        } => put_text(buffer, at, b"verdict late\n"),
-        Verdict::Undecided => put_text(buffer, at, b"verdict undecided\n"),
+        } => text::put_text(buffer, at, b"verdict late\n"),
+        Verdict::Undecided => text::put_text(buffer, at, b"verdict undecided\n"),
     }
 }
 
@@ -101,7 +101,7 @@ fn put_worst_line(buffer: &mut [u8], at: usize, task: usize, worst: u32) -> usiz
     ensures { λ r. ⌜ Put (line (text "worst " ++ decimal task ++ text " " ++ decimal worst)) at (now (buffer .entry)) (now (buffer .exit)) r ⌝ }
     ensures { λ r. ⌜ r ≤ at + worstBytes ⌝ }
 {
-    put_pair(buffer, at, b"worst ", task as u64, b" ", worst as u64)
+    text::put_pair(buffer, at, b"worst ", task as u64, b" ", worst as u64)
 }
 
 fn put_empty(buffer: &mut [u8], at: usize, empty: Empty) -> usize
@@ -110,8 +110,8 @@ fn put_empty(buffer: &mut [u8], at: usize, empty: Empty) -> usize
     ensures { λ r. ⌜ r ≤ at + emptyBytes ⌝ }
 {
     match empty {
-        Empty::Slot(slot) => put_line(buffer, at, b"empty ", slot),
-        Empty::Nowhere => put_text(buffer, at, b"empty none\n"),
+        Empty::Slot(slot) => text::put_line(buffer, at, b"empty ", slot),
+        Empty::Nowhere => text::put_text(buffer, at, b"empty none\n"),
     }
 }
 
@@ -120,78 +120,7 @@ fn put_interval(buffer: &mut [u8], at: usize, from: u64, to: u64, demand: u64) -
     ensures { λ r. ⌜ Put (line (text "interval " ++ decimal from ++ text " " ++ decimal to ++ text " demand " ++ decimal demand)) at (now (buffer .entry)) (now (buffer .exit)) r ⌝ }
     ensures { λ r. ⌜ r ≤ at + intervalBytes ⌝ }
 {
-    let at = put_number(buffer, at, b"interval ", from);
-    let at = put_number(buffer, at, b" ", to);
-    put_line(buffer, at, b" demand ", demand)
-}
-
-fn put_pair(
-    buffer: &mut [u8],
-    at: usize,
-    name: &[u8],
-    first: u64,
-    between: &[u8],
-    second: u64,
-) -> usize
-    requires { ⌜ at + length (now name) + length (now between) + 2 * numberBytes + 1 ≤ length (now buffer) ⌝ }
-    ensures { λ r. ⌜ Put (line (now (name .entry) ++ decimal first ++ now (between .entry) ++ decimal second)) at (now (buffer .entry)) (now (buffer .exit)) r ⌝ }
-    ensures { λ r. ⌜ r ≤ at + length (now (name .entry)) + length (now (between .entry)) + 2 * numberBytes + 1 ⌝ }
-{
-    let at = put_number(buffer, at, name, first);
-    put_line(buffer, at, between, second)
-}
-
-fn put_line(buffer: &mut [u8], at: usize, name: &[u8], number: u64) -> usize
-    requires { ⌜ at + length (now name) + numberBytes + 1 ≤ length (now buffer) ⌝ }
-    ensures { λ r. ⌜ Put (line (now (name .entry) ++ decimal number)) at (now (buffer .entry)) (now (buffer .exit)) r ⌝ }
-    ensures { λ r. ⌜ r ≤ at + length (now (name .entry)) + numberBytes + 1 ⌝ }
-{
-    let at = put_number(buffer, at, name, number);
-    put_byte(buffer, at, b'\n')
-}
-
-fn put_number(buffer: &mut [u8], at: usize, name: &[u8], number: u64) -> usize
-    requires { ⌜ at + length (now name) + numberBytes ≤ length (now buffer) ⌝ }
-    ensures { λ r. ⌜ Put (now (name .entry) ++ decimal number) at (now (buffer .entry)) (now (buffer .exit)) r ⌝ }
-    ensures { λ r. ⌜ r ≤ at + length (now (name .entry)) + numberBytes ⌝ }
-{
-    let at = put_text(buffer, at, name);
-    put_decimal(buffer, at, number)
-}
-
-fn put_text(buffer: &mut [u8], at: usize, bytes: &[u8]) -> usize
-    requires { ⌜ at + length (now bytes) ≤ length (now buffer) ⌝ }
-    ensures { λ r. ⌜ Put (now (bytes .entry)) at (now (buffer .entry)) (now (buffer .exit)) r ⌝ }
-{
-    for i in 0..bytes.len() {
-        buffer[at + i] = bytes[i];
-    }
-    at + bytes.len()
-}
-
-fn put_decimal(buffer: &mut [u8], at: usize, number: u64) -> usize
-    requires { ⌜ at + length (decimal number) ≤ length (now buffer) ⌝ }
-    ensures { λ r. ⌜ Put (decimal number) at (now (buffer .entry)) (now (buffer .exit)) r ⌝ }
-{
-    if number < 10 {
-        return put_digit(buffer, at, number);
-    }
-    let at = put_decimal(buffer, at, number / 10);
-    put_digit(buffer, at, number % 10)
-}
-
-fn put_digit(buffer: &mut [u8], at: usize, digit: u64) -> usize
-    requires { ⌜ digit < 10 ⌝ }
-    requires { ⌜ at < length (now buffer) ⌝ }
-    ensures { λ r. ⌜ Put ((48 + digit) ∷ []) at (now (buffer .entry)) (now (buffer .exit)) r ⌝ }
-{
-    put_byte(buffer, at, b'0' + digit as u8)
-}
-
-fn put_byte(buffer: &mut [u8], at: usize, byte: u8) -> usize
-    requires { ⌜ at < length (now buffer) ⌝ }
-    ensures { λ r. ⌜ Put (byte ∷ []) at (now (buffer .entry)) (now (buffer .exit)) r ⌝ }
-{
-    buffer[at] = byte;
-    at + 1
+    let at = text::put_number(buffer, at, b"interval ", from);
+    let at = text::put_number(buffer, at, b" ", to);
+    text::put_line(buffer, at, b" demand ", demand)
 }

@@ -47,3 +47,10 @@ short (suc k) n h =
       | yes l ↦ omega (arith, one-more n l, short k (n / 10) (omega (arith, pow-suc 10 (suc k))))
       | no l ↦ rw (one-digit n (omega arith)) (omega arith)
     ]
+
+-- A number of 64 bits takes at most so many bytes.
+abbrev pub numberBytes : ℕ
+numberBytes = 20
+
+pub wide : (x : ℕ) → x < 2 ^ 64 → length (decimal x) ≤ numberBytes
+wide x h = short 19 x (omega arith)

@@ -7,9 +7,9 @@ use borrow.Author.Needs.{needs}
 use lib.ListN.{length, take, length-set}
 use lib.Seq.{take-length}
 use Rattle.counting.specs.Put.{Put, nothing}
-use Rattle.report.specs.Put.{copied}
-use Rattle.report.proofs.put_text.Statement.{statement}
-use Rattle.report.proofs.put_text.Tie as tie
+use Rattle.text.specs.Pieces.{copied}
+use Rattle.text.proofs.put_text.Statement.{statement}
+use Rattle.text.proofs.put_text.Tie as tie
 
 abbrev Inv-loop : tie.InvT-loop
 Inv-loop buffer₀ at bytes i₀ i-end buffer i =

@@ -1,9 +1,9 @@
 use native.Mathlib.Omega.{arith}
 use borrow.Author.Needs.{needs}
 use Rattle.model.specs.Notation.{decimal}
-use Rattle.report.specs.Put.{join-line}
-use Rattle.report.proofs.put_pair.Statement.{statement}
-use Rattle.report.proofs.put_pair.Tie as tie
+use Rattle.text.specs.Pieces.{join-line}
+use Rattle.text.proofs.put_pair.Statement.{statement}
+use Rattle.text.proofs.put_pair.Tie as tie
 
 put-number-requires : tie.Need-put-number-requires
 put-number-requires c κs = search needs

@@ -2,8 +2,8 @@ use native.Mathlib.Omega.{arith}
 use borrow.Author.Needs.{needs}
 use Rattle.model.specs.Notation.{text}
 use Rattle.counting.specs.Put.{join}
-use Rattle.report.proofs.put_line.Statement.{statement}
-use Rattle.report.proofs.put_line.Tie as tie
+use Rattle.text.proofs.put_line.Statement.{statement}
+use Rattle.text.proofs.put_line.Tie as tie
 
 put-number-requires : tie.Need-put-number-requires
 put-number-requires c κs = search needs
