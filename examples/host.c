@@ -1,17 +1,24 @@
 /*
- * A camera stand's host: judges a table file, prints its report, and runs the camera's loop for some slots.
+ * A camera stand's host: judges a table file, prints its report, and if it passes runs the camera's loop for some slots.
  *
- *   host TABLE [SLOTS]
+ *   host [--anyway] TABLE [SLOTS]
  *
- * Ends with 0 if the table is not refused, 1 if it is, 2 if the host itself could not do its work.
+ * --anyway runs a table that does not pass too, to show how late jobs are told. A camera must not.
+ *
+ * Ends with 0 if the loop was run, 1 if the table is refused, 2 if the host itself could not do its work, and 3 if the
+ * table does not pass and so was not run.
  */
+#include <errno.h>
 #include <stdio.h>
 #include <stdlib.h>
+#include <string.h>
 
 #include "yolizadwa.h"
 
 /* One byte more than a good file has, so that a longer one is seen to be longer. */
 enum { FILE_ROOM = YOLIZADWA_LONGEST_FILE + 1, USUAL_SLOTS = 20 };
+
+enum { RAN = 0, REFUSED = 1, NO_WORK = 2, NOT_RUN = 3 };
 
 static const char *meaning(uint32_t number)
 {
@@ -26,7 +33,7 @@ static const char *meaning(uint32_t number)
     case YOLIZADWA_STRANGE_STATE: return "the state is not one of this table";
     case YOLIZADWA_CUT_SHORT: return "the file ends inside the record that begins at this byte";
     case YOLIZADWA_UNKNOWN_KIND: return "the record that begins at this byte is of no known kind";
-    case YOLIZADWA_NO_BUDGET_FIRST: return "the file does not begin with a budget";
+    case YOLIZADWA_NO_BUDGET_FIRST: return "the file is empty, or begins with a task or the end";
     case YOLIZADWA_SECOND_BUDGET: return "a second budget begins at this byte";
     case YOLIZADWA_BYTES_AFTER_END: return "the file goes on at this byte, after its end record";
     case YOLIZADWA_SEVENTEENTH_TASK: return "a seventeenth task begins at this byte";
@@ -41,7 +48,20 @@ static int refused(uint64_t result)
 {
     uint32_t number = yolizadwa_number(result);
     printf("refused %u at %u: %s\n", (unsigned)number, (unsigned)yolizadwa_place(result), meaning(number));
-    return 1;
+    return REFUSED;
+}
+
+/* Whether `verdict passes` is a line of the report. */
+static int passes(const uint8_t *report, size_t len)
+{
+    static const char line[] = "\nverdict passes\n";
+    const size_t line_len = sizeof line - 1;
+    for (size_t at = 0; at + line_len <= len; at++) {
+        if (memcmp(report + at, line, line_len) == 0) {
+            return 1;
+        }
+    }
+    return 0;
 }
 
 static int read_file(const char *path, uint8_t *file, size_t *len)
@@ -54,6 +74,15 @@ static int read_file(const char *path, uint8_t *file, size_t *len)
     int whole = !ferror(in);
     fclose(in);
     return whole;
+}
+
+/* Digits alone: strtoul would take a sign, and nothing at all as 0. */
+static int read_slots(const char *word, unsigned long *slots)
+{
+    char *end;
+    errno = 0;
+    *slots = strtoul(word, &end, 10);
+    return word[0] >= '0' && word[0] <= '9' && *end == '\0' && errno == 0;
 }
 
 static void print_late(const struct yolizadwa_state *state)
@@ -106,7 +135,7 @@ static int run(const uint8_t *file, size_t len, unsigned long slots)
         done = work(slot, result);
         print_slot(slot, result, &state, done);
     }
-    return 0;
+    return RAN;
 }
 
 int main(int argc, char **argv)
@@ -114,18 +143,26 @@ int main(int argc, char **argv)
     uint8_t file[FILE_ROOM];
     uint8_t report[YOLIZADWA_REPORT_BYTES];
     size_t len = 0;
-    if (argc < 2 || argc > 3) {
-        fprintf(stderr, "usage: host TABLE [SLOTS]\n");
-        return 2;
+    unsigned long slots = USUAL_SLOTS;
+    int anyway = argc > 1 && strcmp(argv[1], "--anyway") == 0;
+    char **words = argv + 1 + anyway;
+    int count = argc - 1 - anyway;
+    if (count < 1 || count > 2 || (count == 2 && !read_slots(words[1], &slots))) {
+        fprintf(stderr, "usage: host [--anyway] TABLE [SLOTS]\n");
+        return NO_WORK;
     }
-    if (!read_file(argv[1], file, &len)) {
-        fprintf(stderr, "host: cannot read %s\n", argv[1]);
-        return 2;
+    if (!read_file(words[0], file, &len)) {
+        fprintf(stderr, "host: cannot read %s\n", words[0]);
+        return NO_WORK;
     }
     uint64_t result = yolizadwa_check(file, len, report, sizeof report);
     if (yolizadwa_refused(result)) {
         return refused(result);
     }
     fwrite(report, 1, (size_t)result, stdout);
-    return run(file, len, argc == 3 ? strtoul(argv[2], NULL, 10) : USUAL_SLOTS);
+    if (!anyway && !passes(report, (size_t)result)) {
+        printf("not run: the table does not pass\n");
+        return NOT_RUN;
+    }
+    return run(file, len, slots);
 }

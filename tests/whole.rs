@@ -11,12 +11,21 @@ const HOST_RUNS: &[&[&str]] = &[
     &["tables/b.table", "40"],
     &["tables/g.table"],
     &["tables/c.table"],
-    &["tables/f.table", "6"],
     &["tables/i.table", "12"],
     &["tables/b37.table", "3"],
+    &["--anyway", "tables/f.table", "6"],
+    &["--anyway", "tables/b.table", "2"],
+    &["--anyway", "tables/refused_21.table"],
     &["tables/refused_21.table"],
     &["tables/refused_22_empty.table"],
     &["tables/too_long.table"],
+    &["tables/b.table", "0"],
+    &["tables/b.table", "abc"],
+    &["tables/b.table", "4x"],
+    &["tables/b.table", "-1"],
+    &["tables/b.table", "99999999999999999999999"],
+    &["tables/no.table"],
+    &["--anyway"],
 ];
 
 fn deepest(bench: &mut Bench, name: &str, requests: &[Request]) {
