@@ -51,6 +51,7 @@ fn main() -> ExitCode {
     randoms::steps(&mut bench, &mut rng, count);
     runs::runs(&mut bench, &mut rng, count);
     whole::stack(&mut bench);
+    whole::needs(&mut bench);
     whole::example_host(&mut bench);
     judge::inputs_by_hand(&mut bench);
     judge::inputs_at_random(&mut bench, &mut rng);

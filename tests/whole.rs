@@ -1,10 +1,11 @@
-//! The stack that each call needs, and the example host as it is shipped.
+//! The stack and the C library's functions that the calls need, and the example host as it is shipped.
 
 use crate::bench::Bench;
 use crate::calls::Request;
 use crate::inputs::file_of;
 use crate::program;
 use crate::reference::{self, Task, TASKS};
+use std::process::Command;
 
 const STACK_LIMIT: u64 = 16_384;
 const HOST_RUNS: &[&[&str]] = &[
@@ -80,6 +81,19 @@ fn hard_steps(file: Vec<u8>) -> Vec<Request> {
     }
     strange.last = 99;
     [first, due, strange].iter().map(|state| Request::step(file.clone(), state.to_bytes(), 1)).collect()
+}
+
+/// What nm finds undefined must be what the header says. gcc's binutils bring nm; on Arm it reads the archive too.
+pub fn needs(bench: &mut Bench) {
+    let output = Command::new("nm").args(["-u", "target/staticlib/libyolizadwa.a"]).output().expect("nm starts");
+    let told = String::from_utf8_lossy(&output.stdout);
+    let mut names: Vec<&str> = told.lines().filter_map(|line| line.trim().split_once(' ')).map(|symbol| symbol.1).collect();
+    names.sort();
+    names.dedup();
+    let words = format!("Of the C library they need {} alone.", names.join(" and "));
+    let header = std::fs::read_to_string("include/yolizadwa.h").expect("the header is there");
+    bench.count(output.status.success() && header.contains(&words), || format!("not in the header: {words}"));
+    bench.end_group("what the library needs of the C library");
 }
 
 fn host_run(words: &[&str]) -> String {
