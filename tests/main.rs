@@ -53,6 +53,7 @@ fn main() -> ExitCode {
     whole::stack(&mut bench);
     whole::needs(&mut bench);
     whole::example_host(&mut bench);
+    whole::recipe(&mut bench);
     judge::inputs_by_hand(&mut bench);
     judge::inputs_at_random(&mut bench, &mut rng);
     ExitCode::from(!bench.end() as u8)
