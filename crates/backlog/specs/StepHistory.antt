@@ -3,9 +3,9 @@ use mathlib.Core.Path.{_≡_, refl, sym, ap, _∙_}
 use mathlib.Core.Logic.{_⊎_, inl, inr, _≢_}
 use mathlib.Core.List.{List}
 use lib.ListN.{getD}
-use mathlib.Core.Bool.{Bool, _&&_}
+use mathlib.Core.Bool.{Bool, true, cond, _&&_}
 use Prim.Native.Nat.{ℕ, zero, suc, _+_, _-_, _*_, min, _≤_, _<_}
-use native.Mathlib.Nat.{mul-le-mul-right, add-suc, min-eq-left, le-antisymm}
+use native.Mathlib.Nat.{mul-le-mul-right, add-zero, add-suc, min-eq-left, le-antisymm}
 use native.Mathlib.Decide.{ℕ-discrete, decLt}
 use native.Mathlib.Omega.{arith}
 use borrow.Author.Tests.{eq-eqb, ne-eqb, le-leb}
@@ -130,10 +130,14 @@ module _ (t : Table) (r : Ranged t) (done : ℕ → Bool) where
   unfolding had
   had-grows i from m n l = count-more _ m n l
 
+  had-next : (i from n : ℕ) → from ≤ n → had t done i from (suc n) ≡ had t done i from n + gave n i
+  unfolding had count
+  had-next i from n h = rw (le-leb from n h)
+
   had-sum : (i from d : ℕ) → had t done i from (from + d) ≡ sum d (λ u. gave (from + u) i)
-  unfolding had sum count
+  unfolding sum
   had-sum i from zero = had-early i from (from + 0) (omega arith)
-  had-sum i from (suc d) = rw (add-suc from d) (rw (le-leb from (from + d) (omega arith)) (omega (arith, had-sum i from d)))
+  had-sum i from (suc d) = rw (add-suc from d, had-next i from (from + d) (omega arith)) (omega (arith, had-sum i from d))
 
   -- NONE GETS TOO MUCH: from its release to the next one a task has no more slots than its cost. Of any well-formed table.
   pub never-more : (i j n : ℕ) → i < t .count → n ≤ release (task t i) (suc j) → had t done i (release (task t i) j) n ≤ task t i .cost
@@ -146,6 +150,13 @@ module _ (t : Table) (r : Ranged t) (done : ℕ → Bool) where
       go (yes p) = more (n - release (task t i) j - 1) (omega arith)
       go (no p) = omega (arith, had-early i (release (task t i) j) n (omega arith))
 
+  -- Between two releases of a task there is none.
+  between : (i j n : ℕ) → release (task t i) j < n → n < release (task t i) (suc j) → (k : ℕ) → release (task t i) k ≢ n
+  between i j n a b k x = elim (decLt k (suc j)) [
+    | yes p ↦ (let m : k ≤ j = omega arith in absurd (omega (arith, mul-le-mul-right (task t i .period) m)))
+    | no p ↦ (let m : suc j ≤ k = omega arith in absurd (omega (arith, mul-le-mul-right (task t i .period) m)))
+  ]
+
   -- Up to the next release of its task, a job is finished as its slots and reports say.
   finished-by : (i j n : ℕ) → n ≤ release (task t i) (suc j)
       → (had t done i (release (task t i) j) n ≡ task t i .cost) ⊎ ((u : ℕ) × (release (task t i) j < u) × (u ≤ n) × T (reported t done i u)) → Finished t done i j n
@@ -156,6 +167,45 @@ module _ (t : Table) (r : Ranged t) (done : ℕ → Bool) where
   finished-stays i j n m l h (inl e) =
       inl (le-antisymm (never-more i j (min m (release (task t i) (suc j))) l (omega arith)) (omega (arith, had-grows i (release (task t i) j) (min n (release (task t i) (suc j))) (min m (release (task t i) (suc j))) (omega arith))))
   finished-stays i j n m l h (inr (u, a, b, c)) = inr (u, a, omega arith, c)
+
+  -- A report closes the job of its task, where none is released with it.
+  report-closes : (u i : ℕ) → i < t .count → ((k : ℕ) → release (task t i) k ≢ u) → T (reported t done i u) → ready u i ≡ 0
+  report-closes u i l none h = go (finds t r done u i (sound t r done u) l)
+    where
+      empty : (b : Bool) → T b → cond b 0 (open' u i) ≡ 0
+      empty true h = refl
+
+      go : ((k : ℕ) × Fresh t r done u i k) ⊎ Kept t r done u i → ready u i ≡ 0
+      go (inl (k, f)) = absurd (none k (f .now))
+      go (inr k) = elim (k .left) [
+        | inl (e, d, n) ↦ e ∙ sym d ∙ empty (reported t done i u) h
+        | inr (e, c) ↦ e
+      ]
+
+  -- What is closed stays so up to the next release.
+  closed-stays : (i j u d : ℕ) → i < t .count → release (task t i) j < u → u + d < release (task t i) (suc j) → ready u i ≡ 0 → ready (u + d) i ≡ 0
+  closed-stays i j u zero l a b z = rw (add-zero u) z
+  closed-stays i j u (suc d) l a b z =
+      let shut : open' (suc (u + d)) i ≡ 0 = omega (arith, step-history .spent (u + d) i l, closed-stays i j u d l a (omega arith) z) in
+      rw (add-suc u d) (go shut (step-history .kept (suc (u + d)) i l (between i j (suc (u + d)) (omega arith) (omega arith))))
+    where
+      go : open' (suc (u + d)) i ≡ 0 → (ready (suc (u + d)) i ≡ open' (suc (u + d)) i) ⊎ ((ready (suc (u + d)) i ≡ 0) × (T (reported t done i (suc (u + d))) ⊎ ((j : ℕ) × (dueOf table-system i j ≡ suc (u + d))))) → ready (suc (u + d)) i ≡ 0
+      go shut (inl e) = e ∙ shut
+      go shut (inr e) = e .0
+
+  -- NONE GETS A SLOT AFTER ITS END: no slot goes to a job that is finished. Of any well-formed table.
+  pub none-after : (n i j : ℕ) → i < t .count → release (task t i) j ≤ n → n < release (task t i) (suc j) → Finished t done i j n → ownerAt t done n ≡ i → ⊥
+  none-after n i j l a b f e = go (rw (min-eq-left (let h : n ≤ release (task t i) (suc j) = omega arith in h)) at f)
+    where
+      one : gave n i ≡ 1
+      one = rw (eq-eqb (ownerAt t done n) i e)
+
+      go : (had t done i (release (task t i) j) n ≡ task t i .cost) ⊎ ((u : ℕ) × (release (task t i) j < u) × (u ≤ n) × T (reported t done i u)) → ⊥
+      go (inl h) = omega (arith, h, one, had-next i (release (task t i) j) n a, never-more i j (suc n) l (omega arith))
+      go (inr (u, x, y, h)) =
+          let d : u + (n - u) ≡ n = omega arith in
+          let z = closed-stays i j u (n - u) l x (omega arith) (report-closes u i l (between i j u x (omega arith)) h) in
+          omega (arith, step-history .spent n i l, one, rw d at z)
 
   module _ (budget : ℕ) (pass : verdict t budget ≡ Verdict.Passes) where
     abbrev met : Met (jobs table-system) (dues table-system) (servedOf table-system)
@@ -197,15 +247,9 @@ module _ (t : Table) (r : Ranged t) (done : ℕ → Bool) where
         idle : ready n i ≡ 0 → Finished t done i j n
         idle z = elim (ℕ-discrete (release (task t i) j) n) [
           | yes q ↦ absurd (omega (arith, step-history .fresh n i j l q, r .each i l .cost-pos))
-          | no q ↦ closed q (step-history .kept n i l (between q))
+          | no q ↦ closed q (step-history .kept n i l (between i j n (omega arith) b))
         ]
           where
-            between : release (task t i) j ≢ n → (k : ℕ) → release (task t i) k ≢ n
-            between q k x = elim (decLt k (suc j)) [
-              | yes p ↦ (let m : k ≤ j = omega arith in absurd (omega (arith, mul-le-mul-right (task t i .period) m)))
-              | no p ↦ (let m : suc j ≤ k = omega arith in absurd (omega (arith, mul-le-mul-right (task t i .period) m)))
-            ]
-
             closed : release (task t i) j ≢ n → (ready n i ≡ open' n i) ⊎ ((ready n i ≡ 0) × (T (reported t done i n) ⊎ ((j : ℕ) × (dueOf table-system i j ≡ n)))) → Finished t done i j n
             closed q (inl x) = finished (n - release (task t i) j - 1) (omega arith) (omega arith)
             closed q (inr (x, inl c)) = finished-by i j n (omega arith) (inr (n, omega arith, omega arith, c))

@@ -209,6 +209,10 @@ lcmAll-pos n f h = pos-of-dvd-of-pos (lcmAll-product n f) (product-pos n f h)
 pub lcmAll-le-product : (n : ℕ) (f : ℕ → ℕ) → ((i : ℕ) → i < n → 0 < f i) → lcmAll n f ≤ product n f
 lcmAll-le-product n f h = le-of-dvd (product-pos n f h) (lcmAll-product n f)
 
+-- No number above 0 that all of them divide is smaller.
+pub lcmAll-least : (n : ℕ) (f : ℕ → ℕ) (x : ℕ) → 0 < x → ((i : ℕ) → i < n → f i ∣ x) → lcmAll n f ≤ x
+lcmAll-least n f x pos h = le-of-dvd pos (lcmAll-iff n f x .1 h)
+
 -- With more such numbers it does not fall.
 pub lcmAll-mono : (n m : ℕ) (f : ℕ → ℕ) → n ≤ m → ((i : ℕ) → i < m → 0 < f i) → lcmAll n f ≤ lcmAll m f
 lcmAll-mono n m f l h = le-of-dvd (lcmAll-pos m f h) (lcmAll-divides n m f l)

@@ -1,10 +1,11 @@
 -- DEMANDS 1 and 3 at the exported start and step: one permitted result for every file and buffer, a refusal changes no byte,
 -- and a camera's own loop in a lent buffer is the dispatcher's history, of which Demand3 speaks.
 use mathlib.Core.Path.{_≡_, refl, sym, ap, _∙_}
-use mathlib.Core.Logic.{_⊎_}
+use mathlib.Core.Logic.{_⊎_, inl, inr}
 use mathlib.Core.List.{List}
 use mathlib.Core.Bool.{Bool, false, not}
-use Prim.Native.Nat.{ℕ, suc, min, _≤_, _<_}
+use Prim.Native.Nat.{ℕ, suc, min, _<_}
+use borrow.Author.Tests.{eq-eqb}
 use lib.Dec.{eqb}
 use lib.ListN.{length, replicate, length-replicate}
 use Rattle.values.specs.declared.Table.{Table}
@@ -12,15 +13,18 @@ use Rattle.values.specs.declared.Refusal.{Refusal}
 use Rattle.values.specs.declared.Measure.{Measure}
 use Rattle.values.specs.declared.Judgement.{Judgement}
 use Rattle.values.specs.declared.Admission.{Admission}
+use Rattle.values.specs.declared.Given.{Given}
 use Rattle.model.specs.Limits.{taskLimit}
+use Rattle.model.specs.Values.{refusal}
 use Rattle.model.specs.Notation.{sum, largest, count, first}
 use Rattle.model.specs.Tasks.{taskFault, firstFaulty, round, load, horizon, judged}
-use Rattle.model.specs.TableFile.{readFrom, formOf}
-use Rattle.model.specs.Dispatcher.{turn}
+use Rattle.model.specs.TableFile.{readFrom, formOf, loadedFrom}
+use Rattle.model.specs.Dispatcher.{turn, started, stepped}
 use Rattle.model.specs.Report.{Exported, refused}
 use Rattle.model.specs.Examples.{table-g, file-g}
 use Rattle.model.specs.History.{stateAt, ownerAt}
-use Rattle.model.specs.StateBuffer.{stateBytes, bufferOf, quiet, onFile, startExported, stepExported, handed}
+use Rattle.model.specs.StateBuffer.{stateBytes, bufferOf, stateIn, quiet, onFile, startExported, stepExported, handed}
+use Rattle.tablefile.specs.Admitted.{refused-for}
 use Rattle.statebuffer.specs.Loop as loop
 use Rattle.statebuffer.specs.Told.{start-apart, step-apart}
 
@@ -32,18 +36,36 @@ pub one-camera-step : (file buffer : List ℕ) (done : ℕ) (a b : Exported) →
 one-camera-step file buffer done a b e f = e ∙ sym f
 
 -- A state buffer of another length is refused by 50, before the file is looked at, and stays as it was.
-pub strange-start-buffer : (file buffer : List ℕ) → eqb (length buffer) stateBytes ≡ false → startExported file buffer ≡ refused (record { number = 50; place = min (length buffer) 65535 }) buffer
+pub strange-start-buffer : (file buffer : List ℕ) → eqb (length buffer) stateBytes ≡ false → startExported file buffer ≡ refused (refusal 50 (min (length buffer) 65535)) buffer
 strange-start-buffer file buffer e = rw (e, onFile)
 
-pub strange-step-buffer : (file buffer : List ℕ) (done : ℕ) → eqb (length buffer) stateBytes ≡ false → stepExported file buffer done ≡ refused (record { number = 50; place = min (length buffer) 65535 }) buffer
+pub strange-step-buffer : (file buffer : List ℕ) (done : ℕ) → eqb (length buffer) stateBytes ≡ false → stepExported file buffer done ≡ refused (refusal 50 (min (length buffer) 65535)) buffer
 strange-step-buffer file buffer done e = rw (e, onFile)
 
--- A start returns 0 and a step at most 16, or it refuses by a number above 0 and a place below 65,536 and changes no byte. What
+-- A file that is refused is refused by start and step as it is by the check, and a state as it is by the dispatcher's own step.
+pub refused-camera-start : (file buffer : List ℕ) (r : Refusal) → length buffer ≡ stateBytes → loadedFrom file .admission ≡ Admission.Refused r → startExported file buffer ≡ refused r buffer
+unfolding started
+refused-camera-start file buffer r size h = elim (refused-for file r h) [
+  | inl f ↦ rw (eq-eqb (length buffer) stateBytes size, f, onFile)
+  | inr (f, j) ↦ rw (eq-eqb (length buffer) stateBytes size, f, onFile, j)
+]
+
+pub refused-camera-step : (file buffer : List ℕ) (done : ℕ) (r : Refusal) → length buffer ≡ stateBytes → loadedFrom file .admission ≡ Admission.Refused r → stepExported file buffer done ≡ refused r buffer
+unfolding stepped
+refused-camera-step file buffer done r size h = elim (refused-for file r h) [
+  | inl f ↦ rw (eq-eqb (length buffer) stateBytes size, f, onFile)
+  | inr (f, j) ↦ rw (eq-eqb (length buffer) stateBytes size, f, onFile, j)
+]
+
+pub refused-camera-state : (file buffer : List ℕ) (done : ℕ) (r : Refusal) → length buffer ≡ stateBytes → formOf file .admission ≡ Admission.Admitted → stepped (formOf file .table) (stateIn buffer) (not (eqb done 0)) .given ≡ Given.Refused r → stepExported file buffer done ≡ refused r buffer
+refused-camera-state file buffer done r size f g = rw (eq-eqb (length buffer) stateBytes size, f, onFile, g)
+
+-- A start returns 0 and a step a task or 16, or it refuses by a number above 0 and a place below 65,536 and changes no byte. What
 -- is returned then tells both (`told-from-number` of Demand1).
 pub start-or-refusal : (file buffer : List ℕ) → let e = startExported file buffer in (e .number ≡ 0) ⊎ ((r : Refusal) × (e ≡ refused r buffer) × ((0 < r .number) × (r .place < 65536)))
 start-or-refusal = start-apart
 
-pub step-or-refusal : (file buffer : List ℕ) (done : ℕ) → let e = stepExported file buffer done in (e .number ≤ taskLimit) ⊎ ((r : Refusal) × (e ≡ refused r buffer) × ((0 < r .number) × (r .place < 65536)))
+pub step-or-refusal : (file buffer : List ℕ) (done : ℕ) → let e = stepExported file buffer done in ((e .number ≡ taskLimit) ⊎ (e .number < formOf file .table .count)) ⊎ ((r : Refusal) × (e ≡ refused r buffer) × ((0 < r .number) × (r .place < 65536)))
 step-or-refusal = step-apart
 
 -- A camera's loop with a well-formed table's file and any done reports: the start returns 0, and step n returns the owner of
@@ -63,5 +85,8 @@ g-formed : (formOf file-g .admission ≡ Admission.Admitted) × (formOf file-g .
 unfolding formOf readFrom judged firstFaulty taskFault first round load horizon largest sum count
 g-formed = (refl, refl, refl)
 
-pub g-camera : (done : ℕ → ℕ) → startExported file-g (replicate stateBytes 0) .number ≡ 0
-g-camera done = ap (λ (e : Exported). e .number) (camera-starts file-g table-g _ (g-formed .0) (g-formed .1) (g-formed .2) (replicate stateBytes 0) (length-replicate {A = ℕ} stateBytes 0) done)
+pub g-camera : (done : ℕ → ℕ) (n : ℕ) → (startExported file-g (replicate stateBytes 0) .number ≡ 0) × (stepExported file-g (handed file-g (replicate stateBytes 0) done n) (done n) .number ≡ ownerAt table-g (λ k. not (eqb (done k) 0)) n)
+g-camera done n =
+    let lent = replicate {A = ℕ} stateBytes 0 in
+    let size = length-replicate {A = ℕ} stateBytes 0 in
+    (ap (λ (e : Exported). e .number) (camera-starts file-g table-g _ (g-formed .0) (g-formed .1) (g-formed .2) lent size done), ap (λ (e : Exported). e .number) (camera-steps file-g table-g _ (g-formed .0) (g-formed .1) (g-formed .2) lent size done n))

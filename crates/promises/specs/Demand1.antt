@@ -1,15 +1,16 @@
 -- DEMAND 1: each bad input is refused by number and place and changes nothing, and every call has one permitted result.
 -- That no call traps or runs on is what being proved means, and is not said again. Each contract is an equation with, or a
 -- permission by, the model's own word, for every input; so the theorems here speak of these words (`record-read` of tablefile's).
-use mathlib.Core.Path.{_≡_, refl, sym, subst, _∙_}
-use mathlib.Core.Logic.{_⊎_, inl, inr}
+use mathlib.Core.Path.{_≡_, refl, sym, ap, subst, _∙_}
+use mathlib.Core.Logic.{_↔_, _⊎_, inl, inr}
 use mathlib.Core.List.{List, [], _∷_}
 use mathlib.Core.Bool.{Bool, true, false, cond}
-use Prim.Native.Nat.{ℕ, suc, _/_, _%_, _≤_, _<_}
+use Prim.Native.Nat.{ℕ, suc, _/_, _%_, _≤_, _<_, _∣_}
 use native.Mathlib.Omega.{arith}
 use borrow.Author.Tests.{ltb-true, lt-ltb, le-ltb}
 use lib.Dec.{ltb}
 use lib.ListN.{length, take}
+use Rattle.values.specs.declared.Task.{Task}
 use Rattle.values.specs.declared.Table.{Table}
 use Rattle.values.specs.declared.Refusal.{Refusal}
 use Rattle.values.specs.declared.Measure.{Measure}
@@ -20,28 +21,33 @@ use Rattle.values.specs.declared.Admission.{Admission}
 use Rattle.values.specs.declared.Given.{Given}
 use Rattle.values.specs.declared.Answer.{Answer}
 use Rattle.values.specs.declared.Loaded.{Loaded}
-use Rattle.model.specs.Limits.{taskLimit, reportBytes, longestFile}
-use Rattle.model.specs.Values.{refusalSaid, judgementSaid, admissionSaid, givenSaid}
-use Rattle.model.specs.Tasks.{judged}
-use Rattle.model.specs.Verdict.{brief, Permitted}
+use Rattle.model.specs.Limits.{taskLimit, slotLimit, roundLimit, reportBytes, longestFile}
+use Rattle.model.specs.Values.{refusal, refusalSaid, judgementSaid, admissionSaid, givenSaid}
+use Rattle.model.specs.Tasks.{task, round, measure, judged}
+use Rattle.model.specs.Verdict.{verdict, brief, Permitted}
 use Rattle.model.specs.TableFile.{formOf, loadedFrom}
 use Rattle.model.specs.Dispatcher as model
-use Rattle.model.specs.Dispatcher.{State, firstStrange, lastStrange, stepJudged, started, stepped}
+use Rattle.model.specs.Dispatcher.{State, firstStrange, lastStrange, turn, after, stepJudged, started, stepped}
 use Rattle.dispatch.specs.declared.Dispatcher.{Dispatcher}
 use Rattle.dispatch.specs.declared.Started.{Started}
 use Rattle.dispatch.specs.declared.Stepped.{Stepped}
 use Rattle.dispatch.specs.State.{stateOf, startedOf, steppedOf, one-started, one-stepped}
 use Rattle.model.specs.Report.{reportOf, Exported, refused, written, outcomeTold, FileTold, Checked, refusalLine, Printed}
+use Rattle.wellformed.specs.Ranges.{InRange}
+use Rattle.wellformed.specs.Round.{round-pos, period-divides, round-least}
+use Rattle.wellformed.specs.WellFormed.{judged-iff}
 use Rattle.backlog.specs.Answers.{permitted-unique}
 use Rattle.backlog.specs.Computed.{answerOf, computed}
 use Rattle.tablefile.specs.declared.Record.{Record}
 use Rattle.tablefile.specs.declared.Reading.{Reading}
 use Rattle.tablefile.specs.Reading.{readingAt}
 use Rattle.tablefile.specs.Said.{recordSaid, numbersAt, Has, record-said}
-use Rattle.tablefile.specs.Longer.{first-bytes}
+use Rattle.tablefile.specs.Admitted.{admitted}
+use Rattle.tablefile.specs.Longer.{first-form, first-bytes}
 use Rattle.tablefile.specs.Refused.{AdmissionTellable, load-tellable}
 use Rattle.report.specs.Permitted.{Fitting, permitted-fits}
 use Rattle.statebuffer.specs.Told.{Apart}
+use Rattle.promises.specs.Demand2.{answer-exactly}
 
 -- Judging a table, reading a file's form, loading it, starting and stepping have one permitted result each, for every input.
 pub one-judgement : (t : Table) (a b : Judgement) → a ≡ judged t → b ≡ judged t → a ≡ b
@@ -58,6 +64,31 @@ one-start t a b e f = one-started a b (e ∙ sym f)
 
 pub one-step : (t : Table) (d : Dispatcher) (done : Bool) (a b : Stepped) → steppedOf a ≡ stepped t (stateOf d) done → steppedOf b ≡ stepped t (stateOf d) done → a ≡ b
 one-step t d done a b e f = one-stepped a b (e ∙ sym f)
+
+-- A table is well-formed exactly if it has 1 to 16 tasks, each of them keeps its ranges, and H keeps its limit.
+abbrev pub InRanges : Task → Type 0
+InRanges k = (1 ≤ k .period) × (k .period ≤ slotLimit) × (1 ≤ k .deadline) × (k .deadline ≤ k .period) × (1 ≤ k .cost) × (k .cost ≤ k .deadline) × (k .offset ≤ slotLimit)
+
+abbrev pub KeepsLimits : Table → Type 0
+KeepsLimits t = (1 ≤ t .count) × (t .count ≤ taskLimit) × ((i : ℕ) → i < t .count → InRanges (task t i)) × (round t ≤ roundLimit)
+
+pub well-formed-exactly : (t : Table) (m : Measure) → (judged t ≡ Judgement.WellFormed m) ↔ (KeepsLimits t × (m ≡ measure t))
+well-formed-exactly t m = (fwd, bwd)
+  where
+    fwd : judged t ≡ Judgement.WellFormed m → KeepsLimits t × (m ≡ measure t)
+    fwd e =
+        let (r, h, same) = judged-iff t m .0 e in
+        ((r .some, r .few, (λ i l. let k = r .each i l in (k .period-pos, k .period-le, k .deadline-pos, k .deadline-le, k .cost-pos, k .cost-le, k .offset-le)), h), same)
+
+    bwd : KeepsLimits t × (m ≡ measure t) → judged t ≡ Judgement.WellFormed m
+    bwd ((some, few, each, h), same) = judged-iff t m .1 (record { some = some; few = few; each = λ i l. ranges (each i l) }, h, same)
+      where
+        ranges : {k : Task} → InRanges k → InRange k
+        ranges (a, b, c, d, e, f, g) = record { period-pos = a; period-le = b; deadline-pos = c; deadline-le = d; cost-pos = e; cost-le = f; offset-le = g }
+
+-- H of such a table is the least number above 0 that each period divides.
+pub round-is-least : (t : Table) (m : Measure) → judged t ≡ Judgement.WellFormed m → (0 < round t) × ((i : ℕ) → i < t .count → task t i .period ∣ round t) × ((x : ℕ) → 0 < x → ((i : ℕ) → i < t .count → task t i .period ∣ x) → round t ≤ x)
+round-is-least t m well = let r = judged-iff t m .0 well .0 in (round-pos t r, period-divides t r, round-least t r)
 
 -- The exact test has one permitted answer to every table and budget.
 pub one-answer : (t : Table) (budget : ℕ) (a b : Answer) → Permitted t budget a → Permitted t budget b → a ≡ b
@@ -81,7 +112,7 @@ told-refused refuse tell l x r Admission.Admitted q e = let z : _≡_ {A = ℕ} 
 
 -- Whether a buffer and a file are taken: the buffer is looked at first.
 abbrev taken : List ℕ → List ℕ → Admission
-taken file buffer = cond (ltb (length buffer) reportBytes) (Admission.Refused (record { number = 30; place = length buffer })) (loadedFrom file .admission)
+taken file buffer = cond (ltb (length buffer) reportBytes) (Admission.Refused (refusal 30 (length buffer))) (loadedFrom file .admission)
 
 -- The exported call has one permitted result, number and buffer, for every file and buffer.
 pub one-export : (file buffer : List ℕ) (e f : Exported) → Checked file buffer e → Checked file buffer f → e ≡ f
@@ -107,9 +138,28 @@ told-apart buffer l e Admission.Admitted h (a, p, q) = rw q (outcome-apart l buf
 pub report-or-refusal : (file buffer : List ℕ) (e : Exported) → Checked file buffer e → Reported (loadedFrom file) buffer e ⊎ ((r : Refusal) × (e ≡ refused r buffer) × ((0 < r .number) × (r .place < 65536)))
 report-or-refusal file buffer e = told-apart buffer (loadedFrom file) e (taken file buffer) (tellable (ltb (length buffer) reportBytes) refl)
   where
-    tellable : (short : Bool) → ltb (length buffer) reportBytes ≡ short → AdmissionTellable (cond short (Admission.Refused (record { number = 30; place = length buffer })) (loadedFrom file .admission))
+    tellable : (short : Bool) → ltb (length buffer) reportBytes ≡ short → AdmissionTellable (cond short (Admission.Refused (refusal 30 (length buffer))) (loadedFrom file .admission))
     tellable true q = (omega arith, omega (arith, ltb-true (length buffer) reportBytes q))
     tellable false q = load-tellable file
+
+-- It reports on every file that is read, if the buffer is not short.
+pub reported-export : (file buffer : List ℕ) (e : Exported) → ltb (length buffer) reportBytes ≡ false → loadedFrom file .admission ≡ Admission.Admitted → Checked file buffer e → Reported (loadedFrom file) buffer e
+reported-export file buffer e long good = told (taken file buffer) (rw long good)
+  where
+    l : Loaded
+    l = loadedFrom file
+
+    tested : (a : Answer) → Permitted (l .table) (l .budget) a → a .outcome ≡ Outcome.Tested (verdict (l .table) (l .budget))
+    tested a p = let (same, (m, well)) = admitted file good in answer-exactly (l .table) m (rw same well) (l .budget) a p .outcome
+
+    report : (a : Answer) (v : Verdict) → Permitted (l .table) (l .budget) a → a .outcome ≡ Outcome.Tested v → e ≡ outcomeTold (λ r. refused r buffer) (λ s. written s buffer) (l .table .count) a (a .outcome) → Reported l buffer e
+    report a v p o q =
+        let fit : Fitting (l .table .count) a (Outcome.Tested v) = subst (Fitting (l .table .count) a) o (permitted-fits (l .table) (l .budget) a p) in
+        (a, v, p, o, q ∙ ap (outcomeTold (λ r. refused r buffer) (λ s. written s buffer) (l .table .count) a) o, fit)
+
+    told : (a : Admission) → a ≡ Admission.Admitted → FileTold (λ r. refused r buffer) (λ s. written s buffer) l e a → Reported l buffer e
+    told (Admission.Refused r) q h = let z : _≡_ {A = ℕ} 0 1 = cc in absurd (omega arith)
+    told Admission.Admitted q (a, p, h) = report a _ p (tested a p) h
 
 -- What an exported call returns of such a refusal tells its number and its place.
 pub told-from-number : (r : Refusal) (buffer : List ℕ) → r .place < 65536 → (refused r buffer .number / 65536 ≡ r .number) × (refused r buffer .number % 65536 ≡ r .place)
@@ -126,13 +176,21 @@ some-print input = told-some refusalLine (λ s. s) (loadedFrom input) (loadedFro
 pub whole-input : (input out : List ℕ) → Printed (take (suc longestFile) input) out → Printed input out
 whole-input input out = subst (λ (l : Loaded). FileTold refusalLine (λ s. s) l out (l .admission)) (first-bytes input)
 
+-- So no exported call needs more bytes of a file than these.
+pub whole-file : (file : List ℕ) → (formOf (take (suc longestFile) file) ≡ formOf file) × (loadedFrom (take (suc longestFile) file) ≡ loadedFrom file)
+whole-file file = (first-form file, first-bytes file)
+
+-- A file that is read is as its form has it, and its table is well-formed.
+pub read-well-formed : (file : List ℕ) → loadedFrom file .admission ≡ Admission.Admitted → (loadedFrom file ≡ formOf file) × ((m : Measure) × (judged (formOf file .table) ≡ Judgement.WellFormed m))
+read-well-formed = admitted
+
 -- A refused file leaves the report buffer as it was.
 pub refused-export : (file buffer : List ℕ) (e : Exported) (r : Refusal) → ltb (length buffer) reportBytes ≡ false → loadedFrom file .admission ≡ Admission.Refused r → Checked file buffer e → e ≡ refused r buffer
 refused-export file buffer e r long q = told-refused (λ r. refused r buffer) (λ s. written s buffer) (loadedFrom file) e r (taken file buffer) (rw long q)
 
 -- A short buffer is refused by 30 at its length, before the file is looked at, and stays as it was.
-pub short-buffer : (file buffer : List ℕ) (e : Exported) → ltb (length buffer) reportBytes ≡ true → Checked file buffer e → e ≡ refused (record { number = 30; place = length buffer }) buffer
-short-buffer file buffer e short = told-refused (λ r. refused r buffer) (λ s. written s buffer) (loadedFrom file) e (record { number = 30; place = length buffer }) (taken file buffer) (rw short)
+pub short-buffer : (file buffer : List ℕ) (e : Exported) → ltb (length buffer) reportBytes ≡ true → Checked file buffer e → e ≡ refused (refusal 30 (length buffer)) buffer
+short-buffer file buffer e short = told-refused (λ r. refused r buffer) (λ s. written s buffer) (loadedFrom file) e (refusal 30 (length buffer)) (taken file buffer) (rw short)
 
 -- The refusal of a table is handed on as it is: by its judge, of a file whose form is good, by a start and by a step.
 pub refused-table : (t : Table) (r : Refusal) → judged t ≡ Judgement.Refused r → judgementSaid (judged t) ≡ refusalSaid r
@@ -172,6 +230,11 @@ strange-state t m d done well h = rw (well, lt-ltb (firstStrange t d) (t .count)
 pub strange-last : (t : Table) (m : Measure) (d : State) (done : Bool) → judged t ≡ Judgement.WellFormed m → t .count ≤ firstStrange t d → lastStrange t d ≡ true → givenSaid (stepped t d done .given) ≡ 8 ∷ taskLimit ∷ []
 unfolding stepped
 strange-last t m d done well h last = rw (well, le-ltb (firstStrange t d) (t .count) h, last) refl
+
+-- Every other state is taken.
+pub taken-state : (t : Table) (m : Measure) (d : State) (done : Bool) → judged t ≡ Judgement.WellFormed m → t .count ≤ firstStrange t d → lastStrange t d ≡ false → stepped t d done ≡ record { given = Given.Slot (turn t d done); state = after t d done }
+unfolding stepped
+taken-state t m d done well h last = rw (well, le-ltb (firstStrange t d) (t .count) h, last) refl
 
 -- A refused step hands the state back as it came.
 pub refused-step : (t : Table) (d : State) (done : Bool) (r : Refusal) → stepped t d done .given ≡ Given.Refused r → stepped t d done .state ≡ d

@@ -6,6 +6,7 @@ use native.Mathlib.Omega.{arith}
 use mathlib.Core.Logic.{_↔_, _⊎_, _≢_}
 use Prim.Native.Nat.{ℕ, _≤_, _<_}
 use lib.Dec.{T}
+use lib.ListN.{getD}
 use Rattle.values.specs.declared.Table.{Table}
 use Rattle.values.specs.declared.Measure.{Measure}
 use Rattle.values.specs.declared.Judgement.{Judgement}
@@ -23,8 +24,9 @@ use Rattle.wellformed.specs.WellFormed.{well-formed}
 use Rattle.backlog.specs.Decided.{sufficient}
 use Rattle.backlog.specs.Verdicts.{Case, overload, undecided, late, passed, the-case, needed-le, needed-is, none-before, none-late, is-late, start-asks, start-largest, is-overload, undecided-iff, longer}
 use Rattle.backlog.specs.RunSchedule.{run-rule}
-use Rattle.backlog.specs.TableSystem.{tie-ranks, systemOf}
-use Rattle.backlog.specs.Answers.{never-of-passed, passes-iff, overload-infeasible, late-infeasible}
+use Rattle.backlog.specs.Worst.{worst-range}
+use Rattle.backlog.specs.TableSystem.{tie-ranks, systemOf, cycleOf}
+use Rattle.backlog.specs.Answers.{never-of-passed, light-of-passed, met-of-passed, passes-iff, overload-infeasible, late-infeasible, permitted-unique}
 
 module _ (t : Table) (m : Measure) (well : judged t ≡ Judgement.WellFormed m) where
   -- With a budget that reaches the horizon it passes exactly if some schedule is good.
@@ -146,6 +148,30 @@ judged-passed t budget a (Judgement.WellFormed m) h o = answered t budget m a (v
 pub passed-exactly : (t : Table) (budget : ℕ) (a : Answer) → Permitted t budget a → a .outcome ≡ Outcome.Tested Verdict.Passes → (verdict t budget ≡ Verdict.Passes) × Worsts t (a .worst) × (a .empty ≡ emptyIn t)
 unfolding Permitted
 passed-exactly t budget a = judged-passed t budget a (judged t)
+
+-- A worst response is at least 1 and at most the deadline.
+pub worst-by-deadline : (t : Table) (m : Measure) → judged t ≡ Judgement.WellFormed m → (budget : ℕ) (a : Answer) → Permitted t budget a → a .outcome ≡ Outcome.Tested Verdict.Passes → (i : ℕ) → i < t .count → (0 < getD (a .worst) i 0) × (getD (a .worst) i 0 ≤ task t i .deadline)
+worst-by-deadline t m well budget a p o i l =
+    let r = well-formed t m well .ranged in
+    let (v, w, e) = passed-exactly t budget a p o in
+    worst-range (systemOf t r _ (tie-ranks t)) (cycleOf t r _ (tie-ranks t)) (light-of-passed t r budget v) (met-of-passed t r budget v) i l (getD (a .worst) i 0) (w .worst i l)
+
+-- A longer budget alters no answer but undecided.
+longer-answers : (t : Table) (budget more : ℕ) (m : Measure) (a : Answer) (v : Verdict) → settledBy t more ≡ settledBy t budget → Answers t budget m a v → Answers t more m a v
+longer-answers t budget more m a Verdict.Passes s (w, p, e) = (w, p, rw s e)
+longer-answers t budget more m a Verdict.Overload s e = rw s e
+longer-answers t budget more m a (Verdict.Late f k d) s e = rw s e
+longer-answers t budget more m a Verdict.Undecided s e = rw s e
+
+longer-judged : (t : Table) (budget more : ℕ) (a : Answer) (j : Judgement) → budget ≤ more → a .outcome ≢ Outcome.Tested Verdict.Undecided → PermittedBy t budget a j → PermittedBy t more a j
+longer-judged t budget more a (Judgement.Refused r) l u h = h
+longer-judged t budget more a (Judgement.WellFormed m) l u h =
+    let (v, s) = longer t budget more l (λ e. u (says t budget m a (verdict t budget) h .0 ∙ ap Outcome.Tested e)) in
+    subst (Answers t more m a) (sym v) (longer-answers t budget more m a (verdict t budget) s h)
+
+pub longer-same-answer : (t : Table) (budget more : ℕ) (a b : Answer) → budget ≤ more → a .outcome ≢ Outcome.Tested Verdict.Undecided → Permitted t budget a → Permitted t more b → a ≡ b
+unfolding Permitted
+longer-same-answer t budget more a b l u p = permitted-unique t more a b (longer-judged t budget more a (judged t) l u p)
 
 -- The run that the responses are taken from is document 01's: each slot goes to the released, unfinished job with the earliest
 -- deadline, ties to the lower task number, and to none only if no such job is there.

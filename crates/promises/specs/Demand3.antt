@@ -40,6 +40,10 @@ module _ (t : Table) (m : Measure) (well : judged t ≡ Judgement.WellFormed m) 
   pub none-early : (n i : ℕ) → i < t .count → ownerAt t done n ≡ i → (j : ℕ) × (release (task t i) j ≤ n) × (n < due (task t i) j)
   none-early = stepping.owned-ready t (well-formed t m well .ranged) done
 
+  -- No slot goes to a job that is finished: one that had its whole cost, or was reported done. Of any well-formed table.
+  pub none-after : (n i j : ℕ) → i < t .count → release (task t i) j ≤ n → n < release (task t i) (suc j) → Finished t done i j n → ownerAt t done n ≡ i → ⊥
+  none-after = history.none-after t (well-formed t m well .ranged) done
+
   -- On a table that the test passed, with the worst responses that it reported:
   module _ (budget : ℕ) (a : Answer) (answer : Permitted t budget a) (pass : a .outcome ≡ Outcome.Tested Verdict.Passes) where
     -- every job is finished within its reported worst response: it had its whole cost, or was reported done;

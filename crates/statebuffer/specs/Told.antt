@@ -31,15 +31,15 @@ Apart Taken buffer e = Taken e ⊎ ((r : Refusal) × (e ≡ refused r buffer) ×
 abbrev TakenStart : Exported → Type 0
 TakenStart e = e .number ≡ 0
 
--- A step that is taken returns a task or 16.
-abbrev TakenStep : Exported → Type 0
-TakenStep e = e .number ≤ taskLimit
+-- A step that is taken returns a task of the table or 16.
+abbrev TakenStep : Table → Exported → Type 0
+TakenStep t e = (e .number ≡ taskLimit) ⊎ (e .number < t .count)
 
 -- The buffer and the form are looked at first.
-module _ (Taken : Exported → Type 0) (file buffer : List ℕ) (go : Table → Exported) (h : (t : Table) → Apart Taken buffer (go t)) where
+module _ (Taken : Exported → Type 0) (file buffer : List ℕ) (go : Table → Exported) (h : Apart Taken buffer (go (formOf file .table))) where
   admission-apart : (a : Admission) → AdmissionTellable a → Apart Taken buffer (elim a [ Admission.Refused r ↦ refused r buffer | Admission.Admitted ↦ go (formOf file .table) ])
   admission-apart (Admission.Refused r) n = inr (r, refl, n)
-  admission-apart Admission.Admitted n = h (formOf file .table)
+  admission-apart Admission.Admitted n = h
 
   file-apart : Apart Taken buffer (onFile file buffer go)
   file-apart = admission-apart (cond (eqb (length buffer) stateBytes) (formOf file .admission) strange) (tellable (eqb (length buffer) stateBytes))
@@ -53,33 +53,31 @@ module _ (Taken : Exported → Type 0) (file buffer : List ℕ) (go : Table → 
 
 pub start-apart : (file buffer : List ℕ) → Apart TakenStart buffer (startExported file buffer)
 unfolding started
-start-apart file buffer = file-apart TakenStart file buffer (λ t. startWritten buffer (started t .state) (started t .admission)) (λ t. by t (judged t) (judged-tellable t))
+start-apart file buffer = file-apart TakenStart file buffer (λ t. startWritten buffer (started t .state) (started t .admission)) (by (formOf file .table) (judged (formOf file .table)) (judged-tellable (formOf file .table)))
   where
     by : (t : Table) (j : Judgement) → JudgementTellable j → let s = startJudged t j in Apart TakenStart buffer (startWritten buffer (s .state) (s .admission))
     by t (Judgement.Refused r) n = inr (r, refl, n)
     by t (Judgement.WellFormed m) n = inl refl
 
 -- The owner of a slot is a task or none.
-owner-few : (t : Table) (d : State) (done : Bool) → t .count ≤ taskLimit → turn t d done .owner ≤ taskLimit
+owner-range : (t : Table) (d : State) (done : Bool) → (turn t d done .owner ≡ taskLimit) ⊎ (turn t d done .owner < t .count)
 unfolding turn ownerNow
-owner-few t d done few = go (choose-range _ _ _ (t .count))
-  where
-    go : {k : ℕ} → (k ≡ taskLimit) ⊎ (k < t .count) → k ≤ taskLimit
-    go (inl e) = omega arith
-    go (inr l) = omega arith
+owner-range t d done = choose-range _ _ _ (t .count)
 
-pub step-apart : (file buffer : List ℕ) (done : ℕ) → Apart TakenStep buffer (stepExported file buffer done)
+pub step-apart : (file buffer : List ℕ) (done : ℕ) → Apart (TakenStep (formOf file .table)) buffer (stepExported file buffer done)
 unfolding stepped
-step-apart file buffer done = file-apart TakenStep file buffer (λ t. let s = stepped t (stateIn buffer) (not (eqb done 0)) in stepWritten buffer (s .state) (s .given)) (λ t. by t (stateIn buffer) (not (eqb done 0)) (judged t) refl (judged-tellable t))
+step-apart file buffer done =
+    let t = formOf file .table in
+    file-apart (TakenStep t) file buffer (λ t. let s = stepped t (stateIn buffer) (not (eqb done 0)) in stepWritten buffer (s .state) (s .given)) (by t (stateIn buffer) (not (eqb done 0)) (judged t) refl (judged-tellable t))
   where
-    by : (t : Table) (d : State) (report : Bool) (j : Judgement) → judged t ≡ j → JudgementTellable j → let s = stepJudged t d report j in Apart TakenStep buffer (stepWritten buffer (s .state) (s .given))
+    by : (t : Table) (d : State) (report : Bool) (j : Judgement) → judged t ≡ j → JudgementTellable j → let s = stepJudged t d report j in Apart (TakenStep t) buffer (stepWritten buffer (s .state) (s .given))
     by t d report (Judgement.Refused r) e n = inr (r, refl, n)
     by t d report (Judgement.WellFormed m) e n = go (ltb (firstStrange t d) (t .count)) (lastStrange t d) refl refl
       where
         few : t .count ≤ taskLimit
         few = well-formed t m e .ranged .few
 
-        go : (a b : Bool) → ltb (firstStrange t d) (t .count) ≡ a → lastStrange t d ≡ b → let s = stepJudged t d report (Judgement.WellFormed m) in Apart TakenStep buffer (stepWritten buffer (s .state) (s .given))
+        go : (a b : Bool) → ltb (firstStrange t d) (t .count) ≡ a → lastStrange t d ≡ b → let s = stepJudged t d report (Judgement.WellFormed m) in Apart (TakenStep t) buffer (stepWritten buffer (s .state) (s .given))
         go true b p q = rw p (inr (record { number = 8; place = firstStrange t d }, refl, (omega arith, omega (arith, few, ltb-true (firstStrange t d) (t .count) p))))
         go false true p q = rw (p, q) (inr (record { number = 8; place = taskLimit }, refl, (omega arith, omega arith)))
-        go false false p q = rw (p, q) (inl (owner-few t d report few))
+        go false false p q = rw (p, q) (inl (owner-range t d report))

@@ -1,8 +1,12 @@
--- The table of an admitted file was judged, so it has at most 16 tasks.
-use mathlib.Core.Path.{_≡_, refl}
+-- What a loaded file tells of its form and its table: an admitted one is as its form has it, with a well-formed table of at most 16
+-- tasks; a refused one is refused for its form or, if that is good, for its table.
+use mathlib.Core.Path.{_≡_, refl, ap, _∙_}
+use mathlib.Core.Logic.{_⊎_, inl, inr}
 use mathlib.Core.List.{List}
 use Prim.Native.Nat.{ℕ, _≤_}
 use native.Mathlib.Omega.{arith}
+use Rattle.values.specs.declared.Refusal.{Refusal}
+use Rattle.values.specs.declared.Measure.{Measure}
 use Rattle.values.specs.declared.Judgement.{Judgement}
 use Rattle.values.specs.declared.Admission.{Admission}
 use Rattle.values.specs.declared.Loaded.{Loaded}
@@ -11,17 +15,31 @@ use Rattle.model.specs.Tasks.{judged}
 use Rattle.model.specs.TableFile.{judgedTable, judgedForm, formOf, loadedFrom}
 use Rattle.wellformed.specs.WellFormed.{well-formed}
 
-few-judged : (l : Loaded) (j : Judgement) → judged (l .table) ≡ j → judgedTable l j .table .count ≤ taskLimit
-few-judged l (Judgement.Refused r) e = omega arith
-few-judged l (Judgement.WellFormed m) e = well-formed (l .table) m e .ranged .few
+admitted-table : (l : Loaded) (j : Judgement) → judged (l .table) ≡ j → judgedTable l j .admission ≡ Admission.Admitted → (judgedTable l j ≡ l) × ((m : Measure) × (judged (l .table) ≡ Judgement.WellFormed m))
+admitted-table l (Judgement.Refused r) e h = let z : _≡_ {A = ℕ} 0 1 = cc in absurd (omega arith)
+admitted-table l (Judgement.WellFormed m) e h = (refl, (m, e))
 
-few-formed : (l : Loaded) (a : Admission) → l .admission ≡ a → judgedForm l a .admission ≡ Admission.Admitted → judgedForm l a .table .count ≤ taskLimit
-few-formed l (Admission.Refused r) e h = let z : _≡_ {A = ℕ} 0 1 = cc in absurd (omega arith)
-few-formed l Admission.Admitted e h = few-judged l (judged (l .table)) refl
+admitted-form : (l : Loaded) (a : Admission) → l .admission ≡ a → judgedForm l a .admission ≡ Admission.Admitted → (judgedForm l a ≡ l) × ((m : Measure) × (judged (l .table) ≡ Judgement.WellFormed m))
+admitted-form l (Admission.Refused r) e h = let z : _≡_ {A = ℕ} 0 1 = cc in absurd (omega arith)
+admitted-form l Admission.Admitted e h = admitted-table l (judged (l .table)) refl h
 
-few-loaded : (file : List ℕ) → loadedFrom file .admission ≡ Admission.Admitted → loadedFrom file .table .count ≤ taskLimit
+pub admitted : (file : List ℕ) → loadedFrom file .admission ≡ Admission.Admitted → (loadedFrom file ≡ formOf file) × ((m : Measure) × (judged (formOf file .table) ≡ Judgement.WellFormed m))
 unfolding loadedFrom
-few-loaded file h = few-formed (formOf file) (formOf file .admission) refl h
+admitted file = admitted-form (formOf file) (formOf file .admission) refl
 
 pub few-tasks : (file : List ℕ) {l : Loaded} → l ≡ loadedFrom file → l .admission ≡ Admission.Admitted → l .table .count ≤ taskLimit
-few-tasks file same h = rw same (few-loaded file (rw (← same) h))
+few-tasks file same h =
+    let (e, (m, well)) = admitted file (rw (← same) h) in
+    rw (same, e) (well-formed _ m well .ranged .few)
+
+refused-table : (l : Loaded) (r : Refusal) (j : Judgement) → judged (l .table) ≡ j → l .admission ≡ Admission.Admitted → judgedTable l j .admission ≡ Admission.Refused r → judged (l .table) ≡ Judgement.Refused r
+refused-table l r (Judgement.Refused w) e f h = let s : w ≡ r = cc in e ∙ ap Judgement.Refused s
+refused-table l r (Judgement.WellFormed m) e f h = let z : _≡_ {A = ℕ} 0 1 = cc in absurd (omega arith)
+
+refused-form : (l : Loaded) (r : Refusal) (a : Admission) → l .admission ≡ a → judgedForm l a .admission ≡ Admission.Refused r → (l .admission ≡ Admission.Refused r) ⊎ ((l .admission ≡ Admission.Admitted) × (judged (l .table) ≡ Judgement.Refused r))
+refused-form l r (Admission.Refused w) e h = inl h
+refused-form l r Admission.Admitted e h = inr (e, refused-table l r (judged (l .table)) refl e h)
+
+pub refused-for : (file : List ℕ) (r : Refusal) → loadedFrom file .admission ≡ Admission.Refused r → (formOf file .admission ≡ Admission.Refused r) ⊎ ((formOf file .admission ≡ Admission.Admitted) × (judged (formOf file .table) ≡ Judgement.Refused r))
+unfolding loadedFrom
+refused-for file r = refused-form (formOf file) r (formOf file .admission) refl

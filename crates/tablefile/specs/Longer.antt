@@ -34,9 +34,12 @@ module _ (s s′ : List ℕ) (long : longestFile < length s) (long′ : longestF
   unfolding formOf
   form-same = rw (ne-eqb (length s) 0 (omega arith), ne-eqb (length s′) 0 (omega arith), le-ltb (length s) (0 + budgetBytes) (omega arith), le-ltb (length s′) (0 + budgetBytes) (omega arith), same 0 (omega arith), four-same 1 (omega arith), four-same (1 + 4) (omega arith), from-same (eight s′ 1) [] taskLimit budgetBytes (omega arith))
 
+pub first-form : (s : List ℕ) → formOf (take (suc longestFile) s) ≡ formOf s
+first-form s = elim (decLe (length s) (suc longestFile)) [
+  | yes p ↦ rw (take-all (suc longestFile) s p)
+  | no p ↦ form-same (take (suc longestFile) s) s (omega (arith, length-take-le (suc longestFile) s (omega arith))) (omega arith) (λ i h. getD-take (suc longestFile) s i 0 (omega arith))
+]
+
 pub first-bytes : (s : List ℕ) → loadedFrom (take (suc longestFile) s) ≡ loadedFrom s
 unfolding loadedFrom
-first-bytes s = elim (decLe (length s) (suc longestFile)) [
-  | yes p ↦ rw (take-all (suc longestFile) s p)
-  | no p ↦ ap (λ (l : Loaded). judgedForm l (l .admission)) (form-same (take (suc longestFile) s) s (omega (arith, length-take-le (suc longestFile) s (omega arith))) (omega arith) (λ i h. getD-take (suc longestFile) s i 0 (omega arith)))
-]
+first-bytes s = ap (λ (l : Loaded). judgedForm l (l .admission)) (first-form s)

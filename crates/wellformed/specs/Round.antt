@@ -6,7 +6,7 @@ use native.Mathlib.Omega.{arith}
 use Rattle.values.specs.declared.Table.{Table}
 use Rattle.model.specs.Limits.{slotLimit, roundLimit}
 use Rattle.model.specs.Tasks.{task, round}
-use Rattle.counting.specs.Divisors.{lcmAll, lcmAll-mono, lcmAll-pos, lcmAll-le-product, product-le, divides-lcmAll, first-multiple}
+use Rattle.counting.specs.Divisors.{lcmAll, lcmAll-least, lcmAll-mono, lcmAll-pos, lcmAll-le-product, product-le, divides-lcmAll, first-multiple}
 use Rattle.wellformed.specs.Ranges.{Ranged}
 
 -- r is H where H keeps its limit, and is above the limit where H is.
@@ -43,6 +43,10 @@ module _ (t : Table) (ranged : Ranged t) where
   -- Each period divides H.
   pub period-divides : (i : ℕ) → i < t .count → period t i ∣ round t
   period-divides i l = rw round-lcm (divides-lcmAll (t .count) (period t) i l)
+
+  -- No number above 0 that each period divides is smaller.
+  pub round-least : (x : ℕ) → 0 < x → ((i : ℕ) → i < t .count → period t i ∣ x) → round t ≤ x
+  round-least x pos h = rw round-lcm (lcmAll-least (t .count) (period t) x pos h)
 
   -- The least common multiple of all periods tells H.
   pub told-all : {r : ℕ} → r ≡ lcmAll (t .count) (period t) → RoundTold t r

@@ -1,5 +1,6 @@
 -- What holds of a table that is judged well-formed.
-use mathlib.Core.Path.{_≡_, refl, ap}
+use mathlib.Core.Path.{_≡_, refl, sym, ap, _∙_}
+use mathlib.Core.Logic.{_↔_}
 use mathlib.Core.Bool.{Bool, true, false, cond}
 use Prim.Native.Nat.{ℕ, _+_, _*_, _≤_, _<_}
 use native.Mathlib.Omega.{arith}
@@ -57,17 +58,24 @@ offset-bound : (t : Table) (i : ℕ) → i < t .count → task t i .offset + 2 *
 unfolding horizon
 offset-bound t i l = omega (arith, le-largest (t .count) (λ j. task t j .offset) i l)
 
--- A table that is judged well-formed is so.
-pub well-formed : (t : Table) (m : Measure) → judged t ≡ Judgement.WellFormed m → WellFormed t m
+-- EXACTLY: a table is judged well-formed if it keeps its ranges and H its limit, and its measure is told.
+pub judged-iff : (t : Table) (m : Measure) → (judged t ≡ Judgement.WellFormed m) ↔ (Ranged t × (round t ≤ roundLimit) × (m ≡ measure t))
 unfolding judged
+judged-iff t m = (fwd, λ (r, h, same). judged-of t r h ∙ ap Judgement.WellFormed (sym same))
+  where
+    fwd : judged t ≡ Judgement.WellFormed m → Ranged t × (round t ≤ roundLimit) × (m ≡ measure t)
+    fwd e =
+        let (a, e₁) = passed (eqb (t .count) 0) 1 0 e in
+        let (b, e₂) = passed (ltb taskLimit (t .count)) 2 taskLimit e₁ in
+        let (c, e₃) = passed (ltb (firstFaulty t) (t .count)) (taskFault (task t (firstFaulty t))) (firstFaulty t) e₂ in
+        let (d, e₄) = passed (ltb roundLimit (round t)) 7 0 e₃ in
+        let same : m ≡ measure t = cc in
+        (ranged t (omega (arith, eqb-false (t .count) 0 a)) (ltb-false taskLimit (t .count) b) (ltb-false (firstFaulty t) (t .count) c), ltb-false roundLimit (round t) d, same)
+
+-- What holds of such a table.
+pub well-formed : (t : Table) (m : Measure) → judged t ≡ Judgement.WellFormed m → WellFormed t m
 well-formed t m e =
-    let (a, e₁) = passed (eqb (t .count) 0) 1 0 e in
-    let (b, e₂) = passed (ltb taskLimit (t .count)) 2 taskLimit e₁ in
-    let (c, e₃) = passed (ltb (firstFaulty t) (t .count)) (taskFault (task t (firstFaulty t))) (firstFaulty t) e₂ in
-    let (d, e₄) = passed (ltb roundLimit (round t)) 7 0 e₃ in
-    let r = ranged t (omega (arith, eqb-false (t .count) 0 a)) (ltb-false taskLimit (t .count) b) (ltb-false (firstFaulty t) (t .count) c) in
-    let h = ltb-false roundLimit (round t) d in
-    let same : m ≡ measure t = cc in
+    let (r, h, same) = judged-iff t m .0 e in
     record {
       ranged = r;
       round-is = ap (λ (x : Measure). x .round) same;
