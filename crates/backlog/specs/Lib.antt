@@ -23,6 +23,7 @@ pub mod Verdicts
 pub mod Answers
 pub mod Stepping
 pub mod StepHistory
+pub mod Taken
 pub mod Walk
 pub mod WalkWorst
 pub mod Computed

@@ -38,6 +38,7 @@ use Rattle.wellformed.specs.Round.{round-pos, period-divides, round-least}
 use Rattle.wellformed.specs.WellFormed.{judged-iff}
 use Rattle.backlog.specs.Answers.{permitted-unique}
 use Rattle.backlog.specs.Computed.{answerOf, computed}
+use Rattle.backlog.specs.Taken.{belongs-after}
 use Rattle.tablefile.specs.declared.Record.{Record}
 use Rattle.tablefile.specs.declared.Reading.{Reading}
 use Rattle.tablefile.specs.Reading.{readingAt}
@@ -235,6 +236,14 @@ strange-last t m d done well h last = rw (well, le-ltb (firstStrange t d) (t .co
 pub taken-state : (t : Table) (m : Measure) (d : State) (done : Bool) → judged t ≡ Judgement.WellFormed m → t .count ≤ firstStrange t d → lastStrange t d ≡ false → stepped t d done ≡ record { given = Given.Slot (turn t d done); state = after t d done }
 unfolding stepped
 taken-state t m d done well h last = rw (well, le-ltb (firstStrange t d) (t .count) h, last) refl
+
+-- And it leads to one that is taken, whoever made it: once a step is not refused, none after it is. A state has 16 entries in each list.
+pub taken-next : (t : Table) (m : Measure) (d : State) (done : Bool) → judged t ≡ Judgement.WellFormed m
+    → length (d .wait) ≡ taskLimit → length (d .left) ≡ taskLimit → t .count ≤ firstStrange t d → lastStrange t d ≡ false
+    → let next = after t d done in (length (next .wait) ≡ taskLimit) × (length (next .left) ≡ taskLimit) × (t .count ≤ firstStrange t next) × (lastStrange t next ≡ false)
+taken-next t m d done well waits lefts each ran =
+    let b = belongs-after t (judged-iff t m .0 well .0) d done (record { waits = waits; lefts = lefts; each = each; ran = ran }) in
+    (b .waits, b .lefts, b .each, b .ran)
 
 -- A refused step hands the state back as it came.
 pub refused-step : (t : Table) (d : State) (done : Bool) (r : Refusal) → stepped t d done .given ≡ Given.Refused r → stepped t d done .state ≡ d
