@@ -138,10 +138,24 @@ static int run(const uint8_t *file, size_t len, unsigned long slots)
     return RAN;
 }
 
+static int judge_and_run(const uint8_t *file, size_t len, int anyway, unsigned long slots)
+{
+    uint8_t report[YOLIZADWA_REPORT_BYTES];
+    uint64_t result = yolizadwa_check(file, len, report, sizeof report);
+    if (yolizadwa_refused(result)) {
+        return refused(result);
+    }
+    fwrite(report, 1, (size_t)result, stdout);
+    if (!anyway && !passes(report, (size_t)result)) {
+        printf("not run: the table does not pass\n");
+        return NOT_RUN;
+    }
+    return run(file, len, slots);
+}
+
 int main(int argc, char **argv)
 {
     uint8_t file[FILE_ROOM];
-    uint8_t report[YOLIZADWA_REPORT_BYTES];
     size_t len = 0;
     unsigned long slots = USUAL_SLOTS;
     int anyway = argc > 1 && strcmp(argv[1], "--anyway") == 0;
@@ -155,14 +169,10 @@ int main(int argc, char **argv)
         fprintf(stderr, "host: cannot read %s\n", words[0]);
         return NO_WORK;
     }
-    uint64_t result = yolizadwa_check(file, len, report, sizeof report);
-    if (yolizadwa_refused(result)) {
-        return refused(result);
+    int status = judge_and_run(file, len, anyway, slots);
+    if (fflush(stdout) != 0 || ferror(stdout)) {
+        fprintf(stderr, "host: cannot write\n");
+        return NO_WORK;
     }
-    fwrite(report, 1, (size_t)result, stdout);
-    if (!anyway && !passes(report, (size_t)result)) {
-        printf("not run: the table does not pass\n");
-        return NOT_RUN;
-    }
-    return run(file, len, slots);
+    return status;
 }

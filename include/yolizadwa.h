@@ -56,7 +56,7 @@ enum yolizadwa_refusal {
     YOLIZADWA_BAD_COST = 5,         /* a cost outside 1 to the deadline; place: the task */
     YOLIZADWA_BAD_OFFSET = 6,       /* an offset above 60,000; place: the task */
     YOLIZADWA_LONG_ROUND = 7,       /* the periods' least common multiple is above 1,000,000,000; place 0 */
-    YOLIZADWA_STRANGE_STATE = 8,    /* no state of this table; place: the first such task, 16: the last-run number */
+    YOLIZADWA_STRANGE_STATE = 8,    /* the state does not fit the table; place: the first task that does not, 16: last */
     YOLIZADWA_CUT_SHORT = 20,       /* the file ends inside a record; place: where the record begins */
     YOLIZADWA_UNKNOWN_KIND = 21,    /* a record of no known kind; place: where it begins */
     YOLIZADWA_NO_BUDGET_FIRST = 22, /* the first record is a task or the end, or the file is empty; place 0 */
@@ -92,11 +92,12 @@ static inline uint32_t yolizadwa_place(uint64_t result) { return (uint32_t)(resu
  * A camera runs a table only if the report's fourth line is `verdict passes`; only then does what is said of the worst
  * responses hold.
  *
- * The time needed grows with `settled`, which is at most the budget and at most 2,000,060,000. Start and step do not
- * depend on the budget. Measured (docs/PERFORMANCE.md): compiled for an Arm machine (Neoverse V1), a slot of a check
- * took about 2 ns with 1 task and 19 to 41 ns with 16, and a step 0.6 microseconds. On x86-64 (a virtual machine, Xeon
- * at 2.5 GHz) a slot with 1 task took 4 to 7 ns, and a step about 1 microsecond. The search for a late table's interval
- * took at most a third of the time of its slots, and up to 11 times that time on a table made for the worst.
+ * The time needed grows with `settled`, which is at most the budget and at most 2,000,060,000. No call can stop a check: only
+ * the budget bounds it. The time of start and step does not depend on the budget. Measured (docs/PERFORMANCE.md): compiled for
+ * an Arm machine (Neoverse V1), a slot of a check took about 2 ns with 1 task and 19 to 41 ns with 16, and a step 0.6
+ * microseconds. On x86-64 (a virtual machine, Xeon at 2.5 GHz) a slot with 1 task took 4 to 7 ns, and a step about 1
+ * microsecond. The search for a late table's interval took at most a third of the time of its slots, and up to 11 times that
+ * time on a table made so that no start is passed over.
  *
  * Refusals: 30; 20 to 26; 1 and 3 to 7.
  */
@@ -134,7 +135,8 @@ uint64_t yolizadwa_start(const uint8_t *file, size_t file_len, uint8_t *state, s
  *   4. The open job with the earliest deadline has the slot, of equal ones that of the lowest task.
  *
  * Call it once at the beginning of every slot, slot 0 first, empty slots too. `done` is about the slot just before and
- * about no other: handed over later it ends the job that had the slot in between. At the first step hand over 0.
+ * about no other: handed over later it ends the job that had the slot in between, if one had. At the first step hand
+ * over 0.
  *
  * A job that has had its cost gets no more slots, ended or not, and no call tells: the costs in the table must be true.
  *

@@ -1,6 +1,6 @@
 -- A state that belongs to its table, whoever made it, has a successor that belongs to it too: once a step is taken, none is refused.
 use mathlib.Core.Path.{_≡_, refl, _∙_}
-use mathlib.Core.Logic.{_⊎_, inl, inr, _≢_}
+use mathlib.Core.Logic.{inl, inr, _≢_}
 use mathlib.Core.Bool.{Bool, true, false, cond, _&&_, _||_}
 use Prim.Native.Nat.{ℕ, _-_, _≤_, _<_, max}
 use native.Mathlib.Decide.{ℕ-discrete, decLt}
@@ -9,12 +9,11 @@ use borrow.Author.Tests.{eq-eqb, ne-eqb, lt-ltb, le-ltb}
 use lib.Dec.{T, ltb, eqb, lt→ltb}
 use lib.ListN.{length}
 use Rattle.values.specs.declared.Table.{Table}
-use Rattle.model.specs.Notation.{first}
 use Rattle.model.specs.Limits.{taskLimit}
 use Rattle.model.specs.Tasks.{task}
 use Rattle.model.specs.Run.{tieOrder}
 use Rattle.model.specs.Dispatcher.{State, waitOf, leftOf, isOpen, strange, firstStrange, lastStrange, leftDone, isLate, leftLate, waitReleased, leftReleased, ownerNow, after}
-use Rattle.counting.specs.Count.{and-iff, eq→eqb, tests}
+use Rattle.counting.specs.Count.{and-iff, eq→eqb}
 use Rattle.counting.specs.Search.{first-before, first-none}
 use Rattle.counting.specs.Fill.{fill-passed, fill-length}
 use Rattle.wellformed.specs.Ranges.{Ranged}

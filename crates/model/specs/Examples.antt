@@ -115,7 +115,22 @@ measures = (refl, refl, refl)
 abbrev pub tables : List Table
 tables = table-a ∷ table-b ∷ table-c ∷ table-d ∷ table-e ∷ table-f ∷ table-g ∷ table-h ∷ table-i ∷ table-j ∷ []
 
--- Offsets count: b passes and d is late. One H from 0 is not enough: h is late at 7, and its H is 4.
+-- A load of exactly 1 is no overload.
+load-of-one : verdict table-a 2 ≡ Verdict.Passes
+unfolding verdict needed lateStart lateAt first last round load horizon largest sum count demand jobsIn
+load-of-one = refl
+
+-- Offsets count: up to 7 the jobs of d ask for 9 slots, those of b, whose task 0 begins at 8, for 4.
+offsets-count : map (λ t. demand t 0 7) (table-b ∷ table-d ∷ []) ≡ 4 ∷ 9 ∷ []
+unfolding demand jobsIn sum count
+offsets-count = refl
+
+-- The closed formula of the source documents would name 0 to 3 on h: it invents two jobs of task 0 before its first release at 4.
+no-job-before-the-first : (jobsIn (of 4 1 1 2) 0 3 ≡ 0) × (asksTooMuch table-h 0 3 ≡ false)
+unfolding demand jobsIn sum count
+no-job-before-the-first = (refl, refl)
+
+-- b passes and d is late. One H from 0 is not enough: h is late at 7, and its H is 4.
 verdicts :
     map (λ t. verdict t 1000) tables
     ≡ Verdict.Passes ∷ Verdict.Passes ∷ Verdict.Late 8 15 8 ∷ Verdict.Late 0 7 9 ∷ Verdict.Passes ∷ Verdict.Late 0 1 2 ∷ Verdict.Passes ∷ Verdict.Late 4 7 4 ∷ Verdict.Overload ∷ Verdict.Passes ∷ []
@@ -129,11 +144,6 @@ settled = refl
 -- The numbers of the verdicts, and what is told with them.
 said : map verdictSaid (Verdict.Overload ∷ Verdict.Undecided ∷ Verdict.Late 8 15 7 ∷ Verdict.Passes ∷ []) ≡ (1 ∷ []) ∷ (2 ∷ []) ∷ (3 ∷ 8 ∷ 15 ∷ 7 ∷ []) ∷ (4 ∷ []) ∷ []
 said = refl
-
--- A load of exactly 1 is no overload.
-load-of-one : verdict table-a 2 ≡ Verdict.Passes
-unfolding verdict needed lateStart lateAt first last round load horizon largest sum count demand jobsIn
-load-of-one = refl
 
 -- A budget equal to the needed count suffices, and one slot less does not; overload needs none.
 budgets :
@@ -152,11 +162,6 @@ largest-start = (refl, refl)
 settled-short : (settledBy table-b 37 ≡ 37) × (settledBy table-c 0 ≡ 0) × (settledBy table-i 5 ≡ 0)
 unfolding settledBy needed lateAt first round load horizon largest sum count demand jobsIn
 settled-short = (refl, refl, refl)
-
--- The closed formula of the source documents would name 0 to 3 on h: it invents two jobs of task 0 before its first release at 4.
-no-job-before-the-first : (jobsIn (of 4 1 1 2) 0 3 ≡ 0) × (asksTooMuch table-h 0 3 ≡ false)
-unfolding demand jobsIn sum count
-no-job-before-the-first = (refl, refl)
 
 -- A quotient rounded toward zero counts one job by 3 here; there is none by 3, and one by 5.
 rounding : (jobsIn (of 4 1 1 4) 0 3 ≡ 0) × (jobsIn (of 4 1 1 4) 0 5 ≡ 1)

@@ -4,7 +4,7 @@ use mathlib.Core.Path.{_≡_, refl, sym, ap, _∙_}
 use mathlib.Core.Logic.{_⊎_, inl, inr}
 use mathlib.Core.List.{List}
 use mathlib.Core.Bool.{Bool, false, not}
-use Prim.Native.Nat.{ℕ, suc, min, _<_}
+use Prim.Native.Nat.{ℕ, suc, min, _≤_, _<_}
 use borrow.Author.Tests.{eq-eqb}
 use lib.Dec.{eqb}
 use lib.ListN.{length, replicate, length-replicate}
@@ -13,6 +13,7 @@ use Rattle.values.specs.declared.Refusal.{Refusal}
 use Rattle.values.specs.declared.Measure.{Measure}
 use Rattle.values.specs.declared.Judgement.{Judgement}
 use Rattle.values.specs.declared.Admission.{Admission}
+use Rattle.values.specs.declared.Turn.{Turn}
 use Rattle.values.specs.declared.Given.{Given}
 use Rattle.model.specs.Limits.{taskLimit}
 use Rattle.model.specs.Values.{refusal}
@@ -60,12 +61,16 @@ refused-camera-step file buffer done r size h = elim (refused-for file r h) [
 pub refused-camera-state : (file buffer : List ℕ) (done : ℕ) (r : Refusal) → length buffer ≡ stateBytes → formOf file .admission ≡ Admission.Admitted → stepped (formOf file .table) (stateIn buffer) (not (eqb done 0)) .given ≡ Given.Refused r → stepExported file buffer done ≡ refused r buffer
 refused-camera-state file buffer done r size f g = rw (eq-eqb (length buffer) stateBytes size, f, onFile, g)
 
--- A start returns 0 and a step a task or 16, or it refuses by a number above 0 and a place below 65,536 and changes no byte. What
+-- And a state that the dispatcher's own step takes is taken: the owner is returned, and the buffer holds the next state and what was told.
+pub taken-camera-state : (file buffer : List ℕ) (done : ℕ) (u : Turn) → length buffer ≡ stateBytes → formOf file .admission ≡ Admission.Admitted → let s = stepped (formOf file .table) (stateIn buffer) (not (eqb done 0)) in s .given ≡ Given.Slot u → stepExported file buffer done ≡ record { number = u .owner; buffer = bufferOf (s .state) u }
+taken-camera-state file buffer done u size f g = rw (eq-eqb (length buffer) stateBytes size, f, onFile, g)
+
+-- A start returns 0 and a step a task of the table or 16, or it refuses by a number above 0 and a place below 65,536 and changes no byte. What
 -- is returned then tells both (`told-from-number` of Demand1).
 pub start-or-refusal : (file buffer : List ℕ) → let e = startExported file buffer in (e .number ≡ 0) ⊎ ((r : Refusal) × (e ≡ refused r buffer) × ((0 < r .number) × (r .place < 65536)))
 start-or-refusal = start-apart
 
-pub step-or-refusal : (file buffer : List ℕ) (done : ℕ) → let e = stepExported file buffer done in ((e .number ≡ taskLimit) ⊎ (e .number < formOf file .table .count)) ⊎ ((r : Refusal) × (e ≡ refused r buffer) × ((0 < r .number) × (r .place < 65536)))
+pub step-or-refusal : (file buffer : List ℕ) (done : ℕ) → let e = stepExported file buffer done in ((e .number ≤ taskLimit) × ((e .number ≡ taskLimit) ⊎ (e .number < formOf file .table .count))) ⊎ ((r : Refusal) × (e ≡ refused r buffer) × ((0 < r .number) × (r .place < 65536)))
 step-or-refusal = step-apart
 
 -- A camera's loop with a well-formed table's file and any done reports: the start returns 0, and step n returns the owner of

@@ -33,7 +33,7 @@ use Rattle.dispatch.specs.declared.Started.{Started}
 use Rattle.dispatch.specs.declared.Stepped.{Stepped}
 use Rattle.dispatch.specs.State.{stateOf, startedOf, steppedOf, one-started, one-stepped}
 use Rattle.model.specs.Report.{reportOf, Exported, refused, written, outcomeTold, FileTold, Checked, refusalLine, Printed}
-use Rattle.wellformed.specs.Ranges.{InRange}
+use Rattle.wellformed.specs.Ranges.{InRange, Ranged}
 use Rattle.wellformed.specs.Round.{round-pos, period-divides, round-least}
 use Rattle.wellformed.specs.WellFormed.{judged-iff}
 use Rattle.backlog.specs.Answers.{permitted-unique}
@@ -70,26 +70,26 @@ one-step t d done a b e f = one-stepped a b (e ∙ sym f)
 abbrev pub InRanges : Task → Type 0
 InRanges k = (1 ≤ k .period) × (k .period ≤ slotLimit) × (1 ≤ k .deadline) × (k .deadline ≤ k .period) × (1 ≤ k .cost) × (k .cost ≤ k .deadline) × (k .offset ≤ slotLimit)
 
-abbrev pub KeepsLimits : Table → Type 0
-KeepsLimits t = (1 ≤ t .count) × (t .count ≤ taskLimit) × ((i : ℕ) → i < t .count → InRanges (task t i)) × (round t ≤ roundLimit)
+abbrev pub KeepsRanges : Table → Type 0
+KeepsRanges t = (1 ≤ t .count) × (t .count ≤ taskLimit) × ((i : ℕ) → i < t .count → InRanges (task t i))
 
-pub well-formed-exactly : (t : Table) (m : Measure) → (judged t ≡ Judgement.WellFormed m) ↔ (KeepsLimits t × (m ≡ measure t))
-well-formed-exactly t m = (fwd, bwd)
+ranged-of : (t : Table) → KeepsRanges t → Ranged t
+ranged-of t (some, few, each) = record { some = some; few = few; each = λ i l. ranges (each i l) }
   where
-    fwd : judged t ≡ Judgement.WellFormed m → KeepsLimits t × (m ≡ measure t)
+    ranges : {k : Task} → InRanges k → InRange k
+    ranges (a, b, c, d, e, f, g) = record { period-pos = a; period-le = b; deadline-pos = c; deadline-le = d; cost-pos = e; cost-le = f; offset-le = g }
+
+pub well-formed-exactly : (t : Table) (m : Measure) → (judged t ≡ Judgement.WellFormed m) ↔ (KeepsRanges t × (round t ≤ roundLimit) × (m ≡ measure t))
+well-formed-exactly t m = (fwd, λ (keeps, h, same). judged-iff t m .1 (ranged-of t keeps, h, same))
+  where
+    fwd : judged t ≡ Judgement.WellFormed m → KeepsRanges t × (round t ≤ roundLimit) × (m ≡ measure t)
     fwd e =
         let (r, h, same) = judged-iff t m .0 e in
-        ((r .some, r .few, (λ i l. let k = r .each i l in (k .period-pos, k .period-le, k .deadline-pos, k .deadline-le, k .cost-pos, k .cost-le, k .offset-le)), h), same)
+        ((r .some, r .few, λ i l. let k = r .each i l in (k .period-pos, k .period-le, k .deadline-pos, k .deadline-le, k .cost-pos, k .cost-le, k .offset-le)), h, same)
 
-    bwd : KeepsLimits t × (m ≡ measure t) → judged t ≡ Judgement.WellFormed m
-    bwd ((some, few, each, h), same) = judged-iff t m .1 (record { some = some; few = few; each = λ i l. ranges (each i l) }, h, same)
-      where
-        ranges : {k : Task} → InRanges k → InRange k
-        ranges (a, b, c, d, e, f, g) = record { period-pos = a; period-le = b; deadline-pos = c; deadline-le = d; cost-pos = e; cost-le = f; offset-le = g }
-
--- H of such a table is the least number above 0 that each period divides.
-pub round-is-least : (t : Table) (m : Measure) → judged t ≡ Judgement.WellFormed m → (0 < round t) × ((i : ℕ) → i < t .count → task t i .period ∣ round t) × ((x : ℕ) → 0 < x → ((i : ℕ) → i < t .count → task t i .period ∣ x) → round t ≤ x)
-round-is-least t m well = let r = judged-iff t m .0 well .0 in (round-pos t r, period-divides t r, round-least t r)
+-- H of a table that keeps its ranges, refused by 7 or not, is the least number above 0 that each period divides.
+pub round-is-least : (t : Table) → KeepsRanges t → (0 < round t) × ((i : ℕ) → i < t .count → task t i .period ∣ round t) × ((x : ℕ) → 0 < x → ((i : ℕ) → i < t .count → task t i .period ∣ x) → round t ≤ x)
+round-is-least t keeps = let r = ranged-of t keeps in (round-pos t r, period-divides t r, round-least t r)
 
 -- The exact test has one permitted answer to every table and budget.
 pub one-answer : (t : Table) (budget : ℕ) (a b : Answer) → Permitted t budget a → Permitted t budget b → a ≡ b
@@ -177,13 +177,17 @@ some-print input = told-some refusalLine (λ s. s) (loadedFrom input) (loadedFro
 pub whole-input : (input out : List ℕ) → Printed (take (suc longestFile) input) out → Printed input out
 whole-input input out = subst (λ (l : Loaded). FileTold refusalLine (λ s. s) l out (l .admission)) (first-bytes input)
 
--- So no exported call needs more bytes of a file than these.
+-- Neither word that the calls use looks further into a file.
 pub whole-file : (file : List ℕ) → (formOf (take (suc longestFile) file) ≡ formOf file) × (loadedFrom (take (suc longestFile) file) ≡ loadedFrom file)
 whole-file file = (first-form file, first-bytes file)
 
--- A file that is read is as its form has it, and its table is well-formed.
-pub read-well-formed : (file : List ℕ) → loadedFrom file .admission ≡ Admission.Admitted → (loadedFrom file ≡ formOf file) × ((m : Measure) × (judged (formOf file .table) ≡ Judgement.WellFormed m))
-read-well-formed = admitted
+-- A file is read exactly if its form is good and its table well-formed, and is then as its form has it.
+pub read-exactly : (file : List ℕ) → (loadedFrom file .admission ≡ Admission.Admitted) ↔ ((formOf file .admission ≡ Admission.Admitted) × ((m : Measure) × (judged (formOf file .table) ≡ Judgement.WellFormed m)))
+unfolding loadedFrom
+read-exactly file = (λ h. let (same, well) = admitted file h in (ap (λ (l : Loaded). l .admission) (sym same) ∙ h, well), λ (good, (m, well)). rw (good, well) refl)
+
+pub read-as-formed : (file : List ℕ) → loadedFrom file .admission ≡ Admission.Admitted → loadedFrom file ≡ formOf file
+read-as-formed file h = admitted file h .0
 
 -- A refused file leaves the report buffer as it was.
 pub refused-export : (file buffer : List ℕ) (e : Exported) (r : Refusal) → ltb (length buffer) reportBytes ≡ false → loadedFrom file .admission ≡ Admission.Refused r → Checked file buffer e → e ≡ refused r buffer

@@ -33,7 +33,7 @@ TakenStart e = e .number ≡ 0
 
 -- A step that is taken returns a task of the table or 16.
 abbrev TakenStep : Table → Exported → Type 0
-TakenStep t e = (e .number ≡ taskLimit) ⊎ (e .number < t .count)
+TakenStep t e = (e .number ≤ taskLimit) × ((e .number ≡ taskLimit) ⊎ (e .number < t .count))
 
 -- The buffer and the form are looked at first.
 module _ (Taken : Exported → Type 0) (file buffer : List ℕ) (go : Table → Exported) (h : Apart Taken buffer (go (formOf file .table))) where
@@ -60,9 +60,13 @@ start-apart file buffer = file-apart TakenStart file buffer (λ t. startWritten 
     by t (Judgement.WellFormed m) n = inl refl
 
 -- The owner of a slot is a task or none.
-owner-range : (t : Table) (d : State) (done : Bool) → (turn t d done .owner ≡ taskLimit) ⊎ (turn t d done .owner < t .count)
+owner-range : (t : Table) (d : State) (done : Bool) → t .count ≤ taskLimit → let k = turn t d done .owner in (k ≤ taskLimit) × ((k ≡ taskLimit) ⊎ (k < t .count))
 unfolding turn ownerNow
-owner-range t d done = choose-range _ _ _ (t .count)
+owner-range t d done few = go (choose-range _ _ _ (t .count))
+  where
+    go : {k : ℕ} → (k ≡ taskLimit) ⊎ (k < t .count) → (k ≤ taskLimit) × ((k ≡ taskLimit) ⊎ (k < t .count))
+    go (inl e) = (omega arith, inl e)
+    go (inr l) = (omega arith, inr l)
 
 pub step-apart : (file buffer : List ℕ) (done : ℕ) → Apart (TakenStep (formOf file .table)) buffer (stepExported file buffer done)
 unfolding stepped
@@ -80,4 +84,4 @@ step-apart file buffer done =
         go : (a b : Bool) → ltb (firstStrange t d) (t .count) ≡ a → lastStrange t d ≡ b → let s = stepJudged t d report (Judgement.WellFormed m) in Apart (TakenStep t) buffer (stepWritten buffer (s .state) (s .given))
         go true b p q = rw p (inr (record { number = 8; place = firstStrange t d }, refl, (omega arith, omega (arith, few, ltb-true (firstStrange t d) (t .count) p))))
         go false true p q = rw (p, q) (inr (record { number = 8; place = taskLimit }, refl, (omega arith, omega arith)))
-        go false false p q = rw (p, q) (inl (owner-range t d report))
+        go false false p q = rw (p, q) (inl (owner-range t d report few))

@@ -1,8 +1,9 @@
+use mathlib.Core.List.{_++_}
 use native.Mathlib.Omega.{arith}
 use borrow.Author.Needs.{needs}
-use Rattle.model.specs.Notation.{text}
-use Rattle.model.specs.Report.{reportOf}
-use Rattle.counting.specs.Put.{join}
+use Rattle.model.specs.Notation.{text, decimal}
+use Rattle.model.specs.Report.{line, reportOf}
+use Rattle.counting.specs.Put.{Put, join}
 use Rattle.report.specs.Put.{at-front}
 use Rattle.report.proofs.write_report.Statement.{statement}
 use Rattle.report.proofs.write_report.Tie as tie
@@ -58,8 +59,11 @@ returns c =
     let h = v .before .before .before .before in
     let l = h .before .before .before .before .before in
     let t = l .before .before .before .before .before .before in
-    let size = join (join (t .put-line .ensures .0) (l .put-pair .ensures .0)) (h .put-line2 .ensures .0) in
-    let all = join (join (join size (v .put-verdict .ensures .0)) (s .put-line3 .ensures .0)) (d .put-details .ensures .0) in
+    let a = t .before .before .before .before .before .args in
+    let load : Put (line (text "load " ++ decimal (a .answer .measure .load) ++ text "/" ++ decimal (a .answer .measure .round))) _ _ _ _ = l .put-pair .ensures .0 in
+    let settled : Put (line (text "settled " ++ decimal (a .answer .settled))) _ _ _ _ = s .put-line3 .ensures .0 in
+    let size = join (join (t .put-line .ensures .0) load) (h .put-line2 .ensures .0) in
+    let all = join (join (join size (v .put-verdict .ensures .0)) settled) (d .put-details .ensures .0) in
     (at-front all (omega (arith, t)), omega (arith, t))
 
 pub write-report-spec : {M : Type 1} → statement M
