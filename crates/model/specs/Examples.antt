@@ -60,14 +60,15 @@ table-k = tableOf (of 0 1 1 4 ∷ of 1 1 1 4 ∷ of 1 1 1 4 ∷ [])
 abbrev refuse : ℕ → ℕ → Judgement
 refuse n p = Judgement.Refused (refusal n p)
 
--- The numbers 1 to 6 with their places: no task, seventeen tasks, then T, D, C and O of task 1, each before later faults and, but for T = 0, alone.
+-- The numbers 1 to 6 with their places: no task, seventeen tasks, then T, D, C and O of task 1, before later faults and,
+-- but for T = 0 and D = 0, which leave no C in range, alone.
 faulty : Task → Judgement
 faulty k = judged (tableOf (of 0 1 1 1 ∷ k ∷ []))
 
 refusals :
     (judged (tableOf []) ≡ refuse 1 0)
     × (judged (record { count = 17; tasks = replicate taskLimit (of 0 1 1 1) }) ≡ refuse 2 16)
-    × (map faulty (of 0 0 0 0 ∷ of 0 1 1 60001 ∷ of 0 1 0 5 ∷ of 60001 1 6 5 ∷ of 0 1 6 5 ∷ of 0 0 1 5 ∷ of 60001 5 4 5 ∷ of 60001 1 1 5 ∷ []) ≡ refuse 3 1 ∷ refuse 3 1 ∷ refuse 4 1 ∷ refuse 4 1 ∷ refuse 4 1 ∷ refuse 5 1 ∷ refuse 5 1 ∷ refuse 6 1 ∷ [])
+    × (map faulty (of 0 0 0 0 ∷ of 0 1 1 60001 ∷ of 0 1 0 5 ∷ of 60001 1 6 5 ∷ of 0 1 6 5 ∷ of 0 0 1 5 ∷ of 60001 5 4 5 ∷ of 0 5 4 5 ∷ of 60001 1 1 5 ∷ []) ≡ refuse 3 1 ∷ refuse 3 1 ∷ refuse 4 1 ∷ refuse 4 1 ∷ refuse 4 1 ∷ refuse 5 1 ∷ refuse 5 1 ∷ refuse 5 1 ∷ refuse 6 1 ∷ [])
 unfolding faulty judged firstFaulty taskFault first
 refusals = (refl, refl, refl)
 
@@ -103,12 +104,14 @@ inside-ranges : map taskFault (of 0 1 1 1 ∷ of 60000 60000 60000 60000 ∷ [])
 unfolding taskFault
 inside-ranges = refl
 
+-- H, load and horizon: of b and i, of three periods, and of two offsets, of which the largest counts.
 measures :
     (judged table-b ≡ Judgement.WellFormed (record { round = 15; load = 11; horizon = 38 }))
     × (judged table-i ≡ Judgement.WellFormed (record { round = 5; load = 6; horizon = 12 }))
     × (round (tableOf (of 0 1 1 4 ∷ of 0 1 1 6 ∷ of 0 1 1 10 ∷ [])) ≡ 60)
+    × (horizon (tableOf (of 3 1 1 4 ∷ of 2 1 1 6 ∷ [])) ≡ 27)
 unfolding judged firstFaulty taskFault first round load horizon largest sum count
-measures = (refl, refl, refl)
+measures = (refl, refl, refl, refl)
 
 -- ---- the test
 
@@ -137,12 +140,13 @@ verdicts :
 unfolding verdict needed lateStart lateAt first last round load horizon largest sum count demand jobsIn
 verdicts = refl
 
+-- The settled counts.
 settled : map (λ t. settledBy t 1000) tables ≡ 2 ∷ 38 ∷ 15 ∷ 7 ∷ 5 ∷ 1 ∷ 8 ∷ 7 ∷ 0 ∷ 8 ∷ []
 unfolding settledBy needed lateAt first round load horizon largest sum count demand jobsIn
 settled = refl
 
 -- The numbers of the verdicts, and what is told with them.
-said : map verdictSaid (Verdict.Overload ∷ Verdict.Undecided ∷ Verdict.Late 8 15 7 ∷ Verdict.Passes ∷ []) ≡ (1 ∷ []) ∷ (2 ∷ []) ∷ (3 ∷ 8 ∷ 15 ∷ 7 ∷ []) ∷ (4 ∷ []) ∷ []
+said : map verdictSaid (Verdict.Overload ∷ Verdict.Undecided ∷ Verdict.Late 0 7 9 ∷ Verdict.Passes ∷ []) ≡ (1 ∷ []) ∷ (2 ∷ []) ∷ (3 ∷ 0 ∷ 7 ∷ 9 ∷ []) ∷ (4 ∷ []) ∷ []
 said = refl
 
 -- A budget equal to the needed count suffices, and one slot less does not; overload needs none.
@@ -163,8 +167,9 @@ settled-short : (settledBy table-b 37 ≡ 37) × (settledBy table-c 0 ≡ 0) × 
 unfolding settledBy needed lateAt first round load horizon largest sum count demand jobsIn
 settled-short = (refl, refl, refl)
 
--- A quotient rounded toward zero counts one job by 3 here; there is none by 3, and one by 5.
-rounding : (jobsIn (of 4 1 1 4) 0 3 ≡ 0) × (jobsIn (of 4 1 1 4) 0 5 ≡ 1)
+-- A quotient rounded toward zero counts one job by 2 here, where the closed formula is right if it is rounded down; there is none by 2,
+-- and one by 3.
+rounding : (jobsIn (of 2 1 1 4) 0 2 ≡ 0) × (jobsIn (of 2 1 1 4) 0 3 ≡ 1)
 unfolding jobsIn count
 rounding = (refl, refl)
 
@@ -180,7 +185,7 @@ owners : map (owner table-b (tieOrder table-b)) (0 ∷ 1 ∷ 2 ∷ 8 ∷ 9 ∷ 1
 unfolding owner ownerOf served choose
 owners = refl
 
--- The slots of one job, between two instants: job 0 of task 0; job 1 of task 1, which job 0 has none of.
+-- The slots of one job, between two instants: job 0 of task 0; from 5 to 7 job 1 of task 1 has both slots, and job 0 none.
 job-given :
     (map (λ u. given (run table-b (tieOrder table-b)) 0 0 u 15) (8 ∷ 9 ∷ 13 ∷ []) ≡ 5 ∷ 4 ∷ 2 ∷ [])
     × (map (given (run table-b (tieOrder table-b)) 0 0 0) (8 ∷ 14 ∷ 15 ∷ []) ≡ 0 ∷ 4 ∷ 5 ∷ [])
@@ -193,6 +198,7 @@ ties : (map (owner table-g (tieOrder table-g)) (0 ∷ 1 ∷ 2 ∷ 3 ∷ []) ≡ 
 unfolding owner ownerOf served choose
 ties = (refl, refl)
 
+-- The first empty slots.
 empties : map emptyIn (table-a ∷ table-b ∷ table-e ∷ table-g ∷ table-j ∷ []) ≡ Empty.Nowhere ∷ Empty.Slot 2 ∷ Empty.Nowhere ∷ Empty.Nowhere ∷ Empty.Slot 0 ∷ []
 unfolding firstEmpty owner ownerOf served choose first round horizon largest count
 empties = refl
@@ -215,7 +221,7 @@ rowsOfOne : ℕ → List ℕ
 rowsOfOne zero = []
 rowsOfOne (suc n) = rowOf (of 0 1 1 1) ++ rowsOfOne n
 
--- A file is read; of one whose table is refused nothing is kept; the longest legal file has 282 bytes, and its 16 tasks are read.
+-- A file is read; of one whose table is refused nothing is kept; the longest legal file has 282 bytes, and is read.
 abbrev file-of-16 : List ℕ
 file-of-16 = budgetOf 0 ++ rowsOfOne 16 ++ (3 ∷ [])
 
@@ -239,7 +245,7 @@ file-refusals :
     map refusalOf (
     []
     ∷ (9 ∷ []) ∷ (2 ∷ []) ∷ (3 ∷ []) ∷ (1 ∷ 0 ∷ [])
-    ∷ budgetOf 0 ∷ (budgetOf 0 ++ (0 ∷ [])) ∷ (budgetOf 0 ++ (1 ∷ [])) ∷ (budgetOf 0 ++ (2 ∷ 0 ∷ []))
+    ∷ budgetOf 0 ∷ (budgetOf 0 ++ (0 ∷ 1 ∷ [])) ∷ (budgetOf 0 ++ (1 ∷ [])) ∷ (budgetOf 0 ++ (2 ∷ 0 ∷ []))
     ∷ (budgetOf 0 ++ (3 ∷ 9 ∷ [])) ∷ (budgetOf 0 ++ rowOf (of 0 0 0 0) ++ (3 ∷ 3 ∷ [])) ∷ (budgetOf 0 ++ rowOf (of 0 0 0 0) ++ (3 ∷ []))
     ∷ (budgetOf 0 ++ (3 ∷ [])) ∷ (budgetOf 0 ++ rowsOfOne 16 ++ (2 ∷ [])) ∷ (budgetOf 0 ++ rowsOfOne 16) ∷ []
     )
@@ -250,6 +256,12 @@ file-refusals :
     ∷ at 1 0 ∷ at 25 281 ∷ at 26 281 ∷ []
 unfolding loadedFrom formOf readFrom judged firstFaulty taskFault first rowsOfOne
 file-refusals = refl
+
+-- A budget of more than four bytes, and numbers of three and four.
+wide-numbers :
+    (eight (1 ∷ 1 ∷ 2 ∷ 3 ∷ 4 ∷ 5 ∷ 6 ∷ 7 ∷ 8 ∷ []) 1 ≡ 578437695752307201)
+    × (taskIn (2 ∷ 1 ∷ 0 ∷ 0 ∷ 0 ∷ 0 ∷ 1 ∷ 0 ∷ 0 ∷ 0 ∷ 0 ∷ 1 ∷ 0 ∷ 0 ∷ 0 ∷ 0 ∷ 1 ∷ []) 1 ≡ of 1 256 65536 16777216)
+wide-numbers = (refl, refl)
 
 -- ---- the dispatcher
 
@@ -292,8 +304,7 @@ starts :
 unfolding started startOf stepped turn ownerNow choose fill bits firstStrange judged firstFaulty taskFault first round load horizon largest sum count
 starts = (refl, refl, refl)
 
--- Refusal 8 and its places, on a task with O 0, C 2, D 3, T 4 and one with O 9: a wait above O and T; too many slots left;
--- an open job that waits less than T - D, or more than T - 1; a last-run number that is no task.
+-- A task with O 0, C 2, D 3, T 4 and one with O 9.
 abbrev two : Table
 two = tableOf (of 0 2 3 4 ∷ of 9 1 4 4 ∷ [])
 
@@ -313,6 +324,8 @@ no-strangers : state 4 9 0 0 16 ≡ Given.Slot (record { owner = 16; late = 0; c
 unfolding state stepped turn ownerNow choose bits firstStrange judged firstFaulty taskFault first round load horizon largest sum count
 no-strangers = refl
 
+-- Refusal 8 and its places: a wait above O and T; too many slots left;
+-- an open job that waits less than T - D, or more than T - 1; a last-run number that is no task.
 strangers :
     state 5 0 0 0 16 ∷ state 0 10 0 0 16 ∷ state 2 0 3 0 16 ∷ state 0 0 1 0 16 ∷ state 4 0 1 0 16 ∷ state 0 4 0 1 16 ∷ state 0 0 0 0 2 ∷ state 0 0 0 0 17 ∷ []
     ≡ map (λ p. Given.Refused (refusal 8 p)) (0 ∷ 1 ∷ 0 ∷ 0 ∷ 0 ∷ 1 ∷ 16 ∷ 16 ∷ [])
@@ -323,12 +336,13 @@ strangers = refl
 at-deadline :
     (stepped two (record { wait = 1 ∷ 9 ∷ replicate 14 7; left = 1 ∷ 0 ∷ replicate 14 7; last = 0 }) false
     ≡ record { given = Given.Slot (record { owner = 16; late = 1; closed = 1; lowest = 0 }); state = record { wait = 0 ∷ 8 ∷ replicate 14 7; left = 0 ∷ 0 ∷ replicate 14 7; last = 16 } })
-    × (turn two (record { wait = 1 ∷ 9 ∷ replicate 14 7; left = 1 ∷ 0 ∷ replicate 14 7; last = 0 }) true .closed ≡ 0)
+    × (turn two (record { wait = 1 ∷ 9 ∷ replicate 14 0; left = 1 ∷ 0 ∷ replicate 14 7; last = 0 }) true .closed ≡ 0)
 unfolding stepped turn after ownerNow choose fill bits firstStrange judged firstFaulty taskFault first round load horizon largest sum count
 at-deadline = (refl, refl)
 
 -- ---- the report
 
+-- The whole report on b; that on c, which is late.
 report-b :
     reportOf (table-b .count) (record { outcome = Outcome.Tested Verdict.Passes; measure = measure table-b; settled = settledBy table-b 1000; worst = 7 ∷ 2 ∷ replicate 14 0; empty = emptyIn table-b }) (verdict table-b 1000)
     ≡ text "tasks 2\nload 11/15\nhorizon 38\nverdict passes\nsettled 38\nworst 0 7\nworst 1 2\nempty 2\n"
@@ -341,7 +355,7 @@ report-c :
 unfolding reportOf text decimal digits
 report-c = refl
 
--- Overload and undecided have neither; with no empty slot the last line is `empty none`.
+-- Overload and undecided have neither an interval nor worst and empty lines; with no empty slot the last line is `empty none`.
 report-i :
     reportOf 2 (brief (Outcome.Tested Verdict.Overload) (record { round = 5; load = 6; horizon = 12 }) 0) Verdict.Overload
     ≡ text "tasks 2\nload 6/5\nhorizon 12\nverdict overload\nsettled 0\n"
@@ -371,12 +385,6 @@ exported :
 unfolding loadedFrom formOf readFrom
 exported = (refl, refl, refl, refl, refl)
 
--- A budget of more than four bytes, and numbers of three and four.
-wide-numbers :
-    (eight (1 ∷ 1 ∷ 2 ∷ 3 ∷ 4 ∷ 5 ∷ 6 ∷ 7 ∷ 8 ∷ []) 1 ≡ 578437695752307201)
-    × (taskIn (2 ∷ 1 ∷ 0 ∷ 0 ∷ 0 ∷ 0 ∷ 1 ∷ 0 ∷ 0 ∷ 0 ∷ 0 ∷ 1 ∷ 0 ∷ 0 ∷ 0 ∷ 0 ∷ 1 ∷ []) 1 ≡ of 1 256 65536 16777216)
-wide-numbers = (refl, refl)
-
 refusal-line : refusalLine (refusal 21 9) ≡ text "refused 21 at 9\n"
 unfolding text decimal digits
 refusal-line = refl
@@ -394,10 +402,11 @@ layout = refl
 camera-starts :
     (startExported file-b (replicate 144 9) ≡ record { number = 0; buffer = word 8 ++ replicate 124 0 ++ word 16 ++ word 0 ++ word 0 ++ word 16 })
     × (startExported (9 ∷ []) (7 ∷ []) ≡ record { number = 3276801; buffer = 7 ∷ [] })
+    × (startExported (9 ∷ []) (replicate 145 7) ≡ record { number = 3276945; buffer = replicate 145 7 })
     × (startExported (9 ∷ []) (replicate 144 7) ≡ record { number = 1376256; buffer = replicate 144 7 })
     × (startExported (budgetOf 0 ++ (3 ∷ [])) (replicate 144 7) ≡ record { number = 65536; buffer = replicate 144 7 })
 unfolding bufferOf bytesOf started startOf fill formOf readFrom judged firstFaulty taskFault first round load horizon largest sum count
-camera-starts = (refl, refl, refl, refl)
+camera-starts = (refl, refl, refl, refl, refl)
 
 -- g with task 0 done after one slot, as above: a done report is any number but 0.
 abbrev pub file-g : List ℕ

@@ -22,7 +22,7 @@ module _ (t : Table) (done : ℕ → Bool) where
   unfoldable pub had : ℕ → ℕ → ℕ → ℕ
   had i from to = count (λ n. leb from n && eqb (ownerAt n) i) to
 
-  -- Job j of task i is finished by n: before its task's next release it had its whole cost, or was reported done.
+  -- Job j of task i is finished by n: by n, and by its task's next release, it had its whole cost, or was reported done.
   abbrev pub Finished : ℕ → ℕ → ℕ → Type 0
   Finished i j n =
       let from = release (task t i) j in

@@ -42,7 +42,7 @@ reportOf n a v =
     ++ line (text "settled " ++ decimal (a .settled))
     ++ details n a v
 
--- What the exported call does: the number that it returns, and what the buffer then holds.
+-- What an exported call does: the number that it returns, and what the buffer then holds.
 pub record Exported : Type 0 where
   pub number : ℕ
   pub buffer : List ℕ

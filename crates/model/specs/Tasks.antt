@@ -11,7 +11,7 @@ noTask = record { offset = 0; cost = 0; deadline = 0; period = 0 }
 abbrev pub task : Table → ℕ → Task
 task t i = getD (t .tasks) i noTask
 
--- The job j of a task is released here, and must be finished by there.
+-- When job j of a task is released, and by when it must be finished.
 abbrev pub release : Task → ℕ → ℕ
 release k j = k .offset + j * k .period
 

@@ -48,10 +48,11 @@ Answers t budget m a Verdict.Overload = a ≡ brief (Outcome.Tested Verdict.Over
 Answers t budget m a (Verdict.Late from to asked) = a ≡ brief (Outcome.Tested (Verdict.Late from to asked)) m (settledBy t budget)
 Answers t budget m a Verdict.Undecided = a ≡ brief (Outcome.Tested Verdict.Undecided) m (settledBy t budget)
 
--- The one permitted answer to any table and budget, refusals included.
+-- The permitted answer, by what the table is judged to be.
 abbrev pub PermittedBy : Table → ℕ → Answer → Judgement → Type 0
 PermittedBy t budget a (Judgement.Refused r) = a ≡ brief (Outcome.Refused r) (record { round = 0; load = 0; horizon = 0 }) 0
 PermittedBy t budget a (Judgement.WellFormed m) = Answers t budget m a (verdict t budget)
 
+-- The one permitted answer to any table and budget, refusals included.
 unfoldable pub Permitted : Table → ℕ → Answer → Type 0
 Permitted t budget a = PermittedBy t budget a (judged t)
