@@ -5,7 +5,7 @@ use mathlib.Core.List.{List}
 use Prim.Native.Nat.{ℕ, _≤_, _<_}
 use native.Mathlib.Decide.{decLt}
 use native.Mathlib.Omega.{arith}
-use lib.ListN.{getD, length, replicate, length-replicate, getD-replicate, List·getD-eq-default}
+use lib.ListN.{length, replicate, length-replicate}
 use lib.Seq.{ext-getD}
 use Rattle.model.specs.Notation.{fill}
 use Rattle.values.specs.declared.Table.{Table}
@@ -17,7 +17,7 @@ use Rattle.model.specs.Limits.{taskLimit}
 use Rattle.model.specs.Tasks.{round, load, horizon, judged}
 use Rattle.model.specs.Run.{tieOrder, Worst}
 use Rattle.model.specs.Verdict.{needed, verdict, settledBy, Worsts, Answers, PermittedBy, Permitted}
-use Rattle.counting.specs.Fill.{fill-length, fill-passed, fill-ahead}
+use Rattle.counting.specs.Fill.{fill-length, fill-passed, fill-ahead, getD-same}
 use Rattle.wellformed.specs.Ranges.{Ranged}
 use Rattle.backlog.specs.Criterion.{Met}
 use Rattle.backlog.specs.System.{jobs, dues}
@@ -100,12 +100,9 @@ module _ (t : Table) (r : Ranged t) where
           record {
             size = size;
             worst = λ i l. rw (fill-passed (t .count) (λ i. at i (decLt i (t .count))) (replicate taskLimit 0) i 0 l (omega (arith, r .few, length-replicate {A = ℕ} taskLimit 0))) (worst-at i l (decLt i (t .count)));
-            past = λ i l. fill-ahead (t .count) (λ i. at i (decLt i (t .count))) (replicate taskLimit 0) i 0 l ∙ zeros i;
+            past = λ i l. fill-ahead (t .count) (λ i. at i (decLt i (t .count))) (replicate taskLimit 0) i 0 l ∙ getD-same taskLimit 0 i;
           },
         )
-      where
-        zeros : (i : ℕ) → getD {A = ℕ} (replicate taskLimit 0) i 0 ≡ 0
-        zeros i = elim (decLt i taskLimit) [ yes l ↦ getD-replicate taskLimit i 0 0 l | no l ↦ List·getD-eq-default (replicate taskLimit 0) 0 {n = i} (omega (arith, length-replicate {A = ℕ} taskLimit 0)) ]
 
 -- Two lists of worst responses of a table are equal.
 worsts-unique : (t : Table) (v w : List ℕ) → Worsts t v → Worsts t w → v ≡ w

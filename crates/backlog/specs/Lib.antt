@@ -21,9 +21,9 @@ pub mod Necessary
 pub mod Decided
 pub mod Verdicts
 pub mod Answers
+pub mod Taken
 pub mod Stepping
 pub mod StepHistory
-pub mod Taken
 pub mod Walk
 pub mod WalkWorst
 pub mod Computed

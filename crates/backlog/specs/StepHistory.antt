@@ -36,7 +36,8 @@ use Rattle.backlog.specs.RunHistory.{constrained}
 use Rattle.backlog.specs.Worst.{worst-range}
 use Rattle.backlog.specs.TableSystem.{tie-ranks, cycleOf}
 use Rattle.backlog.specs.Answers.{light-of-passed, met-of-passed, worsts-exist}
-use Rattle.backlog.specs.Stepping.{S, Fresh, Kept, finds, late-is, ready-is, left-after, chosen, sound}
+use Rattle.backlog.specs.Taken.{chosen, owner-ready}
+use Rattle.backlog.specs.Stepping.{S, Fresh, Kept, finds, late-is, ready-is, left-next, sound}
 
 module _ (t : Table) (r : Ranged t) (done : ℕ → Bool) where
   abbrev table-system : System
@@ -77,8 +78,8 @@ module _ (t : Table) (r : Ranged t) (done : ℕ → Bool) where
     start = λ i l. nothing i l;
     fresh = λ n i j l e. fresh n i j l e (finds t r done n i (sound t r done n) l);
     kept = λ n i l none. kept n i l none (finds t r done n i (sound t r done n) l);
-    spent = λ n i l. spent n i l (ℕ-discrete (ownerAt t done n) i) (chosen t r done n (sound t r done n));
-    slot = λ n. slot n (chosen t r done n (sound t r done n));
+    spent = λ n i l. spent n i l (ℕ-discrete (ownerAt t done n) i);
+    slot = λ n. slot n (chosen t (stateAt t done n) (done n) (r .few));
   }
     where
       nothing : (i : ℕ) → i < t .count → open' 0 i ≡ 0
@@ -99,13 +100,9 @@ module _ (t : Table) (r : Ranged t) (done : ℕ → Bool) where
         | inr e ↦ inr (e .0, elim (e .1) [ inl x ↦ inl x | inr x ↦ inr (let (p, (j, e, b)) = late-is t r done n i (sound t r done n) l x in (j, e)) ])
       ]
 
-      spent : (n i : ℕ) → i < t .count → Dec (ownerAt t done n ≡ i) → Choice n → ready n i ≡ open' (suc n) i + gave n i
-      spent n i l (no e) c = rw (left-after t r done n (sound t r done n) i l, ne-eqb (ownerAt t done n) i e) (omega arith)
-      spent n i l (yes e) (inl c) = absurd (omega (arith, c .none, r .few))
-      spent n i l (yes e) (inr c) =
-          let p : T (ltb 0 (ready n (ownerAt t done n))) = c .opened in
-          let q : T (ltb 0 (ready n i)) = rw e at p in
-          rw (left-after t r done n (sound t r done n) i l, eq-eqb (ownerAt t done n) i e) (omega tests)
+      spent : (n i : ℕ) → i < t .count → Dec (ownerAt t done n ≡ i) → ready n i ≡ open' (suc n) i + gave n i
+      spent n i l (no e) = rw (left-next t r done n i (sound t r done n) l, ne-eqb (ownerAt t done n) i e) (omega arith)
+      spent n i l (yes e) = rw (left-next t r done n i (sound t r done n) l, eq-eqb (ownerAt t done n) i e) (omega (arith, owner-ready t (stateAt t done n) (done n) (r .few) i l e))
 
       slot : (n : ℕ) → Choice n → ((i : ℕ) → i < t .count → ready n i ≡ 0) ⊎ ((k : ℕ) × (k < t .count) × (0 < ready n k) × ((i : ℕ) → i < t .count → 0 < ready n i → openKey (jobs table-system) (suc n) k ≤ openKey (jobs table-system) (suc n) i) × (gave n k ≡ 1) × ((i : ℕ) → i < t .count → i ≢ k → gave n i ≡ 0))
       slot n (inl c) = inl (λ i l. elim (decLt 0 (ready n i)) [ yes p ↦ absurd (c .shut i l (lt→ltb 0 (ready n i) p)) | no p ↦ omega arith ])

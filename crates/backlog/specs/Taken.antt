@@ -1,21 +1,21 @@
--- A state that belongs to its table, whoever made it, has a successor that belongs to it too: once a step is taken, none is refused.
-use mathlib.Core.Path.{_≡_, refl, _∙_}
-use mathlib.Core.Logic.{inl, inr, _≢_}
+-- ONCE TAKEN, NEVER REFUSED: what a step makes of a state that belongs to its table, whoever made it, and that the successor belongs to it too.
+use mathlib.Core.Path.{_≡_, refl, subst, _∙_}
+use mathlib.Core.Logic.{_⊎_, inl, inr, _≢_, _↔_}
 use mathlib.Core.Bool.{Bool, true, false, cond, _&&_, _||_}
 use Prim.Native.Nat.{ℕ, _-_, _≤_, _<_, max}
 use native.Mathlib.Decide.{ℕ-discrete, decLt}
 use native.Mathlib.Omega.{arith}
 use borrow.Author.Tests.{eq-eqb, ne-eqb, lt-ltb, le-ltb}
-use lib.Dec.{T, ltb, eqb, lt→ltb}
-use lib.ListN.{length}
+use lib.Dec.{T, ltb, eqb, lt→ltb, ltb→lt, eqb→eq}
+use lib.ListN.{length, replicate, length-replicate}
 use Rattle.values.specs.declared.Table.{Table}
 use Rattle.model.specs.Limits.{taskLimit}
 use Rattle.model.specs.Tasks.{task}
 use Rattle.model.specs.Run.{tieOrder}
-use Rattle.model.specs.Dispatcher.{State, waitOf, leftOf, isOpen, strange, firstStrange, lastStrange, leftDone, isLate, leftLate, waitReleased, leftReleased, ownerNow, after}
-use Rattle.counting.specs.Count.{and-iff, eq→eqb}
+use Rattle.model.specs.Dispatcher.{State, waitOf, leftOf, isOpen, strange, firstStrange, lastStrange, startOf, leftDone, isLate, leftLate, waitReleased, leftReleased, ownerNow, after}
+use Rattle.counting.specs.Count.{and-iff, eq→eqb, one-of-iff}
 use Rattle.counting.specs.Search.{first-before, first-none}
-use Rattle.counting.specs.Fill.{fill-passed, fill-length}
+use Rattle.counting.specs.Fill.{fill-passed, fill-length, getD-same}
 use Rattle.wellformed.specs.Ranges.{Ranged}
 use Rattle.backlog.specs.Choice.{Chosen, choose-is}
 
@@ -67,28 +67,41 @@ module _ (t : Table) where
       go (yes p) = rw (le-ltb _ (waitOf d i) (o .wait-le), le-ltb (task t i .cost) (leftOf d i) (o .left-le), le-ltb (waitOf d i) (task t i .period - task t i .deadline) (o .open-from p), le-ltb (task t i .period - 1) (waitOf d i) (o .open-to p), lt-ltb 0 (leftOf d i) p)
       go (no p) = rw (le-ltb _ (waitOf d i) (o .wait-le), le-ltb (task t i .cost) (leftOf d i) (o .left-le), le-ltb 0 (leftOf d i) (omega arith))
 
-  -- A job that is open after the releases, and was not released just now, was open before, and is not at its deadline.
-  kept-open : (d : State) (done : Bool) (i : ℕ) → i < t .count → waitOf d i ≢ 0 → 0 < leftReleased t d done i → (0 < leftOf d i) × (waitOf d i ≢ task t i .period - task t i .deadline)
-  kept-open d done i l w p = go (isLate t d done i) refl (done && eqb (d .last) i) refl (rw (ne-eqb (waitOf d i) 0 w) at p)
-    where
-      go : (a : Bool) → isLate t d done i ≡ a → (b : Bool) → (done && eqb (d .last) i) ≡ b → 0 < leftLate t d done i → (0 < leftOf d i) × (waitOf d i ≢ task t i .period - task t i .deadline)
-      go true e b f q = absurd (omega (arith, let z : leftLate t d done i ≡ 0 = rw e refl in z))
-      go false e true f q = absurd (omega (arith, let z : leftLate t d done i ≡ 0 = rw (e, f) refl in z))
-      go false e false f q =
-          let same : leftLate t d done i ≡ leftOf d i = rw (e, f) refl in
-          let left : leftDone t d done i ≡ leftOf d i = rw f refl in
-          let late : waitOf d i ≡ task t i .period - task t i .deadline → T (isLate t d done i) = λ x. simp and-iff (lt→ltb i (t .count) l, (lt→ltb 0 (leftDone t d done i) (omega arith), eq→eqb (waitOf d i) (task t i .period - task t i .deadline) x)) in
-          (omega arith, λ x. rw e at (late x))
+  module _ (d : State) (done : Bool) (i : ℕ) where
+    -- A job is closed as late exactly if it is open, once a done report is heard, and at its deadline.
+    pub closed-late-iff : T (isLate t d done i) ↔ ((i < t .count) × (0 < leftDone t d done i) × (waitOf d i ≡ task t i .period - task t i .deadline))
+    closed-late-iff = (
+      λ h. let (l, p) = and-iff (ltb i (t .count)) _ .0 h in let (q, e) = and-iff (ltb 0 (leftDone t d done i)) _ .0 p in (ltb→lt _ _ l, ltb→lt _ _ q, eqb→eq _ _ e),
+      λ (l, q, e). simp and-iff (lt→ltb i (t .count) l, (lt→ltb 0 (leftDone t d done i) q, eq→eqb (waitOf d i) (task t i .period - task t i .deadline) e)),
+    )
 
-  -- No job has more slots left than its cost.
-  released-le : (d : State) (done : Bool) (i : ℕ) → Ordinary d i → leftReleased t d done i ≤ task t i .cost
-  released-le d done i o = go (eqb (waitOf d i) 0) (isLate t d done i) (done && eqb (d .last) i)
-    where
-      go : (a b c : Bool) → cond a (task t i .cost) (cond b 0 (cond c 0 (leftOf d i))) ≤ task t i .cost
-      go true b c = omega arith
-      go false true c = omega arith
-      go false false true = omega arith
-      go false false false = o .left-le
+    -- A done report leaves no more slots.
+    pub left-done-le : leftDone t d done i ≤ leftOf d i
+    left-done-le = go (done && eqb (d .last) i)
+      where
+        go : (b : Bool) → cond b 0 (leftOf d i) ≤ leftOf d i
+        go true = omega arith
+        go false = omega arith
+
+    -- Rules 1 and 2 leave the slots of a job as they were, or none: for a report, or as late.
+    abbrev pub KeptOrClosed : ℕ → Type 0
+    KeptOrClosed left = ((left ≡ leftOf d i) × (leftDone t d done i ≡ leftOf d i) × (T (isLate t d done i) → ⊥)) ⊎ ((left ≡ 0) × (T (done && eqb (d .last) i) ⊎ T (isLate t d done i)))
+
+    pub kept-or-closed : KeptOrClosed (leftLate t d done i)
+    kept-or-closed = go (isLate t d done i) refl (done && eqb (d .last) i) refl
+      where
+        go : (a : Bool) → isLate t d done i ≡ a → (b : Bool) → (done && eqb (d .last) i) ≡ b → KeptOrClosed (leftLate t d done i)
+        go true e b f = inr (rw e refl, inr (rw e tt))
+        go false e true f = inr (rw (e, f) refl, inl (rw f tt))
+        go false e false f = inl (rw (e, f) refl, rw f refl, λ h. rw e at h)
+
+    -- A job that is open after the releases, and was not released just now, was open before, and is not at its deadline.
+    kept-open : i < t .count → waitOf d i ≢ 0 → 0 < leftReleased t d done i → (0 < leftOf d i) × (waitOf d i ≢ task t i .period - task t i .deadline)
+    kept-open l w p = go kept-or-closed (rw (ne-eqb (waitOf d i) 0 w) at p)
+      where
+        go : KeptOrClosed (leftLate t d done i) → 0 < leftLate t d done i → (0 < leftOf d i) × (waitOf d i ≢ task t i .period - task t i .deadline)
+        go (inl (e, f, never)) q = (omega arith, λ x. never (closed-late-iff .1 (l, omega arith, x)))
+        go (inr (e, c)) q = absurd (omega arith)
 
   -- A state that the tests of 8 let through, with an entry for each task.
   pub record Belongs (d : State) : Type 0 where
@@ -97,59 +110,103 @@ module _ (t : Table) where
     pub each : t .count ≤ firstStrange t d
     pub ran : lastStrange t d ≡ false
 
-  module _ (r : Ranged t) (d : State) (done : Bool) (b : Belongs d) where
-    known : (i : ℕ) → i < t .count → Ordinary d i
-    unfolding firstStrange
-    known i l = ordinary d i (first-before (strange t d) 0 (t .count) i (omega arith) (omega (arith, b .each)))
+  pub known : (d : State) → Belongs d → (i : ℕ) → i < t .count → Ordinary d i
+  unfolding firstStrange
+  known d b i l = ordinary d i (first-before (strange t d) 0 (t .count) i (omega arith) (omega (arith, b .each)))
 
-    wait-after : (i : ℕ) → i < t .count → waitOf (after t d done) i ≡ waitReleased t d done i - 1
-    unfolding after
-    wait-after i l = fill-passed (t .count) (λ i. waitReleased t d done i - 1) (d .wait) i 0 l (omega (arith, b .waits, r .few))
+  none-strange : (d : State) → ((i : ℕ) → i < t .count → Ordinary d i) → t .count ≤ firstStrange t d
+  unfolding firstStrange
+  none-strange d o = omega (arith, first-none (strange t d) 0 (t .count) (λ i x y h. let e = not-strange d i (o i (omega arith)) in rw e at h))
 
-    left-after : (i : ℕ) → i < t .count → leftOf (after t d done) i ≡ leftReleased t d done i - cond (eqb (ownerNow t d done) i) 1 0
-    unfolding after
-    left-after i l = fill-passed (t .count) (λ i. leftReleased t d done i - cond (eqb (ownerNow t d done) i) 1 0) (d .left) i 0 l (omega (arith, b .lefts, r .few))
+  -- The slot goes to the open job of the earliest deadline.
+  pub chosen : (d : State) (done : Bool) → t .count ≤ taskLimit
+      → Chosen (λ i. ltb 0 (leftReleased t d done i)) (λ i. waitReleased t d done i - (task t i .period - task t i .deadline)) (tieOrder t) (t .count) (ownerNow t d done)
+  unfolding ownerNow
+  chosen d done few = choose-is _ _ _ (t .count) few
 
-    ordinary-after : (i : ℕ) → i < t .count → Ordinary (after t d done) i
-    ordinary-after i l = go (ℕ-discrete (waitOf d i) 0)
-      where
-        left-le : leftOf (after t d done) i ≤ task t i .cost
-        left-le = omega (arith, left-after i l, released-le d done i (known i l))
+  -- A task that it goes to has slots left; there is one, or it goes to none.
+  pub owner-ready : (d : State) (done : Bool) → t .count ≤ taskLimit → (i : ℕ) → i < t .count → ownerNow t d done ≡ i → 0 < leftReleased t d done i
+  owner-ready d done few i l e = elim (chosen d done few) [
+    | inl c ↦ absurd (omega (arith, c .none))
+    | inr c ↦ ltb→lt 0 (leftReleased t d done i) (subst (λ (k : ℕ). T (ltb 0 (leftReleased t d done k))) e (c .opened))
+  ]
 
-        go : Dec (waitOf d i ≡ 0) → Ordinary (after t d done) i
-        go (yes e) =
-            let w : waitReleased t d done i ≡ task t i .period = rw (eq-eqb (waitOf d i) 0 e) in
-            let k = r .each i l in
-            record {
-              wait-le = omega (arith, wait-after i l, w);
-              left-le = left-le;
-              open-from = λ p. omega (arith, wait-after i l, w, k .deadline-pos);
-              open-to = λ p. omega (arith, wait-after i l, w);
-            }
-        go (no e) =
-            let w : waitReleased t d done i ≡ waitOf d i = rw (ne-eqb (waitOf d i) 0 e) in
-            let o = known i l in
-            let was : 0 < leftOf (after t d done) i → (0 < leftOf d i) × (waitOf d i ≢ task t i .period - task t i .deadline) = λ p. kept-open d done i l e (omega (arith, left-after i l)) in
-            record {
-              wait-le = omega (arith, wait-after i l, w, o .wait-le);
-              left-le = left-le;
-              open-from = λ p. let (q, x) = was p in omega (arith, wait-after i l, w, o .open-from q);
-              open-to = λ p. let (q, x) = was p in omega (arith, wait-after i l, w, o .open-to q);
-            }
+  pub owner-one : (d : State) (done : Bool) → t .count ≤ taskLimit → (ownerNow t d done ≡ taskLimit) ⊎ (ownerNow t d done < t .count)
+  owner-one d done few = elim (chosen d done few) [ inl c ↦ inl (c .none) | inr c ↦ inr (c .bound) ]
 
-    chosen : Chosen (λ i. ltb 0 (leftReleased t d done i)) (λ i. waitReleased t d done i - (task t i .period - task t i .deadline)) (tieOrder t) (t .count) (ownerNow t d done)
-    unfolding ownerNow
-    chosen = choose-is _ _ _ (t .count) (r .few)
+  -- At the start no job is open.
+  pub left-start : (i : ℕ) → leftOf (startOf t) i ≡ 0
+  unfolding startOf
+  left-start i = getD-same taskLimit 0 i
 
-    -- ONCE TAKEN, NEVER REFUSED: the successor belongs to the table.
-    pub belongs-after : Belongs (after t d done)
-    unfolding after firstStrange
-    belongs-after = record {
-      waits = fill-length (t .count) _ _ ∙ b .waits;
-      lefts = fill-length (t .count) _ _ ∙ b .lefts;
-      each = omega (arith, first-none (strange t (after t d done)) 0 (t .count) (λ i x y h. let e = not-strange (after t d done) i (ordinary-after i (omega arith)) in rw e at h));
-      ran = elim chosen [
-        | inl c ↦ rw (eq-eqb (ownerNow t d done) taskLimit (c .none))
-        | inr c ↦ (let q : ownerNow t d done ≢ taskLimit = λ e. absurd (omega (arith, r .few, c .bound)) in rw (ne-eqb (ownerNow t d done) taskLimit q, lt-ltb (ownerNow t d done) (t .count) (c .bound)))
-      ];
+  module _ (r : Ranged t) where
+    -- At the start every wait is the offset.
+    pub wait-start : (i : ℕ) → i < t .count → waitOf (startOf t) i ≡ task t i .offset
+    unfolding startOf
+    wait-start i l = fill-passed (t .count) (λ i. task t i .offset) (replicate taskLimit 0) i 0 l (omega (arith, length-replicate {A = ℕ} taskLimit 0, r .few))
+
+    -- A start belongs to its table.
+    pub belongs-start : Belongs (startOf t)
+    unfolding startOf
+    belongs-start = record {
+      waits = fill-length (t .count) _ _ ∙ length-replicate {A = ℕ} taskLimit 0;
+      lefts = length-replicate {A = ℕ} taskLimit 0;
+      each = none-strange (startOf t) (λ i l. record { wait-le = omega (arith, wait-start i l); left-le = omega (arith, left-start i); open-from = λ p. absurd (omega (arith, left-start i)); open-to = λ p. absurd (omega (arith, left-start i)) });
+      ran = refl;
     }
+
+    module _ (d : State) (done : Bool) (b : Belongs d) where
+      -- No job has more slots left than its cost.
+      pub released-le : (i : ℕ) → i < t .count → leftReleased t d done i ≤ task t i .cost
+      released-le i l = go (eqb (waitOf d i) 0) (isLate t d done i) (done && eqb (d .last) i)
+        where
+          go : (a b c : Bool) → cond a (task t i .cost) (cond b 0 (cond c 0 (leftOf d i))) ≤ task t i .cost
+          go true b c = omega arith
+          go false true c = omega arith
+          go false false true = omega arith
+          go false false false = known d b i l .left-le
+
+      pub wait-after : (i : ℕ) → i < t .count → waitOf (after t d done) i ≡ waitReleased t d done i - 1
+      unfolding after
+      wait-after i l = fill-passed (t .count) (λ i. waitReleased t d done i - 1) (d .wait) i 0 l (omega (arith, b .waits, r .few))
+
+      pub left-after : (i : ℕ) → i < t .count → leftOf (after t d done) i ≡ leftReleased t d done i - cond (eqb (ownerNow t d done) i) 1 0
+      unfolding after
+      left-after i l = fill-passed (t .count) (λ i. leftReleased t d done i - cond (eqb (ownerNow t d done) i) 1 0) (d .left) i 0 l (omega (arith, b .lefts, r .few))
+
+      ordinary-after : (i : ℕ) → i < t .count → Ordinary (after t d done) i
+      ordinary-after i l = go (ℕ-discrete (waitOf d i) 0)
+        where
+          left-le : leftOf (after t d done) i ≤ task t i .cost
+          left-le = omega (arith, left-after i l, released-le i l)
+
+          go : Dec (waitOf d i ≡ 0) → Ordinary (after t d done) i
+          go (yes e) =
+              let w : waitReleased t d done i ≡ task t i .period = rw (eq-eqb (waitOf d i) 0 e) in
+              let k = r .each i l in
+              record {
+                wait-le = omega (arith, wait-after i l, w);
+                left-le = left-le;
+                open-from = λ p. omega (arith, wait-after i l, w, k .deadline-pos);
+                open-to = λ p. omega (arith, wait-after i l, w);
+              }
+          go (no e) =
+              let w : waitReleased t d done i ≡ waitOf d i = rw (ne-eqb (waitOf d i) 0 e) in
+              let o = known d b i l in
+              let was : 0 < leftOf (after t d done) i → (0 < leftOf d i) × (waitOf d i ≢ task t i .period - task t i .deadline) = λ p. kept-open d done i l e (omega (arith, left-after i l)) in
+              record {
+                wait-le = omega (arith, wait-after i l, w, o .wait-le);
+                left-le = left-le;
+                open-from = λ p. let (q, x) = was p in omega (arith, wait-after i l, w, o .open-from q);
+                open-to = λ p. let (q, x) = was p in omega (arith, wait-after i l, w, o .open-to q);
+              }
+
+      -- ONCE TAKEN, NEVER REFUSED: the successor belongs to the table.
+      pub belongs-after : Belongs (after t d done)
+      unfolding after
+      belongs-after = record {
+        waits = fill-length (t .count) _ _ ∙ b .waits;
+        lefts = fill-length (t .count) _ _ ∙ b .lefts;
+        each = none-strange (after t d done) ordinary-after;
+        ran = one-of-iff (ownerNow t d done) taskLimit (t .count) .1 (owner-one d done (r .few));
+      }

@@ -15,19 +15,19 @@ use Rattle.model.specs.Schedule.{given}
 use Rattle.model.specs.Run.{tieOrder, owner, run}
 use Rattle.model.specs.Dispatcher.{State, waitOf, leftOf, isLate, waitReleased, leftReleased}
 use Rattle.model.specs.History.{stateAt, ownerAt}
-use Rattle.counting.specs.Count.{and-iff, eq→eqb}
 use Rattle.counting.specs.Below.{below, lt-below, below-bound, below-most, grows-mono}
 use Rattle.wellformed.specs.Ranges.{Ranged}
 use Rattle.backlog.specs.Left.{served-mono}
 use Rattle.backlog.specs.System.{System, releaseOf, dueOf, jobs}
-use Rattle.backlog.specs.Choice.{NoLater, Chosen, chosen-same}
+use Rattle.backlog.specs.Choice.{NoLater, chosen-same}
 use Rattle.backlog.specs.ModelRun.{servedOf, ready-iff, model-run, owner-served, others-served}
 use Rattle.backlog.specs.ModelRun as run-of
 use Rattle.backlog.specs.RunSchedule.{done-iff}
 use Rattle.backlog.specs.TableSystem.{tie-ranks, systemOf}
 use Rattle.backlog.specs.Decided.{Missed, missed-iff}
 use Rattle.backlog.specs.StepHistory.{step-history}
-use Rattle.backlog.specs.Stepping.{Fresh, Kept, finds, late-is, ready-le, ready-is, left-after, chosen, sound}
+use Rattle.backlog.specs.Taken.{closed-late-iff, chosen, owner-ready, released-le}
+use Rattle.backlog.specs.Stepping.{Fresh, Kept, finds, late-is, ready-is, left-next, sound}
 
 -- No done report, ever.
 abbrev pub quiet : ℕ → Bool
@@ -66,10 +66,6 @@ module _ (t : Table) (r : Ranged t) where
         | no x ↦ omega arith
       ]
 
-  -- An open job at its deadline is closed as late.
-  late-test : (i n : ℕ) → i < t .count → 0 < leftOf (st n) i → waitOf (st n) i ≡ task t i .period - task t i .deadline → T (isLate t (st n) false i)
-  late-test i n l p e = simp and-iff (lt→ltb i (t .count) l, (lt→ltb 0 (leftOf (st n) i) p, eq→eqb (waitOf (st n) i) (task t i .period - task t i .deadline) e))
-
   -- So after the releases of slot n, too.
   pub ready-agrees : (n : ℕ) → Agrees n → (T (lateAt t n) → ⊥) → (i : ℕ) → i < t .count → ready n i + servedOf S n i ≡ task t i .cost * rel i (suc n)
   ready-agrees n a never i l = go (finds t r quiet n i (sound t r quiet n) l)
@@ -89,7 +85,7 @@ module _ (t : Table) (r : Ranged t) where
               let (k, b, d) = sound t r quiet n .current i l p in
               let e : releaseOf S i (suc k) ≡ n = ap (releaseOf S i) (sym b ∙ f .earlier) ∙ f .now in
               let w : waitOf (st n) i + n ≡ releaseOf S i (suc k) = sound t r quiet n .next i l ∙ ap (releaseOf S i) b in
-              absurd (never (late-missed n a i l (late-test i n l p (omega (arith, r .each i l .deadline-le)))))
+              absurd (never (late-missed n a i l (closed-late-iff t (st n) false i .1 (l, p, omega (arith, r .each i l .deadline-le)))))
 
       go : ((j : ℕ) × Fresh t r quiet n i j) ⊎ Kept t r quiet n i → ready n i + servedOf S n i ≡ task t i .cost * rel i (suc n)
       go (inl (j, f)) = fresh j f
@@ -100,7 +96,7 @@ module _ (t : Table) (r : Ranged t) where
       → dueOf S i (servedOf S n i / task t i .cost) ≡ n + (waitReleased t (st n) false i - (task t i .period - task t i .deadline))
   at-job n a never i l p =
       let (j, b, e, d) = ready-is t r quiet n i (sound t r quiet n) l p in
-      let q : servedOf S n i / task t i .cost ≡ j = div-eq-of-lt-le (task t i .cost) (omega (arith, ready-agrees n a never i l, ready-le t r quiet n i (sound t r quiet n) l, ap (λ (y : ℕ). task t i .cost * y) b)) (omega (arith, ready-agrees n a never i l, ap (λ (y : ℕ). task t i .cost * y) b)) in
+      let q : servedOf S n i / task t i .cost ≡ j = div-eq-of-lt-le (task t i .cost) (omega (arith, ready-agrees n a never i l, released-le t r (st n) false (sound t r quiet n .belongs) i l, ap (λ (y : ℕ). task t i .cost * y) b)) (omega (arith, ready-agrees n a never i l, ap (λ (y : ℕ). task t i .cost * y) b)) in
       ap (dueOf S i) q ∙ e
 
   -- The dispatcher gives the slot to the task that the run gives it to.
@@ -111,7 +107,7 @@ module _ (t : Table) (r : Ranged t) where
       (λ i l p. ready-iff S i n (servedOf S n i) l .1 (omega (arith, ready-agrees n a never i l, ltb→lt 0 (ready n i) p)))
       (λ i l p. lt→ltb 0 (ready n i) (omega (arith, ready-agrees n a never i l, ready-iff S i n (servedOf S n i) l .0 p)))
       (λ i k l m p q x. alike i k (at-job n a never i l (ltb→lt 0 (ready n i) p)) (at-job n a never k m (ltb→lt 0 (ready n k) q)) x)
-      (chosen t r quiet n (sound t r quiet n))
+      (chosen t (st n) false (r .few))
       (run-of.chosen S n)
     where
       alike : (i k : ℕ) → dueOf S i (servedOf S n i / task t i .cost) ≡ n + (waitReleased t (st n) false i - (task t i .period - task t i .deadline))
@@ -132,26 +128,22 @@ module _ (t : Table) (r : Ranged t) where
       step a never = at (ℕ-discrete (ownerAt t quiet n) i) (owner-agrees n a never)
         where
           left-now : leftOf (st (suc n)) i ≡ ready n i - cond (eqb (ownerAt t quiet n) i) 1 0
-          left-now = left-after t r quiet n (sound t r quiet n) i l
+          left-now = left-next t r quiet n i (sound t r quiet n) l
 
           at : Dec (ownerAt t quiet n ≡ i) → ownerAt t quiet n ≡ owner t (tieOrder t) n → leftOf (st (suc n)) i + servedOf S (suc n) i ≡ task t i .cost * rel i (suc n)
           at (no e) q = rw (left-now, ne-eqb (ownerAt t quiet n) i e, others-served S n i (λ x. e (q ∙ sym x))) (omega (arith, ready-agrees n a never i l))
           at (yes e) q =
               let o : owner t (tieOrder t) n ≡ i = sym q ∙ e in
-              let p : 0 < ready n i = serves (chosen t r quiet n (sound t r quiet n)) e in
+              let p : 0 < ready n i = owner-ready t (st n) false (r .few) i l e in
               let one : servedOf S (suc n) i ≡ servedOf S n i + 1 = rw o at (owner-served S n (omega arith)) in
               rw (left-now, eq-eqb (ownerAt t quiet n) i e, one) (omega (arith, ready-agrees n a never i l))
-            where
-              serves : Chosen (λ k. ltb 0 (ready n k)) (λ k. waitReleased t (st n) false k - (task t k .period - task t k .deadline)) (tieOrder t) (t .count) (ownerAt t quiet n) → ownerAt t quiet n ≡ i → 0 < ready n i
-              serves (inl x) e = absurd (omega (arith, x .none, r .few))
-              serves (inr x) e = let y : T (ltb 0 (ready n i)) = rw e at (x .opened) in ltb→lt 0 (ready n i) y
 
   -- THE FIRST LATE DEADLINE: with none before n, some open job is at its deadline at n exactly if n is late.
   pub late-iff : (n : ℕ) → Clear t n → ((i : ℕ) × (i < t .count) × T (isLate t (st n) false i)) ↔ T (lateAt t n)
   late-iff n c = (λ (i, l, h). late-missed n (agrees n c) i l h, λ h. seen (missed-iff S n .1 h))
     where
       seen : Missed S n → (i : ℕ) × (i < t .count) × T (isLate t (st n) false i)
-      seen (i, j, l, d, g) = (i, l, late-test i n l some at-end)
+      seen (i, j, l, d, g) = (i, l, closed-late-iff t (st n) false i .1 (l, some, at-end))
         where
           served-less : servedOf S n i < task t i .cost * suc j
           served-less = elim (decLe (task t i .cost * suc j) (servedOf S n i)) [ yes p ↦ absurd (omega (arith, done-iff S i j n l .1 p)) | no p ↦ omega arith ]

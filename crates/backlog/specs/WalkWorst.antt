@@ -8,7 +8,7 @@ use native.Mathlib.Nat.{le-refl, le-step, mul-le-mul-left, le-of-dvd}
 use native.Mathlib.Decide.{ℕ-discrete, decLt, decLe}
 use native.Mathlib.Omega.{arith}
 use lib.Dec.{T, ltb, eqb, ltb→lt, lt→ltb, eqb→eq}
-use lib.ListN.{getD, length, set, replicate, length-replicate, getD-replicate, length-set, List·getD-eq-default}
+use lib.ListN.{getD, length, set, replicate, length-replicate, length-set}
 use lib.Seq.{getD-set-same, getD-set-other}
 use Rattle.values.specs.declared.Table.{Table}
 use Rattle.model.specs.Notation.{first, largest}
@@ -16,23 +16,24 @@ use Rattle.model.specs.Limits.{taskLimit}
 use Rattle.model.specs.Tasks.{task, horizon, round}
 use Rattle.model.specs.Run.{tieOrder, owner, Finishes, Worst, firstEmpty}
 use Rattle.model.specs.Verdict.{Worsts}
-use Rattle.model.specs.Dispatcher.{State, waitOf, leftOf, waitReleased}
+use Rattle.model.specs.Dispatcher.{State, waitOf, leftOf}
 use Rattle.model.specs.History.{stateAt, ownerAt}
 use Rattle.counting.specs.Count.{and-iff, eq→eqb}
 use Rattle.counting.specs.Search.{first-eq, le-largest}
+use Rattle.counting.specs.Fill.{getD-same}
 use Rattle.wellformed.specs.Round.{round-pos, period-divides}
 use Rattle.counting.specs.Below.{below, lt-below}
 use Rattle.wellformed.specs.Ranges.{Ranged}
 use Rattle.backlog.specs.Left.{DoneFirst, served-mono}
 use Rattle.backlog.specs.Criterion.{Met}
 use Rattle.backlog.specs.System.{System, releaseOf, dueOf, jobs, dues}
-use Rattle.backlog.specs.Choice.{Chosen}
 use Rattle.backlog.specs.ModelRun.{servedOf, model-run, owner-served, others-served}
 use Rattle.backlog.specs.RunSchedule.{finishes-iff}
 use Rattle.backlog.specs.Shift.{Light}
 use Rattle.backlog.specs.Worst.{ends, worst-is}
 use Rattle.backlog.specs.TableSystem.{tie-ranks, systemOf, cycleOf, horizon-is}
-use Rattle.backlog.specs.Stepping.{ready-le, ready-is, chosen, sound}
+use Rattle.backlog.specs.Taken.{owner-ready, released-le}
+use Rattle.backlog.specs.Stepping.{ready-is, sound}
 use Rattle.backlog.specs.Walk.{quiet, Clear, Agrees, ready, agrees, ready-agrees, owner-agrees}
 
 -- Slot n finishes the job that it is given to.
@@ -83,7 +84,7 @@ module _ (t : Table) (r : Ranged t) where
   serves : (n : ℕ) → Clear t (suc n) → (k : ℕ) → owner-at n ≡ k → k < t .count → Served n k
   serves n c k e l =
       let a : Agrees t r n = agrees t r n (λ u m. c u (le-step m)) in
-      let p : 0 < ready t r n k = open-owner (chosen t r quiet n (sound t r quiet n)) in
+      let p : 0 < ready t r n k = owner-ready t (st n) false (r .few) k l e in
       let (j, b, d, f) = ready-is t r quiet n k (sound t r quiet n) l p in
       let o : owner t (tieOrder t) n ≡ k = sym (owner-agrees t r n a (c n (le-refl (suc n)))) ∙ e in
       record {
@@ -91,16 +92,12 @@ module _ (t : Table) (r : Ranged t) where
         last = b;
         early = omega (arith, lt-below (releaseOf S k) ((jobs S) .rel-grows k l) (suc n) j .0 (omega arith));
         waits = ready-agrees t r n a (c n (le-refl (suc n))) k l ∙ ap (λ (y : ℕ). task t k .cost * y) b;
-        most = ready-le t r quiet n k (sound t r quiet n) l;
+        most = released-le t r (st n) false (sound t r quiet n .belongs) k l;
         some = p;
         one = rw o at (owner-served S n (omega arith));
         left = agrees t r (suc n) c k l ∙ ap (λ (y : ℕ). task t k .cost * y) b;
         wait = sound t r quiet (suc n) .next k l ∙ ap (releaseOf S k) b;
       }
-    where
-      open-owner : Chosen (λ i. ltb 0 (ready t r n i)) (λ i. waitReleased t (st n) false i - (task t i .period - task t i .deadline)) (tieOrder t) (t .count) (owner-at n) → 0 < ready t r n k
-      open-owner (inl x) = absurd (omega (arith, x .none, r .few))
-      open-owner (inr x) = let y : T (ltb 0 (ready t r n k)) = rw e at (x .opened) in ltb→lt 0 (ready t r n k) y
 
   -- The job that slot n finishes, and its response.
   finished : (n : ℕ) → Clear t (suc n) → (k : ℕ) → owner-at n ≡ k → k < t .count → leftOf (st (suc n)) k ≡ 0
@@ -157,7 +154,7 @@ module _ (t : Table) (r : Ranged t) where
 
   none-noted : (i : ℕ) → i < t .count → getD (worstBy t 0) i 0 ≡ 0
   unfolding worstBy
-  none-noted i l = getD-replicate taskLimit i 0 0 (omega (arith, r .few))
+  none-noted i l = getD-same taskLimit 0 i
 
   pub seen : (n : ℕ) → Clear t n → (i : ℕ) → i < t .count → Seen n i
   seen zero c i l = record { bound = λ j f d m. (let z : servedOf S f i ≡ 0 = ap (λ (x : ℕ). servedOf S x i) (nought f m) ∙ (model-run S) .start i l in absurd (omega (arith, d .0, r .each i l .cost-pos))); attained = inl (none-noted i l) }
@@ -191,7 +188,7 @@ module _ (t : Table) (r : Ranged t) where
   -- Past the last task nothing is noted.
   none-past : (n i : ℕ) → t .count ≤ i → getD (worstBy t n) i 0 ≡ 0
   unfolding worstBy
-  none-past zero i l = elim (decLt i taskLimit) [ yes m ↦ getD-replicate taskLimit i 0 0 m | no m ↦ List·getD-eq-default (replicate taskLimit 0) 0 {n = i} (omega (arith, length-replicate {A = ℕ} taskLimit 0)) ]
+  none-past zero i l = getD-same taskLimit 0 i
   none-past (suc n) i l = go (finishing t n) refl (none-past n i l)
     where
       go : (b : Bool) → finishing t n ≡ b → getD (worstBy t n) i 0 ≡ 0 → getD (worstBy t (suc n)) i 0 ≡ 0

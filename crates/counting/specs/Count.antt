@@ -1,11 +1,12 @@
 -- Laws of tests and of counts.
 use mathlib.Core.Path.{_≡_, refl}
-use mathlib.Core.Logic.{_↔_}
-use mathlib.Core.Bool.{Bool, true, false, _&&_}
+use mathlib.Core.Logic.{_⊎_, inl, inr, _↔_}
+use mathlib.Core.Bool.{Bool, true, false, not, _&&_, _||_}
 use Prim.Native.Nat.{ℕ, zero, suc, _+_, _-_, min, _≤_, _<_, zero-le}
 use native.Mathlib.Decide.{ℕ-discrete, decLe, decLt, le-ind}
 use native.Mathlib.Omega.{arith}
-use lib.Dec.{T, leb→le, le→leb, ltb→lt, lt→ltb, eqb→eq, eqb, eqb-refl}
+use borrow.Author.Tests.{eq-eqb, lt-ltb, eqb-true, ltb-true}
+use lib.Dec.{T, ltb, leb→le, le→leb, ltb→lt, lt→ltb, eqb→eq, eqb, eqb-refl}
 use Rattle.model.specs.Notation.{bit, count, some, every}
 
 -- How `omega` reads a test among the facts, and proves one.
@@ -33,6 +34,19 @@ decT false = no (λ x. x)
 -- Equal numbers pass the test for it.
 pub eq→eqb : (m n : ℕ) → m ≡ n → T (eqb m n)
 eq→eqb m n e = rw e (eqb-refl n)
+
+-- A number is x, or lies below n, exactly if the test for neither fails.
+pub one-of-iff : (m x n : ℕ) → (not (eqb m x || ltb m n) ≡ false) ↔ ((m ≡ x) ⊎ (m < n))
+one-of-iff m x n = (λ e. seen (eqb m x) (ltb m n) refl refl e, λ h. elim h [ inl e ↦ rw (eq-eqb m x e) | inr l ↦ rw (lt-ltb m n l) (either (eqb m x)) ])
+  where
+    seen : (a b : Bool) → eqb m x ≡ a → ltb m n ≡ b → not (a || b) ≡ false → (m ≡ x) ⊎ (m < n)
+    seen true b p q e = inl (eqb-true m x p)
+    seen false true p q e = inr (ltb-true m n q)
+    seen false false p q e = let z : _≡_ {A = ℕ} 0 1 = cc in absurd (omega arith)
+
+    either : (a : Bool) → not (a || true) ≡ false
+    either true = refl
+    either false = refl
 
 -- What a test counts: 1 where it holds, and else 0.
 pub bit-yes : (p : Bool) → T p → bit p ≡ 1

@@ -7,7 +7,7 @@ use native.Mathlib.Nat.{le-antisymm, le-refl, le-step}
 use native.Mathlib.Decide.{ℕ-discrete, decLt}
 use native.Mathlib.Numerals.{add-one}
 use native.Mathlib.Omega.{arith}
-use lib.ListN.{length, getD, set, length-set}
+use lib.ListN.{length, getD, set, replicate, length-set, length-replicate, getD-replicate, List·getD-eq-default}
 use lib.Seq.{set-getD, set-set, set-comm, getD-set-same, getD-set-other, ext-getD}
 use Rattle.model.specs.Notation.{fill}
 
@@ -16,6 +16,13 @@ pub at-end {ℓ} : {A : Type ℓ} (f : ℕ → A) {r : A} (i n : ℕ) → i ≤ 
 at-end f i n a b e = e ∙ ap f (le-antisymm a b)
 
 module _ {A : Type 0} where
+  -- A list of one value has no other, past its end too, if that is what stands for an entry there.
+  pub getD-same : (n : ℕ) (x : A) (i : ℕ) → getD (replicate n x) i x ≡ x
+  getD-same n x i = elim (decLt i n) [
+    | yes l ↦ getD-replicate n i x x l
+    | no l ↦ List·getD-eq-default (replicate n x) x {n = i} (omega (arith, length-replicate n x))
+  ]
+
   -- A loop's start: no entry is replaced.
   pub fill-none : (f : ℕ → A) (w : List A) → w ≡ fill 0 f w
   unfolding fill

@@ -1,12 +1,12 @@
 -- When a state belongs to a table: the model's tests, at the numbers of one task.
-use mathlib.Core.Path.{_≡_, refl}
-use mathlib.Core.Logic.{_⊎_, inl, inr}
-use mathlib.Core.Bool.{Bool, true, false, not, _&&_, _||_}
+use mathlib.Core.Path.{_≡_}
+use mathlib.Core.Logic.{_⊎_}
+use mathlib.Core.Bool.{Bool, not, _&&_, _||_}
 use Prim.Native.Nat.{ℕ, _-_, max, _≤_, _<_}
 use native.Mathlib.Decide.{decLt}
 use native.Mathlib.Omega.{arith}
-use borrow.Author.Tests.{lt-ltb, le-ltb, le-leb, lt-leb, ltb-true, eqb-true}
-use lib.Dec.{leb, ltb, eqb}
+use borrow.Author.Tests.{lt-ltb, le-ltb, le-leb, lt-leb}
+use lib.Dec.{leb, ltb}
 use Rattle.values.specs.declared.Task.{Task}
 use Rattle.values.specs.declared.Table.{Table}
 use Rattle.model.specs.Limits.{taskLimit}
@@ -33,15 +33,6 @@ pub at-least : (n x : ℕ) → leb n x ≡ not (ltb x n)
 at-least n x = elim (decLt x n) [ yes p ↦ rw (lt-leb n x p, lt-ltb x n p) | no p ↦ rw (le-leb n x (omega arith), le-ltb x n (omega arith)) ]
 
 -- What a step that nothing refuses may assume.
-pub record Belongs (t : Table) (d : State) : Type 0 where
+pub record Unrefused (t : Table) (d : State) : Type 0 where
   pub few : t .count ≤ taskLimit
   pub ran : (d .last ≡ taskLimit) ⊎ (d .last < t .count)
-
--- A last-run number that the model's test lets through.
-pub ran-of : (last n : ℕ) → not (eqb last taskLimit || ltb last n) ≡ false → (last ≡ taskLimit) ⊎ (last < n)
-ran-of last n e = go (eqb last taskLimit) (ltb last n) refl refl e
-  where
-    go : (a b : Bool) → eqb last taskLimit ≡ a → ltb last n ≡ b → not (a || b) ≡ false → (last ≡ taskLimit) ⊎ (last < n)
-    go true b p q e = inl (eqb-true last taskLimit p)
-    go false true p q e = inr (ltb-true last n q)
-    go false false p q e = let z : _≡_ {A = ℕ} 0 1 = cc in absurd (omega arith)

@@ -8,7 +8,7 @@ ghost use Rattle.model.specs.Values.{refusal};
 ghost use Rattle.model.specs.Dispatcher.{firstStrange, refuseStep, started, stepped};
 ghost use Rattle.slots.specs.Slot.{closed};
 ghost use Rattle.dispatch.specs.State.{stateOf, startedOf, steppedOf};
-ghost use Rattle.dispatch.specs.Strange.{strangeAt, Belongs};
+ghost use Rattle.dispatch.specs.Strange.{strangeAt, Unrefused};
 ghost use Rattle.dispatch.specs.Step.{taken, stepWellFormed, turnOf};
 use slots::NO_TASK;
 use slots::Numbers;
@@ -150,7 +150,7 @@ fn last_strange(last: u32, n: usize) -> bool
 
 // The four rules of a step that nothing refuses.
 fn step_taken(d: Dispatcher, t: Table, done: bool) -> Stepped
-    requires { ⌜ Belongs t (stateOf d) ⌝ }
+    requires { ⌜ Unrefused t (stateOf d) ⌝ }
     ensures { λ r. ⌜ steppedOf r ≡ taken t (stateOf d) done ⌝ }
 {
     let n = t.count;

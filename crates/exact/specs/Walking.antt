@@ -31,7 +31,7 @@ use Rattle.wellformed.specs.WellFormed.{WellFormed, well-formed}
 use Rattle.backlog.specs.Decided.{too-much-iff}
 use Rattle.backlog.specs.Verdicts.{needed-is, needed-le, none-late, start-is, is-undecided, is-late, is-passed}
 use Rattle.backlog.specs.Answers.{light-of-passed, met-of-passed}
-use Rattle.backlog.specs.Stepping.{sound}
+use Rattle.backlog.specs.Taken.{owner-one}
 use Rattle.backlog.specs.Walk.{quiet, Clear, late-iff}
 use Rattle.backlog.specs.WalkWorst.{worstBy, walk-worsts, walk-empty}
 use Rattle.slots.specs.Slot as slot
@@ -106,8 +106,7 @@ module _ (t : Table) (r : Ranged t) (n : ℕ) where
 
     -- Its owner is a task or none.
     owner-range : (owner ≡ taskLimit) ⊎ (owner < t .count)
-    unfolding stateAt after
-    owner-range = rw owner-is (sound t r quiet (suc n) .ran)
+    owner-range = rw owner-is (owner-one t st false (r .few))
 
     worst-next : notedOf (worstBy t n) owner (columnsOf t .period) wait′ left′ ≡ worstBy t (suc n)
     unfolding worstBy columnsOf

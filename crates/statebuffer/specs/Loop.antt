@@ -14,38 +14,41 @@ use Rattle.values.specs.declared.Measure.{Measure}
 use Rattle.values.specs.declared.Judgement.{Judgement}
 use Rattle.values.specs.declared.Admission.{Admission}
 use Rattle.values.specs.declared.Turn.{Turn}
+use Rattle.model.specs.Limits.{taskLimit}
 use Rattle.model.specs.Tasks.{judged}
 use Rattle.model.specs.TableFile.{formOf}
 use Rattle.model.specs.Dispatcher.{started, stepped, turn}
 use Rattle.model.specs.History.{stateAt, ownerAt}
 use Rattle.model.specs.Report.{Exported}
 use Rattle.model.specs.StateBuffer.{stateBytes, bufferOf, stateIn, quiet, startWritten, stepWritten, onFile, startExported, stepExported, handed}
+use Rattle.counting.specs.Count.{one-of-iff}
 use Rattle.wellformed.specs.Ranges.{Ranged}
 use Rattle.wellformed.specs.WellFormed.{well-formed}
-use Rattle.backlog.specs.Stepping.{sound, wait-le, past-none, never-refused}
+use Rattle.backlog.specs.Taken.{known}
+use Rattle.backlog.specs.Stepping.{sound, past-none, never-refused}
 use Rattle.statebuffer.specs.RoundTrip.{wordLimit, Fits, state-back, buffer-size}
 
 -- Every state of a history fits its buffer.
 module _ (t : Table) (r : Ranged t) (done : ℕ → Bool) where
   wait-small : (n i : ℕ) → getD (stateAt t done n .wait) i 0 < wordLimit
   wait-small n i = elim (decLt i (t .count)) [
-    | yes l ↦ omega (arith, wait-le t r done n i (sound t r done n) l, r .each i l .offset-le, r .each i l .period-le)
+    | yes l ↦ omega (arith, known t (stateAt t done n) (sound t r done n .belongs) i l .wait-le, r .each i l .offset-le, r .each i l .period-le)
     | no l ↦ omega (arith, past-none t r done n i (omega arith) .0)
   ]
 
   left-small : (n i : ℕ) → getD (stateAt t done n .left) i 0 < wordLimit
   left-small n i = elim (decLt i (t .count)) [
-    | yes l ↦ omega (arith, sound t r done n .at-most i l, r .each i l .cost-le, r .each i l .deadline-le, r .each i l .period-le)
+    | yes l ↦ omega (arith, known t (stateAt t done n) (sound t r done n .belongs) i l .left-le, r .each i l .cost-le, r .each i l .deadline-le, r .each i l .period-le)
     | no l ↦ omega (arith, past-none t r done n i (omega arith) .1)
   ]
 
   last-small : (n : ℕ) → stateAt t done n .last < wordLimit
-  last-small n = elim (sound t r done n .ran) [ inl e ↦ omega arith | inr l ↦ omega (arith, r .few) ]
+  last-small n = elim (one-of-iff (stateAt t done n .last) taskLimit (t .count) .0 (sound t r done n .belongs .ran)) [ inl e ↦ omega arith | inr l ↦ omega (arith, r .few) ]
 
   fits : (n : ℕ) → Fits (stateAt t done n)
   fits n = record {
-    waits = sound t r done n .waits;
-    lefts = sound t r done n .lefts;
+    waits = sound t r done n .belongs .waits;
+    lefts = sound t r done n .belongs .lefts;
     wait-fits = λ i l. wait-small n i;
     left-fits = λ i l. left-small n i;
     last-fits = last-small n;

@@ -2,7 +2,8 @@
 use mathlib.Core.Path.{sym, _∙_}
 use borrow.Author.Tests.{lt-ltb, le-ltb}
 use borrow.Author.Needs.{needs}
-use Rattle.dispatch.specs.Strange.{ran-of}
+use Rattle.model.specs.Limits.{taskLimit}
+use Rattle.counting.specs.Count.{one-of-iff}
 use Rattle.dispatch.proofs.step_well_formed.Statement.{statement}
 use Rattle.dispatch.proofs.step_well_formed.Tie as tie
 
@@ -33,7 +34,7 @@ returns-2 c = let l = c .before .before in
 step-taken-requires : tie.Need-step-taken-requires
 step-taken-requires c κs = let l = c .before in
     let s = l .before .before .before in
-    record { few = s .before .pre; ran = ran-of (s .before .args .d .last) (s .before .args .t .count) (sym (l .last-strange .ensures) ∙ c .if2 .left) }
+    record { few = s .before .pre; ran = one-of-iff (s .before .args .d .last) taskLimit (s .before .args .t .count) .0 (sym (l .last-strange .ensures) ∙ c .if2 .left) }
 
 returns-3 : tie.Need-returns-3
 returns-3 c = let l = c .before .before in
