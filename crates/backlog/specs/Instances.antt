@@ -1,20 +1,21 @@
 -- No theorem here is empty: what they ask for is met by tables of document 01.
 use mathlib.Core.Path.{_≡_, refl}
-use mathlib.Core.List.{List}
-use mathlib.Core.Bool.{Bool}
+use mathlib.Core.Logic.{inr}
+use mathlib.Core.List.{List, _∷_}
+use mathlib.Core.Bool.{Bool, false, true}
 use Prim.Native.Nat.{ℕ, suc, _+_, _-_, _≤_, _<_}
 use native.Mathlib.Omega.{arith}
-use lib.ListN.{getD}
-use lib.Dec.{lit≤, lit<, eqb}
+use lib.ListN.{getD, replicate}
+use lib.Dec.{T, lit≤, lit<, eqb}
 use Rattle.model.specs.Notation.{sum, largest, count, first, last, fill, Least}
 use Rattle.values.specs.declared.Verdict.{Verdict}
 use Rattle.values.specs.declared.Given.{Given}
 use Rattle.model.specs.Limits.{taskLimit}
-use Rattle.model.specs.Tasks.{task, release, taskFault, firstFaulty, round, load, horizon, judged}
+use Rattle.model.specs.Tasks.{task, release, due, taskFault, firstFaulty, round, load, horizon, judged}
 use Rattle.model.specs.Demand.{jobsIn, demand, lateAt}
-use Rattle.model.specs.Run.{choose}
+use Rattle.model.specs.Run.{tieOrder, choose, firstEmpty}
 use Rattle.model.specs.Verdict.{needed, lateStart, verdict, Worsts}
-use Rattle.model.specs.Dispatcher.{Stepped, startOf, ownerNow, after, turn, stepped}
+use Rattle.model.specs.Dispatcher.{State, Stepped, firstStrange, startOf, isLate, ownerNow, after, turn, stepped}
 use Rattle.model.specs.History.{stateAt, ownerAt, had, Finished}
 use Rattle.model.specs.Examples.{table-b, table-c, table-d, table-g, table-i}
 use Rattle.wellformed.specs.Ranges.{Ranged}
@@ -30,8 +31,11 @@ use Rattle.backlog.specs.TableSystem.{tie-ranks, systemOf, cycleOf}
 use Rattle.backlog.specs.Decided.{Feasible, Missed, first-missed, late-soon, overload-late, late-at-iff, feasible-iff}
 use Rattle.backlog.specs.Verdicts.{Late, none-before, longer, undecided-iff}
 use Rattle.backlog.specs.Answers.{passes-iff, late-infeasible, light-of-passed, met-of-passed, worsts-exist}
-use Rattle.backlog.specs.Stepping.{never-refused}
-use Rattle.backlog.specs.StepHistory.{never-more, in-time, none-waits}
+use Rattle.backlog.specs.Taken.{Belongs, belongs-after}
+use Rattle.backlog.specs.Stepping.{never-refused, owned-ready}
+use Rattle.backlog.specs.StepHistory.{never-more, none-after, in-time, none-waits}
+use Rattle.backlog.specs.Walk.{quiet, Clear, late-iff}
+use Rattle.backlog.specs.WalkWorst.{worstBy, walk-worsts, walk-empty}
 
 -- Table b keeps its ranges and passes, so some schedule of it is good, and its tasks have worst responses.
 b-ranged : Ranged table-b
@@ -59,6 +63,16 @@ b-met = met-of-passed table-b b-ranged 38 b-passes
 b-none-late : (i j : ℕ) → i < 2 → released (jobs b-system) (dueOf b-system i j) i - servedOf b-system (dueOf b-system i j) i ≡ 0
 b-none-late = none-late (jobs b-system) (dues b-system) (λ t i. ⊥) _ _ _ (run-history b-system (servedOf b-system) (model-run b-system) b-met) (constrained b-system) (servedOf b-system) (model-run b-system) b-met
 
+-- No interval of it asks too much, so a walk to its horizon finds its worst responses, and the first slot without a job.
+b-clear : Clear table-b (horizon table-b)
+b-clear u l h = let (from, x) = late-at-iff table-b u .0 h in feasible-iff table-b b-ranged .0 b-feasible from u x
+
+b-walk-worsts : Worsts table-b (worstBy table-b (horizon table-b))
+b-walk-worsts = walk-worsts table-b b-ranged (light-of-passed table-b b-ranged 38 b-passes) b-met b-clear
+
+b-walk-empty : first (λ u. eqb (ownerAt table-b quiet u) taskLimit) 0 (horizon table-b) ≡ firstEmpty table-b (tieOrder table-b)
+b-walk-empty = walk-empty table-b b-ranged b-clear
+
 -- Table g has load exactly 1, and passes.
 g-ranged : Ranged table-g
 unfolding judged firstFaulty taskFault first round load horizon largest sum count
@@ -82,6 +96,10 @@ d-late = (tt, λ u l. none-before table-d u l)
 
 d-missed : Least (Missed (systemOf table-d d-ranged _ (tie-ranks table-d))) 7
 d-missed = first-missed (systemOf table-d d-ranged _ (tie-ranks table-d)) 7 .1 d-late
+
+-- So a walk sees a job at its deadline there.
+d-seen : (i : ℕ) × (i < 2) × T (isLate table-d (stateAt table-d quiet 7) false i)
+d-seen = late-iff table-d d-ranged 7 (λ u l. d-late .1 u l) .1 (d-late .0)
 
 -- Table i is overloaded, so no schedule of it is good.
 i-ranged : Ranged table-i
@@ -109,12 +127,31 @@ g-idle = refl
 g-none-waits : Finished table-g reports 1 0 3
 g-none-waits = none-waits table-g g-ranged reports 8 g-passes 3 g-idle 1 0 (lit< tt) (lit≤ tt)
 
+g-none-after : ownerAt table-g reports 1 ≡ 0 → ⊥
+unfolding reports stateAt startOf after ownerNow choose fill
+g-none-after = none-after table-g g-ranged reports 1 0 0 (lit< tt) (lit≤ tt) (lit< tt) (inr (1, lit< tt, lit≤ tt, tt))
+
+g-owned : (j : ℕ) × (release (task table-g 1) j ≤ 1) × (1 < due (task table-g 1) j)
+unfolding reports stateAt startOf after ownerNow choose fill
+g-owned = owned-ready table-g g-ranged reports 1 1 (lit< tt) refl
+
 g-never-more : had table-g reports 0 0 4 ≤ 2
 g-never-more = never-more table-g g-ranged reports 0 0 4 (lit< tt) (lit≤ tt)
 
 g-never-refused : (n : ℕ) → _≡_ {A = Stepped} (stepped table-g (stateAt table-g reports n) (reports n)) (record { given = Given.Slot (turn table-g (stateAt table-g reports n) (reports n)); state = stateAt table-g reports (suc n) })
 unfolding judged firstFaulty taskFault first round load horizon largest sum count
 g-never-refused = never-refused table-g g-ranged reports (record { round = 4; load = 4; horizon = 8 }) refl
+
+-- A state of table g that somebody else made: task 0 is open with one slot left and its wait is 2, and task 1 ran last.
+other : State
+other = record { wait = 2 ∷ 2 ∷ replicate 14 0; left = 1 ∷ 0 ∷ replicate 14 0; last = 1 }
+
+g-belongs : Belongs table-g other
+unfolding other firstStrange first
+g-belongs = record { waits = refl; lefts = refl; each = lit≤ tt; ran = refl }
+
+g-belongs-after : Belongs table-g (after table-g other true)
+g-belongs-after = belongs-after table-g g-ranged other true g-belongs
 
 -- Table c: late at 15, within its horizon of 38, and so with any longer budget; undecided below.
 c-ranged : Ranged table-c
