@@ -1,32 +1,29 @@
 -- A pass means a good schedule, and every table and budget has one permitted answer.
-use mathlib.Core.Path.{_≡_, sym, _∙_}
+use mathlib.Core.Path.{_≡_, sym, _∙_, ap}
 use mathlib.Core.Logic.{_↔_}
 use mathlib.Core.List.{List}
 use Prim.Native.Nat.{ℕ, _≤_, _<_}
 use native.Mathlib.Decide.{decLt}
 use native.Mathlib.Omega.{arith}
-use lib.ListN.{length, replicate, length-replicate}
 use lib.Seq.{ext-getD}
-use Rattle.model.specs.Notation.{fill}
 use Rattle.values.specs.declared.Table.{Table}
 use Rattle.values.specs.declared.Measure.{Measure}
 use Rattle.values.specs.declared.Judgement.{Judgement}
 use Rattle.values.specs.declared.Verdict.{Verdict}
 use Rattle.values.specs.declared.Answer.{Answer}
-use Rattle.model.specs.Limits.{taskLimit}
+use Rattle.values.specs.declared.Outcome.{Outcome}
 use Rattle.model.specs.Tasks.{round, load, horizon, judged}
-use Rattle.model.specs.Run.{tieOrder, Worst}
+use Rattle.model.specs.Run.{Worst, Order}
 use Rattle.model.specs.Verdict.{needed, verdict, settledBy, Worsts, Answers, PermittedBy, Permitted}
-use Rattle.counting.specs.Fill.{fill-length, fill-passed, fill-ahead, getD-same}
 use Rattle.wellformed.specs.Ranges.{Ranged}
 use Rattle.backlog.specs.Criterion.{Met}
-use Rattle.backlog.specs.System.{jobs, dues}
+use Rattle.backlog.specs.System.{jobs, dues, System, Ranks}
 use Rattle.backlog.specs.ModelRun.{servedOf}
 use Rattle.backlog.specs.Shift.{Light}
 use Rattle.backlog.specs.Worst.{worst-exists, worst-unique}
-use Rattle.backlog.specs.TableSystem.{tie-ranks, systemOf, cycleOf, load-is}
-use Rattle.backlog.specs.Decided.{NeverTooMuch, Feasible, late-at-iff, met-of-never, feasible-iff, late-soon, overload-late}
-use Rattle.backlog.specs.Verdicts.{Late, Case, overload, undecided, late, passed, the-case, is-passed, needed-le, none-late}
+use Rattle.backlog.specs.TableSystem.{systemOf, cycleOf, load-is}
+use Rattle.backlog.specs.Decided.{NeverTooMuch, Feasible, met-of-never, feasible-iff, late-soon, overload-late, never-iff}
+use Rattle.backlog.specs.Verdicts.{Late, Case, overload, undecided, late, passed, the-case, is-passed, needed-le, none-late, overload-iff, late-needed}
 
 module _ (t : Table) (r : Ranged t) where
   -- What a pass says of the intervals, whatever the budget was.
@@ -37,14 +34,14 @@ module _ (t : Table) (r : Ranged t) where
       go v n (overload h) e = let z : _≡_ {A = ℕ} 0 1 = cc in absurd (omega arith)
       go v n (undecided g b) e = let z : _≡_ {A = ℕ} 0 1 = cc in absurd (omega arith)
       go v n (late g b l) e = let z : _≡_ {A = ℕ} 0 1 = cc in absurd (omega arith)
-      go v n (passed g b l) e = (g, λ from to w. let (u, m, h) = late-soon t r g to (late-at-iff t to .1 (from, w)) in none-late t l .1 u m h)
+      go v n (passed g b l) e = (g, never-iff t .1 (λ to w. let (u, m, h) = late-soon t r g to w in none-late t l .1 u m h))
 
   -- With no interval that ever asks too much, a budget that reaches the horizon gives a pass.
   passed-of-never : (budget : ℕ) → horizon t ≤ budget → NeverTooMuch t → verdict t budget ≡ Verdict.Passes
   passed-of-never budget b h = is-passed t budget light (omega (arith, needed-le t)) (quiet (needed t)) .0
     where
       quiet : (to : ℕ) → Late t to → ⊥
-      quiet to w = let (from, x) = late-at-iff t to .0 w in h from to x
+      quiet = never-iff t .0 h
 
       light : load t ≤ round t
       light = elim (decLt (round t) (load t)) [ yes p ↦ (let (to, w) = overload-late t r p in absurd (quiet to w)) | no p ↦ omega arith ]
@@ -55,54 +52,24 @@ module _ (t : Table) (r : Ranged t) where
 
   -- OVERLOAD AND LATE mean that no schedule is good, whatever the budget was.
   pub overload-infeasible : (budget : ℕ) → verdict t budget ≡ Verdict.Overload → Feasible t → ⊥
-  overload-infeasible budget e h = go (verdict t budget) (settledBy t budget) (the-case t budget) e
-    where
-      go : (v : Verdict) (n : ℕ) → Case t budget v n → v ≡ Verdict.Overload → ⊥
-      go v n (overload g) e = let (to, w) = overload-late t r g in let (from, x) = late-at-iff t to .0 w in feasible-iff t r .0 h from to x
-      go v n (undecided g b) e = let z : _≡_ {A = ℕ} 0 1 = cc in absurd (omega arith)
-      go v n (late g b l) e = let z : _≡_ {A = ℕ} 0 1 = cc in absurd (omega arith)
-      go v n (passed g b l) e = let z : _≡_ {A = ℕ} 0 1 = cc in absurd (omega arith)
+  overload-infeasible budget e h = let (to, w) = overload-late t r (overload-iff t budget .0 e) in never-iff t .0 (feasible-iff t r .0 h) to w
 
   pub late-infeasible : (budget from to asked : ℕ) → verdict t budget ≡ Verdict.Late from to asked → Feasible t → ⊥
-  late-infeasible budget from to asked e h = go (verdict t budget) (settledBy t budget) (the-case t budget) e
-    where
-      go : (v : Verdict) (n : ℕ) → Case t budget v n → v ≡ Verdict.Late from to asked → ⊥
-      go v n (overload g) e = let z : _≡_ {A = ℕ} 0 1 = cc in absurd (omega arith)
-      go v n (undecided g b) e = let z : _≡_ {A = ℕ} 0 1 = cc in absurd (omega arith)
-      go v n (late g b l) e = let (start, x) = late-at-iff t (needed t) .0 l in feasible-iff t r .0 h start (needed t) x
-      go v n (passed g b l) e = let z : _≡_ {A = ℕ} 0 1 = cc in absurd (omega arith)
+  late-infeasible budget from to asked e h = never-iff t .0 (feasible-iff t r .0 h) (needed t) (late-needed t budget from to asked e .0)
 
-  -- Every task of a passed table has a worst response.
-  module _ (budget : ℕ) (pass : verdict t budget ≡ Verdict.Passes) where
-    pub light-of-passed : Light (systemOf t r _ (tie-ranks t)) (cycleOf t r _ (tie-ranks t))
-    light-of-passed = omega (arith, load-is t r _ (tie-ranks t), never-of-passed budget pass .0)
+  -- Every task of a passed table has a worst response, in any order of the tasks.
+  module _ (budget : ℕ) (pass : verdict t budget ≡ Verdict.Passes) (rank : Order) (o : Ranks t rank) where
+    abbrev S : System
+    S = systemOf t r rank o
 
-    pub met-of-passed : Met (jobs (systemOf t r _ (tie-ranks t))) (dues (systemOf t r _ (tie-ranks t))) (servedOf (systemOf t r _ (tie-ranks t)))
-    met-of-passed = met-of-never (systemOf t r _ (tie-ranks t)) (never-of-passed budget pass .1)
+    pub light-of-passed : Light S (cycleOf t r rank o)
+    light-of-passed = omega (arith, load-is t r rank o, never-of-passed budget pass .0)
 
-    worst-of : (i : ℕ) → i < t .count → (w : ℕ) × Worst t (tieOrder t) i w
-    worst-of i l = worst-exists (systemOf t r _ (tie-ranks t)) (cycleOf t r _ (tie-ranks t)) light-of-passed met-of-passed i l
+    pub met-of-passed : Met (jobs S) (dues S) (servedOf S)
+    met-of-passed = met-of-never S (never-of-passed budget pass .1)
 
-    at : (i : ℕ) → Dec (i < t .count) → ℕ
-    at i (yes l) = worst-of i l .0
-    at i (no l) = 0
-
-    worst-at : (i : ℕ) → i < t .count → (d : Dec (i < t .count)) → Worst t (tieOrder t) i (at i d)
-    unfolding at
-    worst-at i l (yes m) = worst-of i m .1
-    worst-at i l (no m) = absurd (m l)
-
-    pub worsts-exist : (w : List ℕ) × Worsts t w
-    worsts-exist =
-        let w = fill (t .count) (λ i. at i (decLt i (t .count))) (replicate taskLimit 0) in
-        let size : length w ≡ taskLimit = fill-length (t .count) _ _ ∙ length-replicate {A = ℕ} taskLimit 0 in (
-          w,
-          record {
-            size = size;
-            worst = λ i l. rw (fill-passed (t .count) (λ i. at i (decLt i (t .count))) (replicate taskLimit 0) i 0 l (omega (arith, r .few, length-replicate {A = ℕ} taskLimit 0))) (worst-at i l (decLt i (t .count)));
-            past = λ i l. fill-ahead (t .count) (λ i. at i (decLt i (t .count))) (replicate taskLimit 0) i 0 l ∙ getD-same taskLimit 0 i;
-          },
-        )
+    pub worst-of : (i : ℕ) → i < t .count → (w : ℕ) × Worst t rank i w
+    worst-of i l = worst-exists S met-of-passed i l (cycleOf t r rank o) light-of-passed
 
 -- Two lists of worst responses of a table are equal.
 worsts-unique : (t : Table) (v w : List ℕ) → Worsts t v → Worsts t w → v ≡ w
@@ -120,6 +87,13 @@ answers-unique t budget m a b Verdict.Undecided e f = cc
 judged-unique : (t : Table) (budget : ℕ) (a b : Answer) (j : Judgement) → PermittedBy t budget a j → PermittedBy t budget b j → a ≡ b
 judged-unique t budget a b (Judgement.Refused r) e f = cc
 judged-unique t budget a b (Judgement.WellFormed m) e f = answers-unique t budget m a b (verdict t budget) e f
+
+-- The answers of a verdict say it, the settled count and the measures.
+pub answers-say : (t : Table) (budget : ℕ) (m : Measure) (a : Answer) (v : Verdict) → Answers t budget m a v → (a .outcome ≡ Outcome.Tested v) × (a .settled ≡ settledBy t budget) × (a .measure ≡ m)
+answers-say t budget m a Verdict.Passes (w, p, e) = (ap (λ (x : Answer). x .outcome) e, ap (λ (x : Answer). x .settled) e, ap (λ (x : Answer). x .measure) e)
+answers-say t budget m a Verdict.Overload e = (ap (λ (x : Answer). x .outcome) e, ap (λ (x : Answer). x .settled) e, ap (λ (x : Answer). x .measure) e)
+answers-say t budget m a (Verdict.Late f k d) e = (ap (λ (x : Answer). x .outcome) e, ap (λ (x : Answer). x .settled) e, ap (λ (x : Answer). x .measure) e)
+answers-say t budget m a Verdict.Undecided e = (ap (λ (x : Answer). x .outcome) e, ap (λ (x : Answer). x .settled) e, ap (λ (x : Answer). x .measure) e)
 
 -- UNIQUE: any two permitted answers to a table and a budget are equal.
 pub permitted-unique : (t : Table) (budget : ℕ) (a b : Answer) → Permitted t budget a → Permitted t budget b → a ≡ b

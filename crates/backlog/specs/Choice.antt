@@ -4,9 +4,9 @@ use mathlib.Core.Logic.{_⊎_, inl, inr, _≢_}
 use mathlib.Core.Bool.{Bool, true, false, cond, _&&_, _||_}
 use Prim.Native.Nat.{ℕ, zero, suc, _≤_, _<_}
 use native.Mathlib.Nat.{le-refl}
-use native.Mathlib.Decide.{ℕ-discrete}
 use native.Mathlib.Omega.{arith}
 use borrow.Author.Tests.{ltb-true, ltb-false, eqb-true, eqb-false}
+use borrow.Author.Count.{below-more}
 use lib.Dec.{T, ltb, eqb}
 use Rattle.model.specs.Limits.{taskLimit}
 use Rattle.model.specs.Run.{Order, precedes, choose}
@@ -30,7 +30,7 @@ Chosen open? deadline rank n c = Nobody open? n c ⊎ Somebody open? deadline ra
 
 -- A fact of all below n, and of n, is a fact of all up to n.
 below-suc : (P : ℕ → Type 0) (n : ℕ) → ((i : ℕ) → i < n → P i) → P n → (i : ℕ) → i < suc n → P i
-below-suc P n f x i l = elim (ℕ-discrete i n) [ yes e ↦ subst P (sym e) x | no e ↦ f i (omega arith) ]
+below-suc P n f x i l = below-more P n f x i (omega arith)
 
 module _ (open? : ℕ → Bool) (deadline : ℕ → ℕ) (rank : Order) where
   -- One task comes before another, or no earlier.

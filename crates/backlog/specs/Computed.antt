@@ -11,9 +11,10 @@ use Rattle.model.specs.Tasks.{horizon, judged}
 use Rattle.model.specs.Verdict.{verdict, settledBy, emptyIn, brief, Answers, PermittedBy, Permitted}
 use Rattle.wellformed.specs.WellFormed.{well-formed}
 use Rattle.wellformed.specs.Ranges.{Ranged}
-use Rattle.backlog.specs.Decided.{late-at-iff}
+use Rattle.backlog.specs.Decided.{never-iff}
 use Rattle.backlog.specs.Answers.{never-of-passed, light-of-passed, met-of-passed}
 use Rattle.backlog.specs.WalkWorst.{worstBy, walk-worsts}
+use Rattle.backlog.specs.TableSystem.{tie-ranks}
 
 -- The answer by its verdict, and by the judgement of the table.
 abbrev pub answerBy : Table → ℕ → Measure → Verdict → Answer
@@ -31,7 +32,7 @@ answerOf t budget = answerJudged t budget (judged t)
 
 answers : (t : Table) → Ranged t → (budget : ℕ) (m : Measure) (v : Verdict) → verdict t budget ≡ v → Answers t budget m (answerBy t budget m v) v
 answers t r budget m Verdict.Passes e =
-    (worstBy t (horizon t), walk-worsts t r (light-of-passed t r budget e) (met-of-passed t r budget e) (λ u l h. let (from, x) = late-at-iff t u .0 h in never-of-passed t r budget e .1 from u x), refl)
+    (worstBy t (horizon t), walk-worsts t r (light-of-passed t r budget e _ (tie-ranks t)) (met-of-passed t r budget e _ (tie-ranks t)) (λ u l. never-iff t .0 (never-of-passed t r budget e .1) u), refl)
 answers t r budget m Verdict.Overload e = refl
 answers t r budget m (Verdict.Late from to asked) e = refl
 answers t r budget m Verdict.Undecided e = refl

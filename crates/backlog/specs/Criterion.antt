@@ -9,10 +9,11 @@ use native.Mathlib.Omega.{arith}
 use lib.Dec.{leb}
 use Rattle.model.specs.Notation.{sum, count}
 use Rattle.counting.specs.Sum.{sum-eq, sum-le, sum-add, sum-pos}
-use Rattle.counting.specs.Below.{Grows, below, lt-below, below-below, below-most, grows-ge, count-between}
+use Rattle.counting.specs.Below.{Grows, below, lt-below, below-below, count-inside}
+use Rattle.counting.specs.Search.{least}
 use Rattle.backlog.specs.Queue.{sum-backlog, busy-from}
 use Rattle.backlog.specs.Streams.{Jobs, released, work, Run, left, leftOf, arrive}
-use Rattle.backlog.specs.Left.{left-is, arrived, done-of-none-left, served-mono}
+use Rattle.backlog.specs.Left.{left-is, arrived, done-of-none-left, served-mono, DoneFirst, finish}
 
 -- Deadlines that the key order goes by: the cut of t takes just the jobs that are due by t.
 pub record Dues (J : Jobs) : Type 0 where
@@ -67,7 +68,7 @@ module _ (J : Jobs) (D : Dues J) where
           let c = below (J .key i) (suc (D .cut t2)) in
           let b = below (J .rel i) t1 in
           let e : inInterval J D t1 t2 i ≡ c - b =
-          omega (arith, count-between (J .rel i) (D .due i) (J .rel-grows i l) (D .due-grows i l) t1 t2 t2, cls-le i t2 l, le-cls i t2 l, below-most (D .due i) (D .due-grows i l) (suc t2) t2 (λ j h. omega (arith, D .rel-due i j l, grows-ge (J .rel i) (J .rel-grows i l) j))) in
+          omega (arith, count-inside (J .rel i) (D .due i) (J .rel-grows i l) (D .due-grows i l) (λ j. D .rel-due i j l) t1 t2, cls-le i t2 l, le-cls i t2 l) in
           rw (e, mul-sub) (omega arith)
 
 module _ (J : Jobs) (D : Dues J) (s : ℕ → ℕ → ℕ) (R : Run J s) where
@@ -122,3 +123,9 @@ module _ (J : Jobs) (D : Dues J) (s : ℕ → ℕ → ℕ) (R : Run J s) where
       bwd h i j l (no p) =
           let (u, a, q) = late-iff-over (D .due i j) .0 (i, j, l, le-refl _, omega arith) in
           absurd (omega (arith, h u (D .due i j) a))
+
+  -- Where it does, every job finishes, after its release and by its deadline.
+  pub finishes : Met J D s → (i j : ℕ) → i < J .n → (f : ℕ) × DoneFirst J s i j f × (J .rel i j < f) × (f ≤ D .due i j)
+  finishes met i j l =
+      let (f, h, d) = least (λ u. J .cost i * suc j ≤ s u i) (λ u. decLe _ _) (D .due i j) (met i j l) in
+      (f, d, finish J s R i j l f .0 d .0 .0, h)

@@ -1,6 +1,6 @@
 -- THE CRITERION in the model's words: good schedules, late deadlines, the run's misses, horizon and overload.
 use mathlib.Core.Logic.{_↔_}
-use Prim.Native.Nat.{ℕ, suc, _-_, _*_, _≤_, _<_}
+use Prim.Native.Nat.{ℕ, _-_, _≤_, _<_}
 use native.Mathlib.Decide.{decLe}
 use native.Mathlib.Omega.{arith}
 use lib.Dec.{T}
@@ -11,15 +11,16 @@ use Rattle.model.specs.Demand.{demand, asksTooMuch, lateAt}
 use Rattle.model.specs.Schedule.{Schedule, given, Good}
 use Rattle.model.specs.Run.{run}
 use Rattle.counting.specs.Count.{tests, and-iff, some-iff}
+use Rattle.counting.specs.Search.{least-iff}
 use Rattle.wellformed.specs.Ranges.{Ranged}
 use Rattle.backlog.specs.Criterion as streams
 use Rattle.backlog.specs.Criterion.{Over, Met, late-iff-over, criterion}
 use Rattle.backlog.specs.System.{System, size, costOf, dueOf, jobs, dues, demand-streams}
 use Rattle.backlog.specs.ModelRun.{servedOf, model-run}
-use Rattle.backlog.specs.RunSchedule.{done-iff, run-good}
+use Rattle.backlog.specs.RunSchedule.{run-good, undone-iff}
 use Rattle.backlog.specs.Necessary.{necessary}
 use Rattle.backlog.specs.Horizon.{over-soon, overload}
-use Rattle.backlog.specs.TableSystem.{tie-ranks, systemOf, cycleOf, load-is, horizon-is}
+use Rattle.backlog.specs.TableSystem.{tie-ranks, load-is, horizon-is, tieSystem, tieCycle}
 
 -- No interval of the table ever asks too much; some schedule of it is good.
 abbrev pub NeverTooMuch : Table → Type 0
@@ -40,6 +41,10 @@ late-at-iff t to = (
   λ h. some-iff (λ from. asksTooMuch t from to) to .1 (h .0, too-much-iff t (h .0) to .0 (h .1) .0, h .1),
 )
 
+-- No interval ever asks too much exactly if no deadline is ever late.
+pub never-iff : (t : Table) → NeverTooMuch t ↔ ((to : ℕ) → T (lateAt t to) → ⊥)
+never-iff t = (λ h to w. let (from, x) = late-at-iff t to .0 w in h from to x, λ h from to x. h to (late-at-iff t to .1 (from, x)))
+
 module _ (S : System) where
   -- The same of the streams.
   over-iff : (to : ℕ) → T (lateAt (S .table) to) ↔ Over (jobs S) (dues S) to
@@ -55,22 +60,13 @@ module _ (S : System) where
   -- EVERY INSTANT: at u the run has a job due by u and unfinished, exactly if some interval that ends at u asks too much.
   pub missed-iff : (u : ℕ) → Missed u ↔ T (lateAt (S .table) u)
   missed-iff u = (
-    λ h. let (i, j, l, d, g) = h in over-iff u .1 (late-iff-over (jobs S) (dues S) (servedOf S) (model-run S) u .0 (i, j, l, d, unserved i j l g)),
-    λ h. let (i, j, l, d, g) = late-iff-over (jobs S) (dues S) (servedOf S) (model-run S) u .1 (over-iff u .0 h) in (i, j, l, d, ungiven i j l g),
+    λ h. let (i, j, l, d, g) = h in over-iff u .1 (late-iff-over (jobs S) (dues S) (servedOf S) (model-run S) u .0 (i, j, l, d, undone-iff S i j u l .0 g)),
+    λ h. let (i, j, l, d, g) = late-iff-over (jobs S) (dues S) (servedOf S) (model-run S) u .1 (over-iff u .0 h) in (i, j, l, d, undone-iff S i j u l .1 g),
   )
-    where
-      unserved : (i j : ℕ) → i < size S → given (run (S .table) (S .rank)) i j 0 u < costOf S i → servedOf S u i < costOf S i * suc j
-      unserved i j l g = elim (decLe (costOf S i * suc j) (servedOf S u i)) [ yes p ↦ absurd (omega (arith, done-iff S i j u l .1 p)) | no p ↦ omega arith ]
-
-      ungiven : (i j : ℕ) → i < size S → servedOf S u i < costOf S i * suc j → given (run (S .table) (S .rank)) i j 0 u < costOf S i
-      ungiven i j l g = elim (decLe (costOf S i) (given (run (S .table) (S .rank)) i j 0 u)) [ yes p ↦ absurd (omega (arith, done-iff S i j u l .0 p)) | no p ↦ omega arith ]
 
   -- So the first miss is the smallest late deadline.
   pub first-missed : (u : ℕ) → Least Missed u ↔ Least (λ u. T (lateAt (S .table) u)) u
-  first-missed u = (
-    λ h. (missed-iff u .0 (h .0), λ v l w. h .1 v l (missed-iff v .1 w)),
-    λ h. (missed-iff u .1 (h .0), λ v l w. h .1 v l (missed-iff v .0 w)),
-  )
+  first-missed = least-iff Missed (λ u. T (lateAt (S .table) u)) missed-iff
 
   -- SUFFICIENT: if no interval ever asks too much, the run meets every deadline, and is good.
   pub met-of-never : NeverTooMuch (S .table) → Met (jobs S) (dues S) (servedOf S)
@@ -87,21 +83,18 @@ module _ (S : System) where
 pub feasible-iff : (t : Table) → Ranged t → Feasible t ↔ NeverTooMuch t
 feasible-iff t r = (
   λ h from to w. let (l, d) = too-much-iff t from to .0 w in omega (arith, necessary (h .0) from to t (h .1)),
-  λ h. (run t _, sufficient (systemOf t r _ (tie-ranks t)) h),
+  λ h. (run t _, sufficient (tieSystem t r) h),
 )
 
 module _ (t : Table) (r : Ranged t) where
-  abbrev S : System
-  S = systemOf t r _ (tie-ranks t)
-
   -- HORIZON: without overload, load exactly 1 included, a late deadline lies within the horizon if there is one at all.
   pub late-soon : load t ≤ round t → (to : ℕ) → T (lateAt t to) → (u : ℕ) × (u ≤ horizon t) × T (lateAt t u)
   late-soon light to h =
-      let (u, l, o) = over-soon S (cycleOf t r _ (tie-ranks t)) (omega (arith, load-is t r _ (tie-ranks t))) (servedOf S) (model-run S) to (over-iff S to .0 h) in
-      (u, omega (arith, horizon-is t r _ (tie-ranks t)), over-iff S u .1 o)
+      let (u, l, o) = over-soon (tieSystem t r) (tieCycle t r) (omega (arith, load-is t r _ (tie-ranks t))) (servedOf (tieSystem t r)) (model-run (tieSystem t r)) to (over-iff (tieSystem t r) to .0 h) in
+      (u, omega (arith, horizon-is t r _ (tie-ranks t)), over-iff (tieSystem t r) u .1 o)
 
   -- OVERLOAD: some interval asks too much.
   pub overload-late : round t < load t → (to : ℕ) × T (lateAt t to)
   overload-late heavy =
-      let (u, o) = overload S (cycleOf t r _ (tie-ranks t)) (omega (arith, load-is t r _ (tie-ranks t))) in
-      (u, over-iff S u .1 o)
+      let (u, o) = overload (tieSystem t r) (tieCycle t r) (omega (arith, load-is t r _ (tie-ranks t))) in
+      (u, over-iff (tieSystem t r) u .1 o)

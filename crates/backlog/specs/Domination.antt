@@ -2,13 +2,13 @@
 use mathlib.Core.Path.{_≡_, refl, sym, ap, subst, _∙_}
 use mathlib.Core.Logic.{_⊎_, inl, inr, _≢_}
 use Prim.Native.Nat.{ℕ, suc, _+_, _-_, _*_, _≤_, _<_}
-use native.Mathlib.Nat.{eq-zero-or-pos, le-refl, mul-le-mul-left, le-antisymm}
-use native.Mathlib.Decide.{ℕ-discrete, decLt, decLe, le-ind}
+use native.Mathlib.Nat.{eq-zero-or-pos, le-refl, mul-le-mul-left}
+use native.Mathlib.Decide.{ℕ-discrete, decLe, le-ind}
 use native.Mathlib.Omega.{arith}
 use Rattle.model.specs.Notation.{sum}
 use Rattle.counting.specs.Search.{least}
 use Rattle.counting.specs.Sum.{sum-le, sum-add, sum-zero, sum-by, sum-member}
-use Rattle.counting.specs.Below.{below, lt-below, below-mono, below-after}
+use Rattle.counting.specs.Below.{below, lt-below, below-mono, below-after, grows-lt, below-same, below-next}
 use Rattle.backlog.specs.Queue.{backlog, backlog-bounds}
 use Rattle.backlog.specs.Streams.{Jobs, Run, released, work, left, arrive, arriveOf}
 use Rattle.backlog.specs.Left.{left-is, finish}
@@ -17,6 +17,10 @@ use Rattle.backlog.specs.Left.{left-is, finish}
 abbrev pub if-so : {P : Type 0} → Dec P → ℕ → ℕ
 if-so (yes p) a = a
 if-so (no p) a = 0
+
+if-so-none : {P : Type 0} (d : Dec P) (a : ℕ) → (P → a ≡ 0) → if-so d a ≡ 0
+if-so-none (yes p) a h = h p
+if-so-none (no p) a h = refl
 
 -- The open job of stream i before slot t, if there is one, is the last that is released before t: this is its key.
 abbrev pub openKey : Jobs → ℕ → ℕ → ℕ
@@ -62,29 +66,14 @@ module _ (J : Jobs) where
   pub releases : (i t : ℕ) → i < J .n → Releases J i t
   releases i t l = go (ℕ-discrete (J .rel i (below (J .rel i) t)) t)
     where
-      b : ℕ
-      b = below (J .rel i) t
-
-      next : t ≤ J .rel i (below (J .rel i) t)
-      next = elim (decLt (J .rel i (below (J .rel i) t)) t) [ yes p ↦ absurd (omega (arith, lt-below (J .rel i) (J .rel-grows i l) t (below (J .rel i) t) .1 p)) | no p ↦ omega arith ]
-
-      up : below (J .rel i) t ≤ below (J .rel i) (suc t)
-      up = below-mono (J .rel i) (J .rel-grows i l) t (suc t) (omega arith)
-
       go : Dec (J .rel i (below (J .rel i) t) ≡ t) → Releases J i t
       go (yes e) = inl (below (J .rel i) t, e, refl, ap (λ (x : ℕ). below (J .rel i) (suc x)) (sym e) ∙ below-after (J .rel i) (J .rel-grows i l) (below (J .rel i) t))
-      go (no e) = inr (none, le-antisymm (top (decLt (below (J .rel i) t) (below (J .rel i) (suc t)))) up)
+      go (no e) = inr (none, sym (below-same (J .rel i) (J .rel-grows i l) t (suc t) (omega arith) (λ j h. omega (arith, none j))))
         where
-          top : Dec (below (J .rel i) t < below (J .rel i) (suc t)) → below (J .rel i) (suc t) ≤ below (J .rel i) t
-          top (yes p) = absurd (omega (arith, next, lt-below (J .rel i) (J .rel-grows i l) (suc t) (below (J .rel i) t) .0 p))
-          top (no p) = omega arith
-
           none : (j : ℕ) → J .rel i j ≢ t
-          none j q = absurd (omega (arith, top (decLt (below (J .rel i) t) (below (J .rel i) (suc t))), lt-below (J .rel i) (J .rel-grows i l) (suc t) j .1 (omega arith), low (decLt j (below (J .rel i) t))))
-            where
-              low : Dec (j < below (J .rel i) t) → below (J .rel i) t ≤ j
-              low (yes p) = absurd (omega (arith, lt-below (J .rel i) (J .rel-grows i l) t j .0 p))
-              low (no p) = omega arith
+          none j q =
+              let m : j < below (J .rel i) t = grows-lt (J .rel i) (J .rel-grows i l) j (below (J .rel i) t) (omega (arith, e, below-next (J .rel i) (J .rel-grows i l) t)) in
+              absurd (omega (arith, lt-below (J .rel i) (J .rel-grows i l) t j .0 m))
 
   -- What is open after the closings and releases is no more than what was open and what arrives.
   opened : (κ t : ℕ) (l x : ℕ → ℕ) → Opens J t l x → (i : ℕ) → i < J .n → heldOf J κ (suc t) x i ≤ heldOf J κ t l i + arriveOf J κ t i
@@ -119,22 +108,18 @@ module _ (J : Jobs) (lf : ℕ → ℕ → ℕ) (P : Dispatch J lf) where
           enough : sum (J .n) (heldOf J κ (suc t) x) ≤ sum (J .n) (heldOf J κ t (lf t)) + sum (J .n) (arriveOf J κ t)
           enough = omega (arith, sum-le (J .n) (heldOf J κ (suc t) x) (λ i. heldOf J κ t (lf t) i + arriveOf J κ t i) (λ i l. opened J κ t (lf t) x o i l), sum-add (J .n) (heldOf J κ t (lf t)) (arriveOf J κ t))
 
-          nothing : {P : Type 0} (d : Dec P) (a : ℕ) → (P → a ≡ 0) → if-so d a ≡ 0
-          nothing (yes p) a h = h p
-          nothing (no p) a h = refl
-
           same : {P : Type 0} (d : Dec P) (a b : ℕ) → a ≡ b → if-so d a ≡ if-so d b
           same d a b e = rw e
 
           slot : Rests J x (lf (suc t)) ⊎ ((k : ℕ) × Gives J t x (lf (suc t)) k) → sum (J .n) (heldOf J κ (suc t) (lf (suc t))) ≤ (sum (J .n) (heldOf J κ t (lf t)) + sum (J .n) (arriveOf J κ t)) - 1
-          slot (inl d) = omega (arith, sum-zero (J .n) (heldOf J κ (suc t) (lf (suc t))) (λ i l. nothing (decLe (openKey J (suc t) i) κ) (lf (suc t) i) (λ p. omega (arith, d .none i l, d .rest i l))))
+          slot (inl d) = omega (arith, sum-zero (J .n) (heldOf J κ (suc t) (lf (suc t))) (λ i l. if-so-none (decLe (openKey J (suc t) i) κ) (lf (suc t) i) (λ p. omega (arith, d .none i l, d .rest i l))))
           slot (inr (k, d)) = at (decLe (openKey J (suc t) k) κ) refl
             where
               at : (e : Dec (openKey J (suc t) k ≤ κ)) → decLe (openKey J (suc t) k) κ ≡ e → sum (J .n) (heldOf J κ (suc t) (lf (suc t))) ≤ (sum (J .n) (heldOf J κ t (lf t)) + sum (J .n) (arriveOf J κ t)) - 1
               at (yes p) e =
                   let q : heldOf J κ (suc t) x k ≡ heldOf J κ (suc t) (lf (suc t)) k + 1 = rw e (d .one) in
                   omega (arith, enough, sum-by (J .n) (heldOf J κ (suc t) x) (heldOf J κ (suc t) (lf (suc t))) k 1 (d .bound) q (λ i l f. same (decLe (openKey J (suc t) i) κ) (x i) (lf (suc t) i) (sym (d .rest i l f))))
-              at (no p) e = omega (arith, sum-zero (J .n) (heldOf J κ (suc t) (lf (suc t))) (λ i l. nothing (decLe (openKey J (suc t) i) κ) (lf (suc t) i) (λ h. each i l h (ℕ-discrete i k))))
+              at (no p) e = omega (arith, sum-zero (J .n) (heldOf J κ (suc t) (lf (suc t))) (λ i l. if-so-none (decLe (openKey J (suc t) i) κ) (lf (suc t) i) (λ h. each i l h (ℕ-discrete i k))))
                 where
                   each : (i : ℕ) → i < J .n → openKey J (suc t) i ≤ κ → Dec (i ≡ k) → lf (suc t) i ≡ 0
                   each i l h (yes f) = absurd (p (subst (λ (y : ℕ). openKey J (suc t) y ≤ κ) f h))
@@ -142,11 +127,7 @@ module _ (J : Jobs) (lf : ℕ → ℕ → ℕ) (P : Dispatch J lf) where
 
   held-start : (κ : ℕ) → held J lf κ 0 ≡ 0
   unfolding held
-  held-start κ = sum-zero (J .n) _ (λ i l. each i l (decLe (openKey J 0 i) κ))
-    where
-      each : (i : ℕ) → i < J .n → (d : Dec (openKey J 0 i ≤ κ)) → if-so d (lf 0 i) ≡ 0
-      each i l (yes p) = P .start i l
-      each i l (no p) = refl
+  held-start κ = sum-zero (J .n) _ (λ i l. if-so-none (decLe (openKey J 0 i) κ) (lf 0 i) (λ p. P .start i l))
 
   held-bounded : (κ t : ℕ) → held J lf κ t ≤ backlog (arrive J κ) t
   held-bounded κ = backlog-bounds (arrive J κ) (held J lf κ) (omega (arith, held-start κ)) (held-step κ)

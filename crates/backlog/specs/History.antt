@@ -1,16 +1,15 @@
 -- DEMAND 3 OVER HISTORIES, for any release streams: what was reported, and what was given.
-use mathlib.Core.Path.{_≡_, refl, ap}
+use mathlib.Core.Path.{_≡_, refl, ap, sym}
 use mathlib.Core.Logic.{_⊎_, inl, inr, _≢_}
-use Prim.Native.Nat.{ℕ, zero, suc, _+_, _-_, _*_, _≤_, _<_}
-use native.Mathlib.Nat.{le-refl, le-step}
-use native.Mathlib.Decide.{decLt, decLe}
+use Prim.Native.Nat.{ℕ, zero, suc, _+_, _-_, _≤_, _<_}
+use native.Mathlib.Nat.{le-refl, le-step, add-zero, add-suc}
 use native.Mathlib.Omega.{arith}
+use native.Mathlib.Numerals.{add-one}
 use Rattle.model.specs.Notation.{sum}
-use Rattle.counting.specs.Search.{least}
-use Rattle.counting.specs.Below.{below, lt-below, below-most, grows-mono}
+use Rattle.counting.specs.Below.{below, between-none, below-is}
 use Rattle.backlog.specs.Streams.{Jobs, Run}
 use Rattle.backlog.specs.Left.{DoneFirst, served-mono}
-use Rattle.backlog.specs.Criterion.{Dues, Met}
+use Rattle.backlog.specs.Criterion.{Dues, Met, finishes}
 use Rattle.backlog.specs.Domination.{Dispatch, Gives, Rests, openKey, not-open}
 
 -- Before slot t the open job of stream i has `open t i` slots left; after closings and releases `ready t i`; of slot t it is
@@ -48,23 +47,11 @@ module _ (J : Jobs) (D : Dues J) (told : ℕ → ℕ → Type 0) (open' ready ga
 
   -- Strictly between two releases of a stream no job of it is released.
   between : (i j d : ℕ) → i < J .n → J .rel i j + suc d < J .rel i (suc j) → (k : ℕ) → J .rel i k ≢ J .rel i j + suc d
-  between i j d l h k e = elim (decLe k j) [
-    | yes p ↦ absurd (omega (arith, grows-mono (J .rel i) (J .rel-grows i l) k j p))
-    | no p ↦ absurd (omega (arith, grows-mono (J .rel i) (J .rel-grows i l) (suc j) k (omega arith)))
-  ]
-
-  step-on : (a b : ℕ) → suc (a + b) ≡ a + suc b
-  step-on a b = omega arith
+  between i j d l h k = between-none (J .rel i) (J .rel-grows i l) (J .rel i j + suc d) j k (omega arith) h
 
   first-slot : (i j : ℕ) → i < J .n → givenTo i (J .rel i j) 1 + open' (J .rel i j + 1) i ≡ J .cost i
   unfolding sum
-  first-slot i j l = omega (arith, P .fresh (J .rel i j) i j l refl, P .spent (J .rel i j) i l, ap (λ (y : ℕ). open' y i) (one-on (J .rel i j)), ap (λ (y : ℕ). gave y i) (none-on (J .rel i j)))
-    where
-      one-on : (a : ℕ) → a + 1 ≡ suc a
-      one-on a = omega arith
-
-      none-on : (a : ℕ) → a + 0 ≡ a
-      none-on a = omega arith
+  first-slot i j l = omega (arith, P .fresh (J .rel i j) i j l refl, P .spent (J .rel i j) i l, ap (λ (y : ℕ). open' y i) (add-one (J .rel i j)), ap (λ (y : ℕ). gave y i) (add-zero (J .rel i j)))
 
   -- NONE GETS TOO MUCH: until the next release, what a job was given and what is left make no more than its cost.
   pub at-most : (i j d : ℕ) → i < J .n → J .rel i j + d < J .rel i (suc j) → givenTo i (J .rel i j) (suc d) + open' (J .rel i j + suc d) i ≤ J .cost i
@@ -75,19 +62,14 @@ module _ (J : Jobs) (D : Dues J) (told : ℕ → ℕ → Type 0) (open' ready ga
       go : givenTo i (J .rel i j) (suc d) + open' (J .rel i j + suc d) i ≤ J .cost i
           → (ready (J .rel i j + suc d) i ≡ open' (J .rel i j + suc d) i) ⊎ ((ready (J .rel i j + suc d) i ≡ 0) × (told (J .rel i j + suc d) i ⊎ ((k : ℕ) × (D .due i k ≡ J .rel i j + suc d))))
           → givenTo i (J .rel i j) (suc (suc d)) + open' (J .rel i j + suc (suc d)) i ≤ J .cost i
-      go q (inl e) = omega (arith, P .spent (J .rel i j + suc d) i l, ap (λ (y : ℕ). open' y i) (step-on (J .rel i j) (suc d)))
-      go q (inr (e, c)) = omega (arith, P .spent (J .rel i j + suc d) i l, ap (λ (y : ℕ). open' y i) (step-on (J .rel i j) (suc d)))
+      go q (inl e) = omega (arith, P .spent (J .rel i j + suc d) i l, ap (λ (y : ℕ). open' y i) (sym (add-suc (J .rel i j) (suc d))))
+      go q (inr (e, c)) = omega (arith, P .spent (J .rel i j + suc d) i l, ap (λ (y : ℕ). open' y i) (sym (add-suc (J .rel i j) (suc d))))
 
   -- Against the run at full cost, where that meets every deadline.
   module _ (constrained : Constrained J D) (s : ℕ → ℕ → ℕ) (R : Run J s) (met : Met J D s) where
     -- From after its release to the next one, a job is the last one that is released.
     current : (i j t : ℕ) → i < J .n → J .rel i j < t → t ≤ J .rel i (suc j) → below (J .rel i) t ≡ suc j
-    current i j t l a b =
-        omega (
-          arith,
-          lt-below (J .rel i) (J .rel-grows i l) t j .1 a,
-          below-most (J .rel i) (J .rel-grows i l) t (suc j) (λ k h. elim (decLt k (suc j)) [ yes p ↦ p | no p ↦ absurd (omega (arith, grows-mono (J .rel i) (J .rel-grows i l) (suc j) k (omega arith))) ]),
-        )
+    current i j t l = below-is (J .rel i) (J .rel-grows i l) t j
 
     -- NONE IS CUT OFF: at its deadline a job has nothing left, so none is closed as late.
     pub none-late : (i j : ℕ) → i < J .n → open' (D .due i j) i ≡ 0
@@ -96,7 +78,7 @@ module _ (J : Jobs) (D : Dues J) (told : ℕ → ℕ → Type 0) (open' ready ga
     -- After the worst response of its stream a job has nothing left.
     after-worst : (i w : ℕ) → i < J .n → ((j f : ℕ) → DoneFirst J s i j f → f - J .rel i j ≤ w) → (j t : ℕ) → J .rel i j + w ≤ t → t ≤ J .rel i (suc j) → J .rel i j < t → open' t i ≡ 0
     after-worst i w l worst j t a b c =
-        let (g, h, q) = least (λ u. J .cost i * suc j ≤ s u i) (λ u. decLe _ _) (D .due i j) (met i j l) in
+        let (g, q, h, e) = finishes J D s R met i j l in
         not-open J open' dispatches s R i j t l (omega (arith, q .0, served-mono J s R i l g t (omega (arith, worst j g q)))) (current i j t l c b)
 
     -- As long as a job is not reported, what it was given and what is left make its cost.
@@ -106,7 +88,7 @@ module _ (J : Jobs) (D : Dues J) (told : ℕ → ℕ → Type 0) (open' ready ga
     account i j (suc d) l h = go (account i j d l (omega arith)) (P .kept (J .rel i j + suc d) i l (between i j d l (omega arith)))
       where
         more : ready (J .rel i j + suc d) i ≡ open' (J .rel i j + suc d) i → givenTo i (J .rel i j) (suc d) + open' (J .rel i j + suc d) i ≡ J .cost i → givenTo i (J .rel i j) (suc (suc d)) + open' (J .rel i j + suc (suc d)) i ≡ J .cost i
-        more e q = omega (arith, P .spent (J .rel i j + suc d) i l, ap (λ (y : ℕ). open' y i) (step-on (J .rel i j) (suc d)))
+        more e q = omega (arith, P .spent (J .rel i j + suc d) i l, ap (λ (y : ℕ). open' y i) (sym (add-suc (J .rel i j) (suc d))))
 
         go : ((u : ℕ) × (0 < u) × (u ≤ d) × told (J .rel i j + u) i) ⊎ (givenTo i (J .rel i j) (suc d) + open' (J .rel i j + suc d) i ≡ J .cost i)
             → (ready (J .rel i j + suc d) i ≡ open' (J .rel i j + suc d) i) ⊎ ((ready (J .rel i j + suc d) i ≡ 0) × (told (J .rel i j + suc d) i ⊎ ((k : ℕ) × (D .due i k ≡ J .rel i j + suc d))))

@@ -6,7 +6,7 @@ use native.Mathlib.Decide.{decLe}
 use native.Mathlib.Omega.{arith}
 use Rattle.counting.specs.Search.{strong}
 use Rattle.counting.specs.Sum.{sum-le, sum-mul, sum-zero}
-use Rattle.counting.specs.Below.{below, below-least, below-bound}
+use Rattle.counting.specs.Below.{below, below-least, below-none}
 use Rattle.backlog.specs.Streams.{Run, left, work, released}
 use Rattle.backlog.specs.Criterion.{Late, Over, late-of-left, left-of-late, late-iff-over, demand, demand-is}
 use Rattle.backlog.specs.System.{System, size, costOf, periodOf, releaseOf, keyOf, jobs, dues}
@@ -64,7 +64,7 @@ module _ (S : System) (Y : Cycle S) where
       )
     where
       none : (i : ℕ) → i < size S → min (work (jobs S) (last m) i) (released (jobs S) 0 i) ≡ 0
-      none i l = let e : below (releaseOf S i) 0 ≡ 0 = omega (arith, below-bound (releaseOf S i) ((jobs S) .rel-grows i l) 0) in rw e (omega arith)
+      none i l = rw (below-none (releaseOf S i)) (omega arith)
 
   -- A load above the round asks too much of some interval.
   pub overload : Y .round < loadOf S Y → (t : ℕ) × Over (jobs S) (dues S) t

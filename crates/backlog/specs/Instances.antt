@@ -1,11 +1,11 @@
 -- No theorem here is empty: what they ask for is met by tables of document 01.
 use mathlib.Core.Path.{_≡_, refl}
 use mathlib.Core.Logic.{inr}
-use mathlib.Core.List.{List, _∷_}
+use mathlib.Core.List.{_∷_}
 use mathlib.Core.Bool.{Bool, false, true}
 use Prim.Native.Nat.{ℕ, suc, _+_, _-_, _≤_, _<_}
 use native.Mathlib.Omega.{arith}
-use lib.ListN.{getD, replicate}
+use lib.ListN.{replicate}
 use lib.Dec.{T, lit≤, lit<, eqb}
 use Rattle.model.specs.Notation.{sum, largest, count, first, last, fill, Least}
 use Rattle.values.specs.declared.Verdict.{Verdict}
@@ -27,17 +27,17 @@ use Rattle.backlog.specs.ModelRun.{servedOf, model-run}
 use Rattle.backlog.specs.Shift.{Light}
 use Rattle.backlog.specs.History.{none-late}
 use Rattle.backlog.specs.RunHistory.{constrained, run-history}
-use Rattle.backlog.specs.TableSystem.{tie-ranks, systemOf, cycleOf}
-use Rattle.backlog.specs.Decided.{Feasible, Missed, first-missed, late-soon, overload-late, late-at-iff, feasible-iff}
-use Rattle.backlog.specs.Verdicts.{Late, none-before, longer, undecided-iff}
-use Rattle.backlog.specs.Answers.{passes-iff, late-infeasible, light-of-passed, met-of-passed, worsts-exist}
+use Rattle.backlog.specs.TableSystem.{tie-ranks, tieSystem, tieCycle}
+use Rattle.backlog.specs.Decided.{Feasible, Missed, first-missed, late-soon, overload-late, feasible-iff, never-iff}
+use Rattle.backlog.specs.Verdicts.{Late, none-before, longer, undecided-iff, overload-iff}
+use Rattle.backlog.specs.Answers.{passes-iff, overload-infeasible, late-infeasible, light-of-passed, met-of-passed, worst-of}
 use Rattle.backlog.specs.Taken.{Belongs, belongs-after}
 use Rattle.backlog.specs.Stepping.{never-refused, owned-ready}
 use Rattle.backlog.specs.StepHistory.{never-more, none-after, in-time, none-waits}
 use Rattle.backlog.specs.Walk.{quiet, Clear, late-iff}
 use Rattle.backlog.specs.WalkWorst.{worstBy, walk-worsts, walk-empty}
 
--- Table b keeps its ranges and passes, so some schedule of it is good, and its tasks have worst responses.
+-- Table b keeps its ranges and passes, so some schedule of it is good.
 b-ranged : Ranged table-b
 unfolding judged firstFaulty taskFault first round load horizon largest sum count
 b-ranged = well-formed table-b (record { round = 15; load = 11; horizon = 38 }) refl .ranged
@@ -50,25 +50,22 @@ b-feasible : Feasible table-b
 unfolding horizon largest round first count
 b-feasible = passes-iff table-b b-ranged 38 (lit≤ tt) .0 b-passes
 
-b-worsts : (w : List ℕ) × Worsts table-b w
-b-worsts = worsts-exist table-b b-ranged 38 b-passes
-
 -- Its run is a history, which every law of histories then speaks of: no job of it is late.
 abbrev b-system : System
-b-system = systemOf table-b b-ranged _ (tie-ranks table-b)
+b-system = tieSystem table-b b-ranged
 
 b-met : Met (jobs b-system) (dues b-system) (servedOf b-system)
-b-met = met-of-passed table-b b-ranged 38 b-passes
+b-met = met-of-passed table-b b-ranged 38 b-passes _ (tie-ranks table-b)
 
 b-none-late : (i j : ℕ) → i < 2 → released (jobs b-system) (dueOf b-system i j) i - servedOf b-system (dueOf b-system i j) i ≡ 0
-b-none-late = none-late (jobs b-system) (dues b-system) (λ t i. ⊥) _ _ _ (run-history b-system (servedOf b-system) (model-run b-system) b-met) (constrained b-system) (servedOf b-system) (model-run b-system) b-met
+b-none-late = none-late (jobs b-system) (dues b-system) (λ t i. ⊥) _ _ _ (run-history (jobs b-system) (dues b-system) (constrained b-system) (servedOf b-system) (model-run b-system) b-met) (constrained b-system) (servedOf b-system) (model-run b-system) b-met
 
 -- No interval of it asks too much, so a walk to its horizon finds its worst responses, and the first slot without a job.
 b-clear : Clear table-b (horizon table-b)
-b-clear u l h = let (from, x) = late-at-iff table-b u .0 h in feasible-iff table-b b-ranged .0 b-feasible from u x
+b-clear u l = never-iff table-b .0 (feasible-iff table-b b-ranged .0 b-feasible) u
 
 b-walk-worsts : Worsts table-b (worstBy table-b (horizon table-b))
-b-walk-worsts = walk-worsts table-b b-ranged (light-of-passed table-b b-ranged 38 b-passes) b-met b-clear
+b-walk-worsts = walk-worsts table-b b-ranged (light-of-passed table-b b-ranged 38 b-passes _ (tie-ranks table-b)) b-met b-clear
 
 b-walk-empty : first (λ u. eqb (ownerAt table-b quiet u) taskLimit) 0 (horizon table-b) ≡ firstEmpty table-b (tieOrder table-b)
 b-walk-empty = walk-empty table-b b-ranged b-clear
@@ -82,8 +79,8 @@ g-passes : verdict table-g 8 ≡ Verdict.Passes
 unfolding verdict needed lateStart lateAt first last round load horizon largest sum count demand jobsIn
 g-passes = refl
 
-g-light : Light (systemOf table-g g-ranged _ (tie-ranks table-g)) (cycleOf table-g g-ranged _ (tie-ranks table-g))
-g-light = light-of-passed table-g g-ranged 8 g-passes
+g-light : Light (tieSystem table-g g-ranged) (tieCycle table-g g-ranged)
+g-light = light-of-passed table-g g-ranged 8 g-passes _ (tie-ranks table-g)
 
 -- Table d is late first at 7, where its run first misses a deadline.
 d-ranged : Ranged table-d
@@ -94,8 +91,8 @@ d-late : Least (Late table-d) 7
 unfolding needed lateAt first round horizon largest sum count demand jobsIn
 d-late = (tt, λ u l. none-before table-d u l)
 
-d-missed : Least (Missed (systemOf table-d d-ranged _ (tie-ranks table-d))) 7
-d-missed = first-missed (systemOf table-d d-ranged _ (tie-ranks table-d)) 7 .1 d-late
+d-missed : Least (Missed (tieSystem table-d d-ranged)) 7
+d-missed = first-missed (tieSystem table-d d-ranged) 7 .1 d-late
 
 -- So a walk sees a job at its deadline there.
 d-seen : (i : ℕ) × (i < 2) × T (isLate table-d (stateAt table-d quiet 7) false i)
@@ -110,15 +107,19 @@ i-overload : (to : ℕ) × Late table-i to
 unfolding first round load sum count
 i-overload = overload-late table-i i-ranged (lit< tt)
 
+i-said : verdict table-i 0 ≡ Verdict.Overload
+unfolding first round load sum count
+i-said = overload-iff table-i 0 .1 (lit< tt)
+
 i-infeasible : Feasible table-i → ⊥
-i-infeasible h = let (to, w) = i-overload in let (from, x) = late-at-iff table-i to .0 w in feasible-iff table-i i-ranged .0 h from to x
+i-infeasible = overload-infeasible table-i i-ranged 0 i-said
 
 -- Table g with its first job reported done after one slot: every law of demand 3 has something to speak of.
 reports : ℕ → Bool
 reports n = eqb n 1
 
 g-in-time : (j : ℕ) → (w : ℕ) × Finished table-g reports 0 j (release (task table-g 0) j + w)
-g-in-time j = let (w, v) = worsts-exist table-g g-ranged 8 g-passes in (getD w 0 0, in-time table-g g-ranged reports 8 g-passes 0 (getD w 0 0) (lit< tt) (v .worst 0 (lit< tt)) j)
+g-in-time j = let (w, v) = worst-of table-g g-ranged 8 g-passes _ (tie-ranks table-g) 0 (lit< tt) in (w, in-time table-g g-ranged reports 8 g-passes 0 w (lit< tt) v j)
 
 g-idle : ownerAt table-g reports 3 ≡ taskLimit
 unfolding reports stateAt startOf after ownerNow choose fill

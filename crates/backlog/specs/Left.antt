@@ -8,7 +8,7 @@ use native.Mathlib.Omega.{arith}
 use Rattle.model.specs.Notation.{sum, Least}
 use Rattle.counting.specs.Search.{least}
 use Rattle.counting.specs.Sum.{sum-eq, sum-add, sum-zero, sum-by, sum-member}
-use Rattle.counting.specs.Below.{below, lt-below, below-bound, below-after}
+use Rattle.counting.specs.Below.{lt-below, below-after, below-none}
 use Rattle.backlog.specs.Queue.{backlog}
 use Rattle.backlog.specs.Streams.{Jobs, released, work, keyAt, SlotOf, Run, Serves, leftOf, left, arriveOf, arrive, released-mono, in-class}
 
@@ -72,12 +72,9 @@ module _ (J : Jobs) (s : ℕ → ℕ → ℕ) (R : Run J s) where
               let w : work J κ k ≤ s t k = not-lt (λ h. p (in-class J κ k (d .bound) (s t k) .0 h)) in
               none-due (λ i l. over p i l (decLt _ _) (decLt _ _)) (λ i l. same w i l (ℕ-discrete i k))
 
-  none-before : (i : ℕ) → i < J .n → below (J .rel i) 0 ≡ 0
-  none-before i l = omega (arith, below-bound (J .rel i) (J .rel-grows i l) 0)
-
   left-start : (κ : ℕ) → left J s κ 0 ≡ 0
   unfolding left
-  left-start κ = sum-zero (J .n) _ (λ i l. rw (none-before i l) (omega arith))
+  left-start κ = sum-zero (J .n) _ (λ i l. rw (below-none (J .rel i)) (omega arith))
 
   -- THE KEY LEMMA: the class work that is left is the backlog of the class arrivals. It depends on the releases alone.
   pub left-is : (κ t : ℕ) → left J s κ t ≡ backlog (arrive J κ) t
@@ -88,7 +85,7 @@ module _ (J : Jobs) (s : ℕ → ℕ → ℕ) (R : Run J s) where
   -- All class work that is released before t.
   pub arrived : (κ t : ℕ) → sum t (arrive J κ) ≡ sum (J .n) (λ i. min (work J κ i) (released J t i))
   unfolding sum arrive
-  arrived κ zero = sym (sum-zero (J .n) _ (λ i l. rw (none-before i l) (omega arith)))
+  arrived κ zero = sym (sum-zero (J .n) _ (λ i l. rw (below-none (J .rel i)) (omega arith)))
   arrived κ (suc t) =
       ap (λ (x : ℕ). x + arrive J κ t) (arrived κ t)
       ∙ sym (sum-add (J .n) (λ i. min (work J κ i) (released J t i)) (arriveOf J κ t))

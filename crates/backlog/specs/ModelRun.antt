@@ -1,8 +1,8 @@
 -- The model's run is a run of its streams, and there is one run only.
-use mathlib.Core.Path.{_≡_, refl, ap}
+use mathlib.Core.Path.{_≡_, refl}
 use mathlib.Core.Logic.{inl, inr, _≢_, _↔_}
-use Prim.Native.Nat.{ℕ, zero, suc, _+_, _*_, _/_, _≤_, _<_}
-use native.Mathlib.Nat.{div-lt-iff-lt-mul, mul-le-mul-right}
+use Prim.Native.Nat.{ℕ, zero, suc, _+_, _/_, _<_}
+use native.Mathlib.Nat.{div-lt-iff-lt-mul}
 use native.Mathlib.Decide.{decLt}
 use native.Mathlib.Omega.{arith}
 use lib.Dec.{T, leb}
@@ -11,9 +11,9 @@ use lib.Seq.{getD-set-same, getD-set-other}
 use Rattle.model.specs.Run.{ownerOf, served, owner}
 use Rattle.counting.specs.Count.{tests}
 use Rattle.counting.specs.Below.{below, lt-below}
-use Rattle.backlog.specs.Streams.{Run, SlotOf, released, keyAt}
-use Rattle.backlog.specs.Choice.{NoLater, Chosen, choose-is}
-use Rattle.backlog.specs.System.{System, size, costOf, releaseOf, dueOf, jobs}
+use Rattle.backlog.specs.Streams.{Run, SlotOf, released}
+use Rattle.backlog.specs.Choice.{Chosen, choose-is}
+use Rattle.backlog.specs.System.{System, size, costOf, releaseOf, dueOf, jobs, keys-order}
 
 -- The slots given to task i before slot t.
 abbrev pub servedOf : System → ℕ → ℕ → ℕ
@@ -37,11 +37,6 @@ module _ (S : System) where
 
   abbrev deadlineAt : ℕ → ℕ → ℕ
   deadlineAt t i = dueOf S i (servedOf S t i / costOf S i)
-
-  -- What comes no later has no larger key.
-  key-le : (t k i : ℕ) → k < size S → NoLater (deadlineAt t) (S .rank) k i → keyAt (jobs S) k (servedOf S t k) ≤ keyAt (jobs S) i (servedOf S t i)
-  key-le t k i l (inl a) = omega (arith, S .rank-lt k l, mul-le-mul-right (size S) a)
-  key-le t k i l (inr (e, r)) = omega (arith, ap (λ (x : ℕ). x * size S) e)
 
   pub chosen : (t : ℕ) → Chosen (λ i. leb (releaseOf S i (servedOf S t i / costOf S i)) t) (deadlineAt t) (S .rank) (size S) (owner (S .table) (S .rank) t)
   unfolding owner ownerOf
@@ -72,7 +67,7 @@ module _ (S : System) where
         record {
           bound = c .bound;
           ready = ready-iff _ t _ (c .bound) .0 (c .opened);
-          least = λ i l p. key-le t _ i (c .bound) (c .ahead i l (ready-iff i t (servedOf S t i) l .1 p));
+          least = λ i l p. keys-order S _ _ i _ (c .bound) (c .ahead i l (ready-iff i t (servedOf S t i) l .1 p));
           one = owner-served t (c .bound);
           rest = λ i l e. others-served t i e;
         },

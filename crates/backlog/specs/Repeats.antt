@@ -5,9 +5,9 @@ use Prim.Native.Nat.{ℕ, zero, suc, _+_, _-_, _*_, _≤_, _<_, min}
 use native.Mathlib.Nat.{mul-pos, mul-le-mul-left, min-eq-left}
 use native.Mathlib.Omega.{arith}
 use Rattle.counting.specs.Sum.{sum-by}
-use Rattle.counting.specs.Below.{below, lt-below, below-below, below-at, below-after}
+use Rattle.counting.specs.Below.{below, lt-below, below-at, below-after, below-same}
 use Rattle.backlog.specs.Streams.{Jobs, Run, released, work, left, leftOf}
-use Rattle.backlog.specs.System.{System, size, costOf, releaseOf, dueOf, keyOf, jobs}
+use Rattle.backlog.specs.System.{System, size, costOf, releaseOf, dueOf, keyOf, jobs, some-task}
 use Rattle.backlog.specs.Shift.{Cycle, Light, release-later, key-later, left-up, left-down}
 
 -- What is left of job j of stream i, once it is released.
@@ -21,7 +21,7 @@ part c p q r s e h = let g : p ≤ r = omega arith in rw (min-eq-left h, min-eq-
     core : (c p q s : ℕ) → q ≡ p + c → q - min s q ≡ (p - min s p) + min c (q - s)
     core c p q s e = omega arith
 
-module _ (J : Jobs) (s : ℕ → ℕ → ℕ) (R : Run J s) where
+module _ (J : Jobs) (s : ℕ → ℕ → ℕ) where
   -- The work up to the key of a job is the work before it and the rest of the job itself.
   job-left : (t i j κ : ℕ) → i < J .n → suc κ ≡ J .key i j → J .rel i j < t → left J s (J .key i j) t ≡ left J s κ t + restOf J s t i j
   unfolding left
@@ -45,11 +45,7 @@ module _ (J : Jobs) (s : ℕ → ℕ → ℕ) (R : Run J s) where
           apart b v = d (J .key-apart k b i j q l v)
 
           same : below (J .key k) (suc (J .key i j)) ≡ below (J .key k) (suc κ)
-          same = omega (
-            arith,
-            below-below (J .key k) (J .key k) (J .key-grows k q) (J .key-grows k q) (suc (J .key i j)) (suc κ) (λ b h. omega (arith, apart b)),
-            below-below (J .key k) (J .key k) (J .key-grows k q) (J .key-grows k q) (suc κ) (suc (J .key i j)) (λ b h. omega arith),
-          )
+          same = sym (below-same (J .key k) (J .key-grows k q) (suc κ) (suc (J .key i j)) (omega arith) (λ b h. omega (arith, apart b)))
 
   -- Nothing is left of a job exactly if it is done.
   rest-done : (t i j : ℕ) → i < J .n → (restOf J s t i j ≡ 0) ↔ (J .cost i * suc j ≤ s t i)
@@ -57,11 +53,8 @@ module _ (J : Jobs) (s : ℕ → ℕ → ℕ) (R : Run J s) where
 
 module _ (S : System) (Y : Cycle S) (light : Light S Y) (s : ℕ → ℕ → ℕ) (R : Run (jobs S) s) where
   key-pos : (i j : ℕ) → i < size S → 0 < keyOf S i j
-  key-pos i j l = omega (arith, mul-pos (due-pos i j l) (small l))
+  key-pos i j l = omega (arith, mul-pos (due-pos i j l) (some-task S l))
     where
-      small : {i n : ℕ} → i < n → 0 < n
-      small l = omega arith
-
       due-pos : (i j : ℕ) → i < size S → 0 < dueOf S i j
       due-pos i j l = omega (arith, S .deadline-pos i l)
 
@@ -76,8 +69,8 @@ module _ (S : System) (Y : Cycle S) (light : Light S Y) (s : ℕ → ℕ → ℕ
           let k : left (jobs S) s (keyOf S i (j + Y .times i)) (t + Y .round) ≡ left (jobs S) s (keyOf S i j + size S * Y .round) (t + Y .round) = ap (λ (x : ℕ). left (jobs S) s x (t + Y .round)) (key-later S Y i l j) in
           omega (
             arith,
-            job-left (jobs S) s R t i j κ l (sym e) r,
-            job-left (jobs S) s R (t + Y .round) i (j + Y .times i) (κ + size S * Y .round) l f (omega (arith, release-later S Y i l j)),
+            job-left (jobs S) s t i j κ l (sym e) r,
+            job-left (jobs S) s (t + Y .round) i (j + Y .times i) (κ + size S * Y .round) l f (omega (arith, release-later S Y i l j)),
             left-up S Y s R κ t,
             left-down S Y s R light κ t h,
             left-up S Y s R (keyOf S i j) t,
@@ -87,6 +80,6 @@ module _ (S : System) (Y : Cycle S) (light : Light S Y) (s : ℕ → ℕ → ℕ
   -- So one is done exactly if the other is a round later.
   pub repeats-done : (t i j : ℕ) → i < size S → Y .start + Y .round ≤ t → releaseOf S i j < t → (costOf S i * suc j ≤ s t i) ↔ (costOf S i * suc (j + Y .times i) ≤ s (t + Y .round) i)
   repeats-done t i j l h r = (
-    λ d. rest-done (jobs S) s R (t + Y .round) i (j + Y .times i) l .0 (sym (repeats t i j l h r) ∙ rest-done (jobs S) s R t i j l .1 d),
-    λ d. rest-done (jobs S) s R t i j l .0 (repeats t i j l h r ∙ rest-done (jobs S) s R (t + Y .round) i (j + Y .times i) l .1 d),
+    λ d. rest-done (jobs S) s (t + Y .round) i (j + Y .times i) l .0 (sym (repeats t i j l h r) ∙ rest-done (jobs S) s t i j l .1 d),
+    λ d. rest-done (jobs S) s t i j l .0 (repeats t i j l h r ∙ rest-done (jobs S) s (t + Y .round) i (j + Y .times i) l .1 d),
   )

@@ -8,13 +8,16 @@ use native.Mathlib.Decide.{ℕ-discrete, decLt}
 use native.Mathlib.Omega.{arith}
 use borrow.Author.Tests.{lt-ltb, le-ltb, eq-eqb, ne-eqb}
 use lib.Dec.{T, leb, eqb, eqb→eq, leb·zero}
-use Rattle.model.specs.Notation.{bit, count, Least}
+use Rattle.model.specs.Notation.{bit, count}
 use Rattle.model.specs.Schedule.{Slot, none, job, belongs, given, Good}
 use Rattle.model.specs.Run.{owner, run, Finishes}
 use Rattle.counting.specs.Count.{tests, and-iff, count-le}
+use Rattle.counting.specs.Search.{least-iff}
 use Rattle.backlog.specs.Choice.{NoLater, Chosen}
-use Rattle.backlog.specs.System.{System, size, costOf, periodOf, releaseOf, dueOf, period-pos}
+use Rattle.backlog.specs.System.{System, size, costOf, periodOf, releaseOf, dueOf, period-pos, JobNoLater, jobs, dues}
 use Rattle.backlog.specs.ModelRun.{servedOf, chosen, owner-served, others-served, model-run}
+use Rattle.backlog.specs.Left.{DoneFirst}
+use Rattle.backlog.specs.Criterion.{Met}
 
 module _ (S : System) where
   abbrev ownerAt : ℕ → ℕ
@@ -98,16 +101,16 @@ module _ (S : System) where
   pub done-iff : (i j u : ℕ) → i < size S → (costOf S i ≤ given (run (S .table) (S .rank)) i j 0 u) ↔ (costOf S i * suc j ≤ servedOf S u i)
   done-iff i j u l = (λ h. omega (arith, job-given i j u l, S .cost-pos i l), λ h. omega (arith, job-given i j u l))
 
+  pub undone-iff : (i j u : ℕ) → i < size S → (given (run (S .table) (S .rank)) i j 0 u < costOf S i) ↔ (servedOf S u i < costOf S i * suc j)
+  undone-iff i j u l = (λ h. omega (arith, job-given i j u l), λ h. omega (arith, job-given i j u l, S .cost-pos i l))
+
   -- FINISH, by the counts.
-  pub finishes-iff : (i j f : ℕ) → i < size S → Finishes (S .table) (S .rank) i j f ↔ Least (λ u. costOf S i * suc j ≤ servedOf S u i) f
+  pub finishes-iff : (i j f : ℕ) → i < size S → Finishes (S .table) (S .rank) i j f ↔ DoneFirst (jobs S) (servedOf S) i j f
   unfolding Finishes
-  finishes-iff i j f l = (
-    λ h. (done-iff i j f l .0 (h .0), λ u m d. h .1 u m (done-iff i j u l .1 d)),
-    λ h. (done-iff i j f l .1 (h .0), λ u m d. h .1 u m (done-iff i j u l .0 d)),
-  )
+  finishes-iff i j f l = least-iff _ _ (λ u. done-iff i j u l) f
 
   -- If every job is done by its deadline, the run is a good schedule.
-  pub run-good : ((i j : ℕ) → i < size S → costOf S i * suc j ≤ servedOf S (dueOf S i j) i) → Good (S .table) (run (S .table) (S .rank))
+  pub run-good : Met (jobs S) (dues S) (servedOf S) → Good (S .table) (run (S .table) (S .rank))
   unfolding Good
   run-good h i j l = omega (arith, given-released i j (dueOf S i j) l, done-iff i j (dueOf S i j) l .1 (h i j l))
 
@@ -115,25 +118,21 @@ module _ (S : System) where
   abbrev pub Waiting : ℕ → ℕ → ℕ → Type 0
   Waiting u i j = (i < size S) × (releaseOf S i j ≤ u) × (given (run (S .table) (S .rank)) i j 0 u < costOf S i)
 
-  -- Job j of task i comes no later than job m of task k.
-  abbrev pub JobNoLater : ℕ → ℕ → ℕ → ℕ → Type 0
-  JobNoLater i j k m = (dueOf S i j < dueOf S k m) ⊎ ((dueOf S i j ≡ dueOf S k m) × (S .rank i ≤ S .rank k))
-
   -- THE RUN'S RULE, in document 01's words: the slot goes to the waiting job with the earliest deadline, ties by the order; to none only if none waits.
   pub run-rule : (u : ℕ) →
       ((runAt u ≡ none) × ((i j : ℕ) → Waiting u i j → ⊥))
-      ⊎ ((i : ℕ) × (j : ℕ) × (runAt u ≡ job i j) × Waiting u i j × ((k m : ℕ) → Waiting u k m → JobNoLater i j k m))
+      ⊎ ((i : ℕ) × (j : ℕ) × (runAt u ≡ job i j) × Waiting u i j × ((k m : ℕ) → Waiting u k m → JobNoLater S i j k m))
   run-rule u = go (chosen S u)
     where
       before : (i j : ℕ) → Waiting u i j → at u i ≤ j
       before i j (l, r, g) =
-          let d : at u i < suc j = div-lt-iff-lt-mul (S .cost-pos i l) .1 (omega (arith, job-given i j u l)) in
+          let d : at u i < suc j = div-lt-iff-lt-mul (S .cost-pos i l) .1 (omega (arith, undone-iff i j u l .0 g)) in
           omega arith
 
       ready : (i j : ℕ) → Waiting u i j → T (leb (releaseOf S i (at u i)) u)
       ready i j w = omega (tests, w .1, mul-le-mul-right (periodOf S i) (before i j w))
 
-      later : (i j k m : ℕ) → NoLater (λ k. dueOf S k (at u k)) (S .rank) i k → at u i ≡ j → Waiting u k m → JobNoLater i j k m
+      later : (i j k m : ℕ) → NoLater (λ k. dueOf S k (at u k)) (S .rank) i k → at u i ≡ j → Waiting u k m → JobNoLater S i j k m
       later i j k m (inl a) e w = inl (omega (arith, ap (dueOf S i) e, mul-le-mul-right (periodOf S k) (before k m w)))
       later i j k m (inr (a, r)) e w = elim (ℕ-discrete (at u k) m) [
         | yes q ↦ inr (omega (arith, ap (dueOf S i) e, ap (dueOf S k) q), r)
@@ -141,13 +140,13 @@ module _ (S : System) where
       ]
 
       go : Chosen (λ k. leb (releaseOf S k (at u k)) u) (λ k. dueOf S k (at u k)) (S .rank) (size S) (ownerAt u)
-          → ((runAt u ≡ none) × ((i j : ℕ) → Waiting u i j → ⊥)) ⊎ ((i : ℕ) × (j : ℕ) × (runAt u ≡ job i j) × Waiting u i j × ((k m : ℕ) → Waiting u k m → JobNoLater i j k m))
+          → ((runAt u ≡ none) × ((i j : ℕ) → Waiting u i j → ⊥)) ⊎ ((i : ℕ) × (j : ℕ) × (runAt u ≡ job i j) × Waiting u i j × ((k m : ℕ) → Waiting u k m → JobNoLater S i j k m))
       go (inl c) = inl (run-none u (omega (arith, c .none, S .size-le)), λ i j w. c .shut i (w .0) (ready i j w))
       go (inr c) = inr (
         ownerAt u,
         at u (ownerAt u),
         run-job u (c .bound),
-        (c .bound, omega (tests, c .opened), omega (arith, job-given (ownerAt u) (at u (ownerAt u)) u (c .bound), unfinished, S .cost-pos (ownerAt u) (c .bound))),
+        (c .bound, omega (tests, c .opened), undone-iff (ownerAt u) (at u (ownerAt u)) u (c .bound) .1 unfinished),
         λ k m w. later (ownerAt u) (at u (ownerAt u)) k m (c .ahead k (w .0) (ready k m w)) refl w,
       )
         where

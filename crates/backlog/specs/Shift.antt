@@ -1,13 +1,13 @@
 -- ONE ROUND LATER: what is left up to a key at t, and what is left one round later up to the key of a round later.
-use mathlib.Core.Path.{_≡_, refl, sym, ap, subst}
+use mathlib.Core.Path.{_≡_, sym, ap, subst}
 use mathlib.Core.Logic.{_⊎_, inl, inr}
-use Prim.Native.Nat.{ℕ, zero, suc, _+_, _-_, _*_, _≤_, _<_, min}
-use native.Mathlib.Nat.{eq-zero-or-pos, mul-le-mul-left, sub-add-cancel}
+use Prim.Native.Nat.{ℕ, suc, _+_, _-_, _*_, _≤_, _<_, min}
+use native.Mathlib.Nat.{eq-zero-or-pos, mul-le-mul-left, sub-add-cancel, suc-add, mul-le-mul-right}
 use native.Mathlib.Decide.{decLe}
 use native.Mathlib.Omega.{arith}
 use Rattle.model.specs.Notation.{sum}
 use Rattle.counting.specs.Sum.{sum-add, sum-le-add}
-use Rattle.counting.specs.Below.{below, lt-below, below-mono, below-later, below-later-le}
+use Rattle.counting.specs.Below.{below, below-mono, below-later, below-later-le, below-later-or}
 use Rattle.backlog.specs.Queue.{sum-backlog, busy-from, Busy}
 use Rattle.backlog.specs.Streams.{Jobs, Run, released, work, left, arrive, released-mono}
 use Rattle.backlog.specs.Left.{left-is, arrived}
@@ -49,9 +49,21 @@ down w w' m r r' u u' (inr x) b c d e = omega arith
 across : (w w' m r r' u : ℕ) → w' ≤ w + m → w ≤ w' → r' ≤ r + m → u ≤ r → min w' r' + min w u ≤ (min w r + min w' u) + m
 across w w' m r r' u a b c d = omega arith
 
+-- None, or m more one round later: so the work of them too.
+scaled : (c m : ℕ) {a b : ℕ} → (a ≡ 0) ⊎ (b ≡ a + m) → (c * a ≡ 0) ⊎ (c * b ≡ c * a + c * m)
+scaled c m (inl e) = inl (rw e (omega arith))
+scaled c m (inr e) = inr (rw e (omega arith))
+
 module _ (S : System) (Y : Cycle S) where
   abbrev J : Jobs
   J = jobs S
+
+  -- No period is longer than the round.
+  pub times-pos : (i : ℕ) → i < size S → 0 < Y .times i
+  times-pos i l = elim (eq-zero-or-pos (Y .times i)) [ inl e ↦ absurd (omega (arith, Y .round-pos, Y .common i l, ap (λ (x : ℕ). x * periodOf S i) e)) | inr p ↦ p ]
+
+  pub period-le-round : (i : ℕ) → i < size S → periodOf S i ≤ Y .round
+  period-le-round i l = omega (arith, Y .common i l, mul-le-mul-right (periodOf S i) (times-pos i l))
 
   pub release-later : (i : ℕ) → i < size S → (j : ℕ) → releaseOf S i (j + Y .times i) ≡ releaseOf S i j + Y .round
   release-later i l j = omega (arith, Y .common i l)
@@ -62,20 +74,12 @@ module _ (S : System) (Y : Cycle S) where
   class-mono : (i κ : ℕ) → i < size S → work J κ i ≤ work J (κ + size S * Y .round) i
   class-mono i κ l = mul-le-mul-left (costOf S i) (below-mono (keyOf S i) (J .key-grows i l) (suc κ) (suc (κ + size S * Y .round)) (omega arith))
 
-  past : (a b : ℕ) → suc a + b ≡ suc (a + b)
-  past a b = omega arith
-
   class-later-le : (i κ : ℕ) → i < size S → work J (κ + size S * Y .round) i ≤ work J κ i + costOf S i * Y .times i
-  class-later-le i κ l = omega (arith, mul-le-mul-left (costOf S i) (subst (λ (x : ℕ). below (keyOf S i) x ≤ below (keyOf S i) (suc κ) + Y .times i) (past κ (size S * Y .round)) (below-later-le (keyOf S i) (J .key-grows i l) (Y .times i) (size S * Y .round) (key-later i l) (suc κ))))
+  class-later-le i κ l = omega (arith, mul-le-mul-left (costOf S i) (subst (λ (x : ℕ). below (keyOf S i) x ≤ below (keyOf S i) (suc κ) + Y .times i) (suc-add κ (size S * Y .round)) (below-later-le (keyOf S i) (J .key-grows i l) (Y .times i) (size S * Y .round) (key-later i l) (suc κ))))
 
   class-later : (i κ : ℕ) → i < size S → (work J κ i ≡ 0) ⊎ (work J (κ + size S * Y .round) i ≡ work J κ i + costOf S i * Y .times i)
-  class-later i κ l = go (below (keyOf S i) (suc κ)) refl
-    where
-      go : (b : ℕ) → below (keyOf S i) (suc κ) ≡ b → (work J κ i ≡ 0) ⊎ (work J (κ + size S * Y .round) i ≡ work J κ i + costOf S i * Y .times i)
-      go zero e = inl (rw e (omega arith))
-      go (suc b) e =
-          let z : keyOf S i 0 < suc κ = lt-below (keyOf S i) (J .key-grows i l) (suc κ) 0 .0 (omega arith) in
-          inr (omega (arith, ap (λ (x : ℕ). costOf S i * x) (subst (λ (x : ℕ). below (keyOf S i) x ≡ below (keyOf S i) (suc κ) + Y .times i) (past κ (size S * Y .round)) (below-later (keyOf S i) (J .key-grows i l) (Y .times i) (size S * Y .round) (key-later i l) (suc κ) (omega arith)))))
+  class-later i κ l =
+      scaled (costOf S i) (Y .times i) (subst (λ (x : ℕ). (below (keyOf S i) (suc κ) ≡ 0) ⊎ (below (keyOf S i) x ≡ below (keyOf S i) (suc κ) + Y .times i)) (suc-add κ (size S * Y .round)) (below-later-or (keyOf S i) (J .key-grows i l) (Y .times i) (size S * Y .round) (key-later i l) (suc κ)))
 
   rel-later-le : (i t : ℕ) → i < size S → released J (t + Y .round) i ≤ released J t i + costOf S i * Y .times i
   rel-later-le i t l = omega (arith, mul-le-mul-left (costOf S i) (below-later-le (releaseOf S i) (J .rel-grows i l) (Y .times i) (Y .round) (release-later i l) t))
@@ -84,11 +88,7 @@ module _ (S : System) (Y : Cycle S) where
   rel-later-from i t l h = omega (arith, ap (λ (x : ℕ). costOf S i * x) (below-later (releaseOf S i) (J .rel-grows i l) (Y .times i) (Y .round) (release-later i l) t (omega arith)))
 
   rel-later : (i t : ℕ) → i < size S → (released J t i ≡ 0) ⊎ (released J (t + Y .round) i ≡ released J t i + costOf S i * Y .times i)
-  rel-later i t l = go (below (releaseOf S i) t) refl
-    where
-      go : (b : ℕ) → below (releaseOf S i) t ≡ b → (released J t i ≡ 0) ⊎ (released J (t + Y .round) i ≡ released J t i + costOf S i * Y .times i)
-      go zero e = inl (rw e (omega arith))
-      go (suc b) e = inr (rel-later-from i t l (omega (arith, lt-below (releaseOf S i) (J .rel-grows i l) t 0 .0 (omega arith))))
+  rel-later i t l = scaled (costOf S i) (Y .times i) (below-later-or (releaseOf S i) (J .rel-grows i l) (Y .times i) (Y .round) (release-later i l) t)
 
   -- The class work that is released before t.
   abbrev arr : ℕ → ℕ → ℕ → ℕ
@@ -104,6 +104,26 @@ module _ (S : System) (Y : Cycle S) where
   unfolding loadOf
   arr-across light κ t u h = omega (arith, light, sum-add (size S) (arr κ t) (arr (κ + size S * Y .round) u), sum-le-add (size S) _ _ _ _ (λ i l. across _ _ _ _ _ _ (class-later-le i κ l) (class-mono i κ l) (rel-later-le i t l) (released-mono J i l u t h)))
 
+-- The class work that is released before t, of all streams.
+abbrev arrivals : Jobs → ℕ → ℕ → ℕ
+arrivals J κ t = sum (J .n) (λ i. min (work J κ i) (released J t i))
+
+-- The backlog of a busy period is at most that of another, if no more arrives in it, but for the slots that it is longer.
+compare : (J : Jobs) (s : ℕ → ℕ → ℕ) → Run J s → (κ κ' t t' u u' : ℕ) → Busy (arrive J κ) t u → u' ≤ t'
+    → arrivals J κ t + arrivals J κ' u' ≤ (arrivals J κ' t' + arrivals J κ u) + ((t - u) - (t' - u')) → t' - u' ≤ t - u → left J s κ t ≤ left J s κ' t'
+compare J s R κ κ' t t' u u' b h more shorter =
+    omega (
+      arith,
+      b .exact,
+      left-is J s R κ t,
+      left-is J s R κ' t',
+      sum-backlog (arrive J κ') u' t' h,
+      arrived J s R κ t,
+      arrived J s R κ u,
+      arrived J s R κ' t',
+      arrived J s R κ' u',
+    )
+
 module _ (S : System) (Y : Cycle S) (s : ℕ → ℕ → ℕ) (R : Run (jobs S) s) where
   abbrev lft : ℕ → ℕ → ℕ
   lft κ t = left (jobs S) s κ t
@@ -112,60 +132,22 @@ module _ (S : System) (Y : Cycle S) (s : ℕ → ℕ → ℕ) (R : Run (jobs S) 
   pub left-up : (κ t : ℕ) → left (jobs S) s κ t ≤ left (jobs S) s (κ + size S * Y .round) (t + Y .round)
   left-up κ t = go (eq-zero-or-pos (lft κ t))
     where
-      κ' : ℕ
-      κ' = κ + size S * Y .round
-
       go : (lft κ t ≡ 0) ⊎ (0 < lft κ t) → lft κ t ≤ lft (κ + size S * Y .round) (t + Y .round)
       go (inl e) = omega arith
       go (inr p) =
           let (u, b) = busy-from (arrive (jobs S) κ) t (omega (arith, left-is (jobs S) s R κ t)) in
-          omega (
-            arith,
-            b .exact,
-            left-is (jobs S) s R κ t,
-            left-is (jobs S) s R (κ + size S * Y .round) (t + Y .round),
-            sum-backlog (arrive (jobs S) (κ + size S * Y .round)) (u + Y .round) (t + Y .round) (omega arith),
-            arrived (jobs S) s R κ t,
-            arrived (jobs S) s R κ u,
-            arrived (jobs S) s R (κ + size S * Y .round) (t + Y .round),
-            arrived (jobs S) s R (κ + size S * Y .round) (u + Y .round),
-            arr-up S Y κ t u (omega arith),
-          )
+          compare (jobs S) s R κ (κ + size S * Y .round) t (t + Y .round) u (u + Y .round) b (omega (arith, b .early)) (omega (arith, arr-up S Y κ t u (omega (arith, b .early)))) (omega arith)
 
   -- And from one round after the start on no more is, without overload.
   pub left-down : Light S Y → (κ t : ℕ) → Y .start + Y .round ≤ t → left (jobs S) s (κ + size S * Y .round) (t + Y .round) ≤ left (jobs S) s κ t
   left-down light κ t h = go (eq-zero-or-pos (lft (κ + size S * Y .round) (t + Y .round)))
     where
       from : (u : ℕ) → Busy (arrive (jobs S) (κ + size S * Y .round)) (t + Y .round) u → Dec (u ≤ t) → lft (κ + size S * Y .round) (t + Y .round) ≤ lft κ t
-      from u b (yes d) =
-          omega (
-            arith,
-            b .exact,
-            left-is (jobs S) s R κ t,
-            left-is (jobs S) s R (κ + size S * Y .round) (t + Y .round),
-            sum-backlog (arrive (jobs S) κ) u t d,
-            arrived (jobs S) s R κ t,
-            arrived (jobs S) s R κ u,
-            arrived (jobs S) s R (κ + size S * Y .round) (t + Y .round),
-            arrived (jobs S) s R (κ + size S * Y .round) u,
-            arr-across S Y light κ t u d,
-          )
+      from u b (yes d) = compare (jobs S) s R (κ + size S * Y .round) κ (t + Y .round) t u u b d (omega (arith, arr-across S Y light κ t u d)) (omega arith)
       from u b (no d) = moved (u - Y .round) (subst (λ (x : ℕ). Busy (arrive (jobs S) (κ + size S * Y .round)) (t + Y .round) x) (sym (sub-add-cancel {n = u} {m = Y .round} (omega arith))) b) (omega (arith, b .early)) (omega arith)
         where
           moved : (v : ℕ) → Busy (arrive (jobs S) (κ + size S * Y .round)) (t + Y .round) (v + Y .round) → v ≤ t → Y .start ≤ v → lft (κ + size S * Y .round) (t + Y .round) ≤ lft κ t
-          moved v b k f =
-              omega (
-                arith,
-                b .exact,
-                left-is (jobs S) s R κ t,
-                left-is (jobs S) s R (κ + size S * Y .round) (t + Y .round),
-                sum-backlog (arrive (jobs S) κ) v t k,
-                arrived (jobs S) s R κ t,
-                arrived (jobs S) s R κ v,
-                arrived (jobs S) s R (κ + size S * Y .round) (t + Y .round),
-                arrived (jobs S) s R (κ + size S * Y .round) (v + Y .round),
-                arr-down S Y κ t v k f,
-              )
+          moved v b k f = compare (jobs S) s R (κ + size S * Y .round) κ (t + Y .round) t (v + Y .round) v b k (omega (arith, arr-down S Y κ t v k f)) (omega arith)
 
       go : (lft (κ + size S * Y .round) (t + Y .round) ≡ 0) ⊎ (0 < lft (κ + size S * Y .round) (t + Y .round)) → lft (κ + size S * Y .round) (t + Y .round) ≤ lft κ t
       go (inl e) = omega arith

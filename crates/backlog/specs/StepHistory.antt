@@ -1,11 +1,9 @@
 -- DEMAND 3 of the model's dispatcher, under any pattern of done reports.
 use mathlib.Core.Path.{_≡_, refl, sym, ap, _∙_}
 use mathlib.Core.Logic.{_⊎_, inl, inr, _≢_}
-use mathlib.Core.List.{List}
-use lib.ListN.{getD}
-use mathlib.Core.Bool.{Bool, true, cond, _&&_}
-use Prim.Native.Nat.{ℕ, zero, suc, _+_, _-_, _*_, min, _≤_, _<_}
-use native.Mathlib.Nat.{mul-le-mul-right, add-zero, add-suc, min-eq-left, le-antisymm}
+use mathlib.Core.Bool.{Bool, true, cond}
+use Prim.Native.Nat.{ℕ, zero, suc, _+_, _-_, min, _≤_, _<_}
+use native.Mathlib.Nat.{add-zero, add-suc, min-eq-left, le-antisymm}
 use native.Mathlib.Decide.{ℕ-discrete, decLt}
 use native.Mathlib.Omega.{arith}
 use borrow.Author.Tests.{eq-eqb, ne-eqb, le-leb}
@@ -15,33 +13,33 @@ use Rattle.model.specs.Notation.{bit, sum, count}
 use Rattle.model.specs.Limits.{taskLimit}
 use Rattle.values.specs.declared.Verdict.{Verdict}
 use Rattle.model.specs.Tasks.{task, release}
-use Rattle.model.specs.Verdict.{verdict, Worsts}
+use Rattle.model.specs.Verdict.{verdict}
 use Rattle.model.specs.Run.{tieOrder, Worst}
 use Rattle.model.specs.Dispatcher.{leftOf, isLate, waitReleased, leftReleased, turn}
 use Rattle.model.specs.History.{stateAt, ownerAt, reported, had, Finished}
-use Rattle.counting.specs.Count.{tests, and-iff, bit-no, count-more}
+use Rattle.counting.specs.Count.{tests, and-iff, count-more}
 use Rattle.counting.specs.Search.{NoneFrom, first-none}
 use Rattle.counting.specs.Bits.{bits-none, bits-past, count-past}
-use Rattle.counting.specs.Below.{below, below-bound}
+use Rattle.counting.specs.Below.{below, between-none}
 use Rattle.wellformed.specs.Ranges.{Ranged}
 use Rattle.backlog.specs.Criterion.{Met}
 use Rattle.backlog.specs.Domination.{openKey}
 use Rattle.backlog.specs.History as streams
 use Rattle.backlog.specs.History.{History}
-use Rattle.backlog.specs.System.{System, releaseOf, dueOf, keyOf, jobs, dues}
+use Rattle.backlog.specs.System.{System, releaseOf, dueOf, keyOf, jobs, dues, keys-order}
 use Rattle.backlog.specs.Choice.{NoLater, Chosen}
 use Rattle.backlog.specs.ModelRun.{servedOf, model-run}
 use Rattle.backlog.specs.RunSchedule.{finishes-iff}
 use Rattle.backlog.specs.RunHistory.{constrained}
 use Rattle.backlog.specs.Worst.{worst-range}
-use Rattle.backlog.specs.TableSystem.{tie-ranks, cycleOf}
-use Rattle.backlog.specs.Answers.{light-of-passed, met-of-passed, worsts-exist}
-use Rattle.backlog.specs.Taken.{chosen, owner-ready}
-use Rattle.backlog.specs.Stepping.{S, Fresh, Kept, finds, late-is, ready-is, left-next, sound}
+use Rattle.backlog.specs.TableSystem.{tie-ranks, tieSystem}
+use Rattle.backlog.specs.Answers.{met-of-passed, worst-of}
+use Rattle.backlog.specs.Taken.{left-start, chosen, owner-ready}
+use Rattle.backlog.specs.Stepping.{Fresh, Kept, finds, late-is, ready-is, left-next, sound}
 
 module _ (t : Table) (r : Ranged t) (done : ℕ → Bool) where
   abbrev table-system : System
-  table-system = S t r done
+  table-system = tieSystem t r
 
   abbrev open' : ℕ → ℕ → ℕ
   open' n i = leftOf (stateAt t done n) i
@@ -70,24 +68,22 @@ module _ (t : Table) (r : Ranged t) (done : ℕ → Bool) where
           → dueOf table-system k b ≡ n + (waitReleased t (stateAt t done n) (done n) k - (task t k .period - task t k .deadline))
           → NoLater (λ i. waitReleased t (stateAt t done n) (done n) i - (task t i .period - task t i .deadline)) (tieOrder t) k i
           → keyOf table-system k b ≤ keyOf table-system i a
-      go a b y v (inl h) = let s : suc (dueOf table-system k b) ≤ dueOf table-system i a = omega arith in omega (arith, mul-le-mul-right (t .count) s)
-      go a b y v (inr (h, o)) = let s : dueOf table-system k b ≡ dueOf table-system i a = omega arith in omega (arith, ap (λ (x : ℕ). x * t .count) s)
+      go a b y v (inl h) = keys-order table-system k b i a m (inl (omega arith))
+      go a b y v (inr (h, o)) = keys-order table-system k b i a m (inr (omega arith, o))
+
+  first-open : (i : ℕ) → open' 0 i ≡ 0
+  unfolding stateAt
+  first-open = left-start t
 
   pub step-history : History (jobs table-system) (dues table-system) (λ n i. T (reported t done i n)) open' ready gave
   step-history = record {
-    start = λ i l. nothing i l;
+    start = λ i l. first-open i;
     fresh = λ n i j l e. fresh n i j l e (finds t r done n i (sound t r done n) l);
     kept = λ n i l none. kept n i l none (finds t r done n i (sound t r done n) l);
     spent = λ n i l. spent n i l (ℕ-discrete (ownerAt t done n) i);
     slot = λ n. slot n (chosen t (stateAt t done n) (done n) (r .few));
   }
     where
-      nothing : (i : ℕ) → i < t .count → open' 0 i ≡ 0
-      nothing i l = elim (decLt 0 (open' 0 i)) [
-        | yes p ↦ (let (j, b, d) = sound t r done 0 .current i l p in absurd (omega (arith, below-bound (releaseOf table-system i) ((jobs table-system) .rel-grows i l) 0)))
-        | no p ↦ omega arith
-      ]
-
       fresh : (n i j : ℕ) → i < t .count → releaseOf table-system i j ≡ n → ((k : ℕ) × Fresh t r done n i k) ⊎ Kept t r done n i → ready n i ≡ task t i .cost
       fresh n i j l e (inl (k, f)) = f .left
       fresh n i j l e (inr k) = absurd (k .none j e)
@@ -120,8 +116,7 @@ module _ (t : Table) (r : Ranged t) (done : ℕ → Bool) where
   -- The slots that a task had: none before the first one counted, and then slot by slot.
   had-early : (i from m : ℕ) → m ≤ from → had t done i from m ≡ 0
   unfolding had count
-  had-early i from zero l = refl
-  had-early i from (suc m) l = omega (arith, had-early i from m (omega arith), bit-no (leb from m && eqb (ownerAt t done m) i) (λ h. absurd (let w = and-iff (leb from m) (eqb (ownerAt t done m) i) .0 h in omega (tests, w .0))))
+  had-early i from m l = count-past _ 0 m (omega arith) (λ k a b h. let w = and-iff (leb from k) (eqb (ownerAt t done k) i) .0 h in omega (tests, w .0))
 
   had-grows : (i from m n : ℕ) → m ≤ n → had t done i from m ≤ had t done i from n
   unfolding had
@@ -148,11 +143,8 @@ module _ (t : Table) (r : Ranged t) (done : ℕ → Bool) where
       go (no p) = omega (arith, had-early i (release (task t i) j) n (omega arith))
 
   -- Between two releases of a task there is none.
-  between : (i j n : ℕ) → release (task t i) j < n → n < release (task t i) (suc j) → (k : ℕ) → release (task t i) k ≢ n
-  between i j n a b k x = elim (decLt k (suc j)) [
-    | yes p ↦ (let m : k ≤ j = omega arith in absurd (omega (arith, mul-le-mul-right (task t i .period) m)))
-    | no p ↦ (let m : suc j ≤ k = omega arith in absurd (omega (arith, mul-le-mul-right (task t i .period) m)))
-  ]
+  between : (i j n : ℕ) → i < t .count → release (task t i) j < n → n < release (task t i) (suc j) → (k : ℕ) → release (task t i) k ≢ n
+  between i j n l a b k = between-none (release (task t i)) ((jobs table-system) .rel-grows i l) n j k a b
 
   -- Up to the next release of its task, a job is finished as its slots and reports say.
   finished-by : (i j n : ℕ) → n ≤ release (task t i) (suc j)
@@ -184,7 +176,7 @@ module _ (t : Table) (r : Ranged t) (done : ℕ → Bool) where
   closed-stays i j u zero l a b z = rw (add-zero u) z
   closed-stays i j u (suc d) l a b z =
       let shut : open' (suc (u + d)) i ≡ 0 = omega (arith, step-history .spent (u + d) i l, closed-stays i j u d l a (omega arith) z) in
-      rw (add-suc u d) (go shut (step-history .kept (suc (u + d)) i l (between i j (suc (u + d)) (omega arith) (omega arith))))
+      rw (add-suc u d) (go shut (step-history .kept (suc (u + d)) i l (between i j (suc (u + d)) l (omega arith) (omega arith))))
     where
       go : open' (suc (u + d)) i ≡ 0 → (ready (suc (u + d)) i ≡ open' (suc (u + d)) i) ⊎ ((ready (suc (u + d)) i ≡ 0) × (T (reported t done i (suc (u + d))) ⊎ ((j : ℕ) × (dueOf table-system i j ≡ suc (u + d))))) → ready (suc (u + d)) i ≡ 0
       go shut (inl e) = e ∙ shut
@@ -201,12 +193,12 @@ module _ (t : Table) (r : Ranged t) (done : ℕ → Bool) where
       go (inl h) = omega (arith, h, one, had-next i (release (task t i) j) n a, never-more i j (suc n) l (omega arith))
       go (inr (u, x, y, h)) =
           let d : u + (n - u) ≡ n = omega arith in
-          let z = closed-stays i j u (n - u) l x (omega arith) (report-closes u i l (between i j u x (omega arith)) h) in
+          let z = closed-stays i j u (n - u) l x (omega arith) (report-closes u i l (between i j u l x (omega arith)) h) in
           omega (arith, step-history .spent n i l, one, rw d at z)
 
   module _ (budget : ℕ) (pass : verdict t budget ≡ Verdict.Passes) where
     abbrev met : Met (jobs table-system) (dues table-system) (servedOf table-system)
-    met = met-of-passed t r budget pass
+    met = met-of-passed t r budget pass (tieOrder t) (tie-ranks t)
 
     nothing-left : (i j : ℕ) → i < t .count → open' (dueOf table-system i j) i ≡ 0
     nothing-left = streams.none-late (jobs table-system) (dues table-system) _ open' ready gave step-history (constrained table-system) (servedOf table-system) (model-run table-system) met
@@ -221,7 +213,7 @@ module _ (t : Table) (r : Ranged t) (done : ℕ → Bool) where
     -- EVERY JOB IN TIME: by its worst response each job had its whole cost, or was reported done.
     pub in-time : (i w : ℕ) → i < t .count → Worst t (tieOrder t) i w → (j : ℕ) → Finished t done i j (release (task t i) j + w)
     in-time i w l v j =
-        let (p, q) = worst-range table-system (cycleOf t r _ (tie-ranks t)) (light-of-passed t r budget pass) met i l w v in
+        let (p, q) = worst-range table-system met i l w v in
         let k : release (task t i) j + w ≤ release (task t i) (suc j) = omega (arith, r .each i l .deadline-le) in
         finished-by i j (release (task t i) j + w) k (go (streams.on-time (jobs table-system) (dues table-system) _ open' ready gave step-history (constrained table-system) (servedOf table-system) (model-run table-system) met i w l (λ j f d. v .bound j f (finishes-iff table-system i j f l .1 d)) p j k))
       where
@@ -244,7 +236,7 @@ module _ (t : Table) (r : Ranged t) (done : ℕ → Bool) where
         idle : ready n i ≡ 0 → Finished t done i j n
         idle z = elim (ℕ-discrete (release (task t i) j) n) [
           | yes q ↦ absurd (omega (arith, step-history .fresh n i j l q, r .each i l .cost-pos))
-          | no q ↦ closed q (step-history .kept n i l (between i j n (omega arith) b))
+          | no q ↦ closed q (step-history .kept n i l (between i j n l (omega arith) b))
         ]
           where
             closed : release (task t i) j ≢ n → (ready n i ≡ open' n i) ⊎ ((ready n i ≡ 0) × (T (reported t done i n) ⊎ ((j : ℕ) × (dueOf table-system i j ≡ n)))) → Finished t done i j n
@@ -263,13 +255,13 @@ module _ (t : Table) (r : Ranged t) (done : ℕ → Bool) where
     pub none-waits : (n : ℕ) → ownerAt t done n ≡ taskLimit → (i j : ℕ) → i < t .count → release (task t i) j ≤ n → Finished t done i j n
     none-waits n e i j l a = elim (decLt n (release (task t i) (suc j))) [
       | yes b ↦ last-waits n e i j l a b
-      | no b ↦ earlier b (worsts-exist t r budget pass)
+      | no b ↦ earlier b (worst-of t r budget pass (tieOrder t) (tie-ranks t) i l)
     ]
       where
-        earlier : ¬ (n < release (task t i) (suc j)) → (w : List ℕ) × Worsts t w → Finished t done i j n
+        earlier : ¬ (n < release (task t i) (suc j)) → (w : ℕ) × Worst t (tieOrder t) i w → Finished t done i j n
         earlier b (w, v) =
-            let (p, q) = worst-range table-system (cycleOf t r _ (tie-ranks t)) (light-of-passed t r budget pass) met i l (getD w i 0) (v .worst i l) in
-            finished-stays i j (release (task t i) j + getD w i 0) n l (omega (arith, r .each i l .deadline-le)) (in-time i (getD w i 0) l (v .worst i l) j)
+            let (p, q) = worst-range table-system met i l w v in
+            finished-stays i j (release (task t i) j + w) n l (omega (arith, r .each i l .deadline-le)) (in-time i w l v j)
 
     -- In the words of the answer: the set of tasks closed late is empty, none were, and the lowest is none.
     pub none-told : (n : ℕ) → (turn t (stateAt t done n) (done n) .late ≡ 0) × (turn t (stateAt t done n) (done n) .closed ≡ 0) × (turn t (stateAt t done n) (done n) .lowest ≡ taskLimit)

@@ -13,20 +13,19 @@ use Rattle.values.specs.declared.Judgement.{Judgement}
 use Rattle.values.specs.declared.Given.{Given}
 use Rattle.model.specs.Limits.{taskLimit}
 use Rattle.model.specs.Tasks.{task, judged}
-use Rattle.model.specs.Run.{tieOrder}
 use Rattle.model.specs.Dispatcher.{State, waitOf, leftOf, firstStrange, startOf, isLate, waitReleased, leftReleased, after, turn, stepped}
 use Rattle.model.specs.History.{stateAt, ownerAt}
 use Rattle.counting.specs.Fill.{fill-ahead, getD-same}
-use Rattle.counting.specs.Below.{below, lt-below, below-bound}
+use Rattle.counting.specs.Below.{below, lt-below, below-none}
 use Rattle.wellformed.specs.Ranges.{Ranged}
 use Rattle.backlog.specs.System.{System, releaseOf, dueOf, jobs}
 use Rattle.backlog.specs.Domination.{Releases, releases}
-use Rattle.backlog.specs.TableSystem.{tie-ranks, systemOf}
+use Rattle.backlog.specs.TableSystem.{tieSystem}
 use Rattle.backlog.specs.Taken.{Belongs, KeptOrClosed, closed-late-iff, left-done-le, kept-or-closed, owner-ready, wait-start, left-start, belongs-start, wait-after, left-after, belongs-after}
 
 module _ (t : Table) (r : Ranged t) (done : ℕ → Bool) where
-  abbrev pub S : System
-  S = systemOf t r (tieOrder t) (tie-ranks t)
+  abbrev S : System
+  S = tieSystem t r
 
   abbrev pub before : ℕ → State
   before n = stateAt t done n
@@ -119,12 +118,9 @@ module _ (t : Table) (r : Ranged t) (done : ℕ → Bool) where
   unfolding stateAt
   sound zero = record {
     belongs = belongs-start t r;
-    next = λ i l. omega (arith, wait-start t r i l, ap (releaseOf S i) (none i l));
+    next = λ i l. omega (arith, wait-start t r i l, ap (releaseOf S i) (below-none (releaseOf S i)));
     current = λ i l p. absurd (omega (arith, left-start t i));
   }
-    where
-      none : (i : ℕ) → i < t .count → released i 0 ≡ 0
-      none i l = omega (arith, below-bound (releaseOf S i) ((jobs S) .rel-grows i l) 0)
   sound (suc n) = sound-after n (sound n)
 
   -- A slot that task i owns is its last released job's, and lies before that job's deadline.

@@ -1,6 +1,6 @@
 -- A table within its ranges, with an order of its tasks, as streams of jobs.
 use mathlib.Core.Path.{_≡_, refl, sym, ap, _∙_}
-use mathlib.Core.Logic.{_↔_}
+use mathlib.Core.Logic.{_⊎_, inl, inr, _↔_}
 use Prim.Native.Nat.{ℕ, suc, _+_, _-_, _*_, _%_, _≤_, _<_}
 use native.Mathlib.Nat.{mul-pos, mul-le-mul-right}
 use native.Mathlib.Decide.{decLe}
@@ -16,7 +16,12 @@ use Rattle.backlog.specs.Streams.{Jobs}
 use Rattle.backlog.specs.Criterion as streams
 use Rattle.backlog.specs.Criterion.{Dues}
 
--- What the theory asks of a table and an order: ranges, and ranks below the count that tell the tasks apart.
+-- An order of a table's tasks: ranks below the count that tell the tasks apart.
+pub record Ranks (t : Table) (rank : Order) : Type 0 where
+  pub low : (i : ℕ) → i < t .count → rank i < t .count
+  pub apart : (i k : ℕ) → i < t .count → k < t .count → rank i ≡ rank k → i ≡ k
+
+-- What the theory asks of a table and an order.
 pub record System : Type 0 where
   pub table : Table
   pub rank : Order
@@ -24,8 +29,7 @@ pub record System : Type 0 where
   pub cost-pos : (i : ℕ) → i < table .count → 0 < task table i .cost
   pub deadline-pos : (i : ℕ) → i < table .count → 0 < task table i .deadline
   pub deadline-le : (i : ℕ) → i < table .count → task table i .deadline ≤ task table i .period
-  pub rank-lt : (i : ℕ) → i < table .count → rank i < table .count
-  pub rank-apart : (i k : ℕ) → i < table .count → k < table .count → rank i ≡ rank k → i ≡ k
+  pub ranks : Ranks table rank
 
 -- Its parts, by task number.
 abbrev pub size : System → ℕ
@@ -50,11 +54,15 @@ dueOf S i j = due (task (S .table) i) j
 abbrev pub keyOf : System → ℕ → ℕ → ℕ
 keyOf S i j = dueOf S i j * size S + S .rank i
 
+-- Job j of task i comes no later than job m of task k.
+abbrev pub JobNoLater : System → ℕ → ℕ → ℕ → ℕ → Type 0
+JobNoLater S i j k m = (dueOf S i j < dueOf S k m) ⊎ ((dueOf S i j ≡ dueOf S k m) × (S .rank i ≤ S .rank k))
+
 module _ (S : System) where
   pub period-pos : (i : ℕ) → i < size S → 0 < periodOf S i
   period-pos i l = omega (arith, S .deadline-pos i l, S .deadline-le i l)
 
-  some-task : {i : ℕ} → i < size S → 0 < size S
+  pub some-task : {i : ℕ} → i < size S → 0 < size S
   some-task l = omega arith
 
   pub keys-grow : (i : ℕ) → i < size S → Grows (keyOf S i)
@@ -62,17 +70,22 @@ module _ (S : System) where
 
   pub keys-apart : (i j k l : ℕ) → i < size S → k < size S → keyOf S i j ≡ keyOf S k l → i ≡ k
   keys-apart i j k l a b e =
-      S .rank-apart i k a b (sym (digits-mod (dueOf S i j) (S .rank-lt i a)) ∙ ap (λ (x : ℕ). x % size S) e ∙ digits-mod (dueOf S k l) (S .rank-lt k b))
+      S .ranks .apart i k a b (sym (digits-mod (dueOf S i j) (S .ranks .low i a)) ∙ ap (λ (x : ℕ). x % size S) e ∙ digits-mod (dueOf S k l) (S .ranks .low k b))
+
+  -- What comes no later has no larger key.
+  pub keys-order : (i j k m : ℕ) → i < size S → JobNoLater S i j k m → keyOf S i j ≤ keyOf S k m
+  keys-order i j k m l (inl a) = omega (arith, S .ranks .low i l, mul-le-mul-right (size S) a)
+  keys-order i j k m l (inr (e, r)) = omega (arith, ap (λ (x : ℕ). x * size S) e)
 
   pub keys-cut : (i j t : ℕ) → i < size S → (keyOf S i j ≤ t * size S + (size S - 1)) ↔ (dueOf S i j ≤ t)
   keys-cut i j t l = (λ h. under (dueOf S i j) h (decLe (dueOf S i j) t), λ h. over (dueOf S i j) h)
     where
       under : (d : ℕ) → d * size S + S .rank i ≤ t * size S + (size S - 1) → Dec (d ≤ t) → d ≤ t
       under d h (yes p) = p
-      under d h (no p) = let q : suc t ≤ d = omega arith in absurd (omega (arith, S .rank-lt i l, mul-le-mul-right (size S) q))
+      under d h (no p) = let q : suc t ≤ d = omega arith in absurd (omega (arith, S .ranks .low i l, mul-le-mul-right (size S) q))
 
       over : (d : ℕ) → d ≤ t → d * size S + S .rank i ≤ t * size S + (size S - 1)
-      over d h = omega (arith, S .rank-lt i l, mul-le-mul-right (size S) h)
+      over d h = omega (arith, S .ranks .low i l, mul-le-mul-right (size S) h)
 
 abbrev pub jobs : System → Jobs
 jobs S = record {

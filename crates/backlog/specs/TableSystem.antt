@@ -1,6 +1,6 @@
 -- A table that keeps its ranges, with any order of its tasks, is a system, and its H and largest offset make its cycle.
 use mathlib.Core.Path.{_≡_, refl}
-use Prim.Native.Nat.{ℕ, _/_, _<_}
+use Prim.Native.Nat.{_/_}
 use native.Mathlib.Nat.{div-mul-cancel}
 use Rattle.model.specs.Notation.{largest}
 use Rattle.values.specs.declared.Table.{Table}
@@ -9,13 +9,8 @@ use Rattle.model.specs.Run.{Order, tieOrder}
 use Rattle.counting.specs.Search.{le-largest}
 use Rattle.wellformed.specs.Ranges.{Ranged}
 use Rattle.wellformed.specs.Round.{round-pos, period-divides}
-use Rattle.backlog.specs.System.{System}
+use Rattle.backlog.specs.System.{System, Ranks}
 use Rattle.backlog.specs.Shift.{Cycle, horizonOf, loadOf}
-
--- An order of a table's tasks: ranks below the count that tell the tasks apart.
-pub record Ranks (t : Table) (rank : Order) : Type 0 where
-  pub low : (i : ℕ) → i < t .count → rank i < t .count
-  pub apart : (i k : ℕ) → i < t .count → k < t .count → rank i ≡ rank k → i ≡ k
 
 -- The base's order is one.
 pub tie-ranks : (t : Table) → Ranks t (tieOrder t)
@@ -30,8 +25,7 @@ module _ (t : Table) (r : Ranged t) (rank : Order) (o : Ranks t rank) where
     cost-pos = λ i l. r .each i l .cost-pos;
     deadline-pos = λ i l. r .each i l .deadline-pos;
     deadline-le = λ i l. r .each i l .deadline-le;
-    rank-lt = o .low;
-    rank-apart = o .apart;
+    ranks = o;
   }
 
   abbrev pub cycleOf : Cycle systemOf
@@ -52,3 +46,10 @@ module _ (t : Table) (r : Ranged t) (rank : Order) (o : Ranks t rank) where
   pub horizon-is : horizonOf systemOf cycleOf ≡ horizon t
   unfolding horizon
   horizon-is = refl
+
+-- A table with the base's order.
+abbrev pub tieSystem : (t : Table) → Ranged t → System
+tieSystem t r = systemOf t r (tieOrder t) (tie-ranks t)
+
+abbrev pub tieCycle : (t : Table) (r : Ranged t) → Cycle (tieSystem t r)
+tieCycle t r = cycleOf t r (tieOrder t) (tie-ranks t)

@@ -105,6 +105,26 @@ module _ (t : Table) where
             let c : needed t ≤ budget = omega arith in
             rw (is-passed g c l .0, is-passed g c l .1) (passed g c l)
 
+  -- OVERLOAD exactly if the load is above 1, whatever the budget.
+  overload-case : (budget : ℕ) (v : Verdict) (n : ℕ) → Case budget v n → v ≡ Verdict.Overload → round t < load t
+  overload-case budget v n (overload g) e = g
+  overload-case budget v n (undecided g b) e = let z : _≡_ {A = ℕ} 0 1 = cc in absurd (omega arith)
+  overload-case budget v n (late g b l) e = let z : _≡_ {A = ℕ} 0 1 = cc in absurd (omega arith)
+  overload-case budget v n (passed g b l) e = let z : _≡_ {A = ℕ} 0 1 = cc in absurd (omega arith)
+
+  pub overload-iff : (budget : ℕ) → (verdict t budget ≡ Verdict.Overload) ↔ (round t < load t)
+  overload-iff budget = (overload-case budget (verdict t budget) (settledBy t budget) (the-case budget), λ h. is-overload budget h .0)
+
+  -- LATE is said of the needed count alone.
+  late-case : (budget : ℕ) (v : Verdict) (n from to asked : ℕ) → Case budget v n → v ≡ Verdict.Late from to asked → Late t (needed t) × (lateVerdict t (needed t) ≡ Verdict.Late from to asked) × (n ≡ needed t)
+  late-case budget v n from to asked (overload g) e = let z : _≡_ {A = ℕ} 0 1 = cc in absurd (omega arith)
+  late-case budget v n from to asked (undecided g b) e = let z : _≡_ {A = ℕ} 0 1 = cc in absurd (omega arith)
+  late-case budget v n from to asked (late g b l) e = (l, e, refl)
+  late-case budget v n from to asked (passed g b l) e = let z : _≡_ {A = ℕ} 0 1 = cc in absurd (omega arith)
+
+  pub late-needed : (budget from to asked : ℕ) → verdict t budget ≡ Verdict.Late from to asked → Late t (needed t) × (lateVerdict t (needed t) ≡ Verdict.Late from to asked) × (settledBy t budget ≡ needed t)
+  late-needed budget from to asked = late-case budget (verdict t budget) (settledBy t budget) from to asked (the-case budget)
+
   -- UNDECIDED exactly below the needed count, where there is no overload.
   pub undecided-iff : (budget : ℕ) → (verdict t budget ≡ Verdict.Undecided) ↔ ((load t ≤ round t) × (budget < needed t))
   undecided-iff budget = (λ e. go (verdict t budget) (settledBy t budget) (the-case budget) e, λ h. is-undecided budget (h .0) (h .1) .0)

@@ -4,7 +4,7 @@ use mathlib.Core.Logic.{_⊎_, inl, inr, _↔_}
 use mathlib.Core.Bool.{Bool, false, cond}
 use Prim.Native.Nat.{ℕ, zero, suc, _+_, _-_, _*_, _/_, _≤_, _<_}
 use native.Mathlib.Nat.{le-refl, le-step, div-eq-of-lt-le}
-use native.Mathlib.Decide.{ℕ-discrete, decLt, decLe}
+use native.Mathlib.Decide.{ℕ-discrete, decLt}
 use native.Mathlib.Omega.{arith}
 use borrow.Author.Tests.{eq-eqb, ne-eqb}
 use lib.Dec.{T, ltb, eqb, ltb→lt, lt→ltb}
@@ -15,15 +15,15 @@ use Rattle.model.specs.Schedule.{given}
 use Rattle.model.specs.Run.{tieOrder, owner, run}
 use Rattle.model.specs.Dispatcher.{State, waitOf, leftOf, isLate, waitReleased, leftReleased}
 use Rattle.model.specs.History.{stateAt, ownerAt}
-use Rattle.counting.specs.Below.{below, lt-below, below-bound, below-most, grows-mono}
+use Rattle.counting.specs.Below.{below, below-none, below-is}
 use Rattle.wellformed.specs.Ranges.{Ranged}
 use Rattle.backlog.specs.Left.{served-mono}
 use Rattle.backlog.specs.System.{System, releaseOf, dueOf, jobs}
 use Rattle.backlog.specs.Choice.{NoLater, chosen-same}
 use Rattle.backlog.specs.ModelRun.{servedOf, ready-iff, model-run, owner-served, others-served}
 use Rattle.backlog.specs.ModelRun as run-of
-use Rattle.backlog.specs.RunSchedule.{done-iff}
-use Rattle.backlog.specs.TableSystem.{tie-ranks, systemOf}
+use Rattle.backlog.specs.RunSchedule.{undone-iff}
+use Rattle.backlog.specs.TableSystem.{tieSystem}
 use Rattle.backlog.specs.Decided.{Missed, missed-iff}
 use Rattle.backlog.specs.StepHistory.{step-history}
 use Rattle.backlog.specs.Taken.{closed-late-iff, chosen, owner-ready, released-le}
@@ -39,7 +39,7 @@ Clear t n = (u : ℕ) → u < n → T (lateAt t u) → ⊥
 
 module _ (t : Table) (r : Ranged t) where
   abbrev S : System
-  S = systemOf t r (tieOrder t) (tie-ranks t)
+  S = tieSystem t r
 
   abbrev st : ℕ → State
   st n = stateAt t quiet n
@@ -58,13 +58,7 @@ module _ (t : Table) (r : Ranged t) where
   late-missed : (n : ℕ) → Agrees n → (i : ℕ) → i < t .count → T (isLate t (st n) false i) → T (lateAt t n)
   late-missed n a i l h =
       let (p, (j, e, b)) = late-is t r quiet n i (sound t r quiet n) l h in
-      missed-iff S n .0 (i, j, l, omega arith, unfinished j b p)
-    where
-      unfinished : (j : ℕ) → rel i n ≡ suc j → 0 < leftOf (st n) i → given (run t (tieOrder t)) i j 0 n < task t i .cost
-      unfinished j b p = elim (decLe (task t i .cost) (given (run t (tieOrder t)) i j 0 n)) [
-        | yes x ↦ absurd (omega (arith, done-iff S i j n l .0 x, a i l, ap (λ (y : ℕ). task t i .cost * y) b))
-        | no x ↦ omega arith
-      ]
+      missed-iff S n .0 (i, j, l, omega arith, undone-iff S i j n l .1 (omega (arith, a i l, ap (λ (y : ℕ). task t i .cost * y) b)))
 
   -- So after the releases of slot n, too.
   pub ready-agrees : (n : ℕ) → Agrees n → (T (lateAt t n) → ⊥) → (i : ℕ) → i < t .count → ready n i + servedOf S n i ≡ task t i .cost * rel i (suc n)
@@ -103,7 +97,7 @@ module _ (t : Table) (r : Ranged t) where
   pub owner-agrees : (n : ℕ) → Agrees n → (T (lateAt t n) → ⊥) → ownerAt t quiet n ≡ owner t (tieOrder t) n
   owner-agrees n a never =
       chosen-same (λ i. ltb 0 (ready n i)) _ (λ i. waitReleased t (st n) false i - (task t i .period - task t i .deadline)) (λ i. dueOf S i (servedOf S n i / task t i .cost)) (tieOrder t) (t .count) (ownerAt t quiet n) (owner t (tieOrder t) n)
-      (S .rank-apart)
+      (S .ranks .apart)
       (λ i l p. ready-iff S i n (servedOf S n i) l .1 (omega (arith, ready-agrees n a never i l, ltb→lt 0 (ready n i) p)))
       (λ i l p. lt→ltb 0 (ready n i) (omega (arith, ready-agrees n a never i l, ready-iff S i n (servedOf S n i) l .0 p)))
       (λ i k l m p q x. alike i k (at-job n a never i l (ltb→lt 0 (ready n i) p)) (at-job n a never k m (ltb→lt 0 (ready n k) q)) x)
@@ -119,9 +113,7 @@ module _ (t : Table) (r : Ranged t) where
 
   -- AGREEMENT, as long as no deadline is late.
   pub agrees : (n : ℕ) → Clear t n → Agrees n
-  agrees zero c i l =
-      let e : rel i 0 ≡ 0 = omega (arith, below-bound (releaseOf S i) ((jobs S) .rel-grows i l) 0) in
-      rw e (omega (arith, step-history t r quiet .start i l, (model-run S) .start i l))
+  agrees zero c i l = rw (below-none (releaseOf S i)) (omega (arith, step-history t r quiet .start i l, (model-run S) .start i l))
   agrees (suc n) c i l = step (agrees n (λ u m. c u (le-step m))) (c n (le-refl (suc n)))
     where
       step : Agrees n → (T (lateAt t n) → ⊥) → leftOf (st (suc n)) i + servedOf S (suc n) i ≡ task t i .cost * rel i (suc n)
@@ -146,10 +138,10 @@ module _ (t : Table) (r : Ranged t) where
       seen (i, j, l, d, g) = (i, l, closed-late-iff t (st n) false i .1 (l, some, at-end))
         where
           served-less : servedOf S n i < task t i .cost * suc j
-          served-less = elim (decLe (task t i .cost * suc j) (servedOf S n i)) [ yes p ↦ absurd (omega (arith, done-iff S i j n l .1 p)) | no p ↦ omega arith ]
+          served-less = undone-iff S i j n l .0 g
 
           behind : (u : ℕ) → u ≤ n → given (run t (tieOrder t)) i j 0 u < task t i .cost
-          behind u m = elim (decLe (task t i .cost) (given (run t (tieOrder t)) i j 0 u)) [ yes p ↦ absurd (omega (arith, done-iff S i j u l .0 p, served-mono (jobs S) (servedOf S) (model-run S) i l u n m, served-less)) | no p ↦ omega arith ]
+          behind u m = undone-iff S i j u l .1 (omega (arith, served-mono (jobs S) (servedOf S) (model-run S) i l u n m, served-less))
 
           -- Its deadline is n: missed before, it would have been late before.
           now : dueOf S i j ≡ n
@@ -157,15 +149,7 @@ module _ (t : Table) (r : Ranged t) where
 
           -- So it is the last one released.
           last : rel i n ≡ suc j
-          last =
-              omega (
-                arith,
-                lt-below (releaseOf S i) ((jobs S) .rel-grows i l) n j .1 (omega (arith, now, r .each i l .deadline-pos)),
-                below-most (releaseOf S i) ((jobs S) .rel-grows i l) n (suc j) (λ k h. elim (decLt k (suc j)) [
-                  | yes p ↦ p
-                  | no p ↦ absurd (omega (arith, now, r .each i l .deadline-le, grows-mono (releaseOf S i) ((jobs S) .rel-grows i l) (suc j) k (omega arith)))
-                ]),
-              )
+          last = below-is (releaseOf S i) ((jobs S) .rel-grows i l) n j (omega (arith, now, r .each i l .deadline-pos)) (omega (arith, now, r .each i l .deadline-le))
 
           some : 0 < leftOf (st n) i
           some = omega (arith, agrees n c i l, served-less, ap (λ (y : ℕ). task t i .cost * y) last)

@@ -4,7 +4,7 @@ use mathlib.Core.Logic.{_⊎_, inl, inr}
 use mathlib.Core.List.{List}
 use mathlib.Core.Bool.{Bool, true, false, cond, _&&_}
 use Prim.Native.Nat.{ℕ, zero, suc, _+_, _-_, _*_, _≤_, _<_, max}
-use native.Mathlib.Nat.{le-refl, le-step, mul-le-mul-left, le-of-dvd}
+use native.Mathlib.Nat.{le-refl, le-step, mul-le-mul-left}
 use native.Mathlib.Decide.{ℕ-discrete, decLt, decLe}
 use native.Mathlib.Omega.{arith}
 use lib.Dec.{T, ltb, eqb, ltb→lt, lt→ltb, eqb→eq}
@@ -13,7 +13,7 @@ use lib.Seq.{getD-set-same, getD-set-other}
 use Rattle.values.specs.declared.Table.{Table}
 use Rattle.model.specs.Notation.{first, largest}
 use Rattle.model.specs.Limits.{taskLimit}
-use Rattle.model.specs.Tasks.{task, horizon, round}
+use Rattle.model.specs.Tasks.{task, horizon}
 use Rattle.model.specs.Run.{tieOrder, owner, Finishes, Worst, firstEmpty}
 use Rattle.model.specs.Verdict.{Worsts}
 use Rattle.model.specs.Dispatcher.{State, waitOf, leftOf}
@@ -21,7 +21,6 @@ use Rattle.model.specs.History.{stateAt, ownerAt}
 use Rattle.counting.specs.Count.{and-iff, eq→eqb}
 use Rattle.counting.specs.Search.{first-eq, le-largest}
 use Rattle.counting.specs.Fill.{getD-same}
-use Rattle.wellformed.specs.Round.{round-pos, period-divides}
 use Rattle.counting.specs.Below.{below, lt-below}
 use Rattle.wellformed.specs.Ranges.{Ranged}
 use Rattle.backlog.specs.Left.{DoneFirst, served-mono}
@@ -29,9 +28,9 @@ use Rattle.backlog.specs.Criterion.{Met}
 use Rattle.backlog.specs.System.{System, releaseOf, dueOf, jobs, dues}
 use Rattle.backlog.specs.ModelRun.{servedOf, model-run, owner-served, others-served}
 use Rattle.backlog.specs.RunSchedule.{finishes-iff}
-use Rattle.backlog.specs.Shift.{Light}
+use Rattle.backlog.specs.Shift.{Light, period-le-round}
 use Rattle.backlog.specs.Worst.{ends, worst-is}
-use Rattle.backlog.specs.TableSystem.{tie-ranks, systemOf, cycleOf, horizon-is}
+use Rattle.backlog.specs.TableSystem.{tie-ranks, horizon-is, tieSystem, tieCycle}
 use Rattle.backlog.specs.Taken.{owner-ready, released-le}
 use Rattle.backlog.specs.Stepping.{ready-is, sound}
 use Rattle.backlog.specs.Walk.{quiet, Clear, Agrees, ready, agrees, ready-agrees, owner-agrees}
@@ -61,7 +60,7 @@ worst-length t (suc n) = go (finishing t n) (worst-length t n)
 
 module _ (t : Table) (r : Ranged t) where
   abbrev S : System
-  S = systemOf t r (tieOrder t) (tie-ranks t)
+  S = tieSystem t r
 
   abbrev owner-at : ℕ → ℕ
   owner-at n = ownerAt t quiet n
@@ -198,7 +197,7 @@ module _ (t : Table) (r : Ranged t) where
       go false e z = rw e z
 
   -- WORST RESPONSES by a walk to the horizon.
-  pub walk-worsts : Light S (cycleOf t r _ (tie-ranks t)) → Met (jobs S) (dues S) (servedOf S) → Clear t (horizon t) → Worsts t (worstBy t (horizon t))
+  pub walk-worsts : Light S (tieCycle t r) → Met (jobs S) (dues S) (servedOf S) → Clear t (horizon t) → Worsts t (worstBy t (horizon t))
   walk-worsts light met c = record {
     size = worst-length t (horizon t);
     worst = λ i l. worst i l (seen (horizon t) c i l);
@@ -209,15 +208,14 @@ module _ (t : Table) (r : Ranged t) where
       worst i l s = go (s .attained)
         where
           first-job : (f : ℕ) × Finishes t (tieOrder t) i 0 f × (releaseOf S i 0 < f) × (f ≤ dueOf S i 0)
-          first-job = ends S (cycleOf t r _ (tie-ranks t)) light met i l 0
+          first-job = ends S met i l 0
 
           go : (getD (worstBy t (horizon t)) i 0 ≡ 0) ⊎ ((j : ℕ) × (f : ℕ) × DoneFirst (jobs S) (servedOf S) i j f × (f - releaseOf S i j ≡ getD (worstBy t (horizon t)) i 0)) → Worst t (tieOrder t) i (getD (worstBy t (horizon t)) i 0)
-          go (inr (j, f, d, e)) = worst-is S (cycleOf t r _ (tie-ranks t)) light met i l _ j f (finishes-iff S i j f l .1 d) e (λ j f d m. s .bound j f (finishes-iff S i j f l .0 d) (omega (arith, horizon-is t r _ (tie-ranks t))))
+          go (inr (j, f, d, e)) = worst-is S met i l (tieCycle t r) light _ j f (finishes-iff S i j f l .1 d) e (λ j f d m. s .bound j f (finishes-iff S i j f l .0 d) (omega (arith, horizon-is t r _ (tie-ranks t))))
           go (inl z) =
               let (f, d, a, b) = first-job in
-              let p : task t i .period ≤ round t = le-of-dvd (round-pos t r) (period-divides t r i l) in
               let o : task t i .offset ≤ largest (t .count) (λ k. task t k .offset) = le-largest (t .count) (λ k. task t k .offset) i l in
-              let h : f ≤ horizon t = omega (arith, horizon-is t r _ (tie-ranks t), r .each i l .deadline-le) in
+              let h : f ≤ horizon t = omega (arith, horizon-is t r _ (tie-ranks t), r .each i l .deadline-le, period-le-round S (tieCycle t r) i l) in
               absurd (omega (arith, s .bound 0 f (finishes-iff S i 0 f l .0 d) h))
 
   -- THE FIRST EMPTY SLOT by a walk: with no late deadline before the horizon the dispatcher's empty slots are the run's.

@@ -1,44 +1,26 @@
 -- WORST RESPONSES: the largest response among the jobs finished by the horizon is the worst for ever.
 use mathlib.Core.Path.{_≡_, refl, ap}
-use mathlib.Core.Logic.{inl, inr}
 use Prim.Native.Nat.{ℕ, suc, _+_, _-_, _*_, _≤_, _<_}
-use native.Mathlib.Nat.{eq-zero-or-pos, le-refl, mul-le-mul-right, le-mul-of-pos-right, sub-add-cancel}
+use native.Mathlib.Nat.{le-refl, mul-le-mul-right, le-mul-of-pos-right, sub-add-cancel}
 use native.Mathlib.Decide.{decLt, decLe}
 use native.Mathlib.Omega.{arith}
 use Rattle.model.specs.Tasks.{task}
 use Rattle.values.specs.declared.Table.{Table}
 use Rattle.model.specs.Run.{Order, Finishes, Worst}
-use Rattle.counting.specs.Search.{strong, least, least-unique, greatest}
+use Rattle.counting.specs.Search.{strong, least-unique, greatest}
 use Rattle.backlog.specs.Streams.{Run}
-use Rattle.backlog.specs.Left.{DoneFirst, finish, done-of-none-left, served-mono}
-use Rattle.backlog.specs.Criterion.{Met}
-use Rattle.backlog.specs.System.{System, size, costOf, periodOf, releaseOf, dueOf, keyOf, jobs, dues, period-pos}
+use Rattle.backlog.specs.Left.{DoneFirst, finish, served-mono}
+use Rattle.backlog.specs.Criterion.{Met, finishes}
+use Rattle.backlog.specs.System.{System, size, costOf, periodOf, releaseOf, dueOf, jobs, dues, period-pos}
 use Rattle.backlog.specs.ModelRun.{servedOf, model-run}
 use Rattle.backlog.specs.RunSchedule.{finishes-iff}
-use Rattle.backlog.specs.Shift.{Cycle, horizonOf, Light, release-later, key-later, left-down}
+use Rattle.backlog.specs.Shift.{Cycle, horizonOf, Light, release-later, times-pos, period-le-round}
 use Rattle.backlog.specs.Repeats.{repeats-done}
 
 module _ (S : System) (Y : Cycle S) (light : Light S Y) (s : ℕ → ℕ → ℕ) (R : Run (jobs S) s) (met : Met (jobs S) (dues S) s) (i : ℕ) (l : i < size S) where
-  -- Every job finishes, after its release and by its deadline.
-  pub finishes : (j : ℕ) → (f : ℕ) × DoneFirst (jobs S) s i j f × (releaseOf S i j < f) × (f ≤ dueOf S i j)
-  finishes j =
-      let (f, h, d) = least (λ u. costOf S i * suc j ≤ s u i) (λ u. decLe _ _) (dueOf S i j) (met i j l) in
-      (f, d, finish (jobs S) s R i j l f .0 d .0 .0, h)
-
   -- The twin, a round later, of a job that finishes at f from one round after the start on is done a round after f.
   done-later : (j f : ℕ) → Y .start + Y .round ≤ f → DoneFirst (jobs S) s i j f → costOf S i * suc (j + Y .times i) ≤ s (f + Y .round) i
-  done-later j f h d =
-      let c = finish (jobs S) s R i j l f .0 d .0 in
-      done-of-none-left (jobs S) s R (keyOf S i j + size S * Y .round) (f + Y .round) i (j + Y .times i) l
-      (omega (arith, key-later S Y i l j))
-      (omega (arith, release-later S Y i l j, c .0))
-      (omega (arith, left-down S Y s R light (keyOf S i j) f h, c .1))
-
-  times-pos : 0 < Y .times i
-  times-pos = elim (eq-zero-or-pos (Y .times i)) [ inl e ↦ absurd (omega (arith, Y .round-pos, Y .common i l, ap (λ (x : ℕ). x * periodOf S i) e)) | inr p ↦ p ]
-
-  period-le : periodOf S i ≤ Y .round
-  period-le = omega (arith, Y .common i l, mul-le-mul-right (periodOf S i) times-pos)
+  done-later j f h d = repeats-done S Y light s R f i j l h (finish (jobs S) s R i j l f .0 d .0 .0) .0 (d .0)
 
   -- Some job that finishes by the horizon has no smaller response than job j, which finishes at f.
   abbrev pub Seen : ℕ → ℕ → Type 0
@@ -53,14 +35,14 @@ module _ (S : System) (Y : Cycle S) (light : Light S Y) (s : ℕ → ℕ → ℕ
         where
           -- A finish after the horizon is of a release after one round less.
           far : horizonOf S Y < f → Y .start + Y .round < releaseOf S i j
-          far h = elim (decLe f (dueOf S i j)) [ yes p ↦ omega (arith, S .deadline-le i l, period-le) | no p ↦ absurd (d .1 (dueOf S i j) (omega arith) (met i j l)) ]
+          far h = elim (decLe f (dueOf S i j)) [ yes p ↦ omega (arith, S .deadline-le i l, period-le-round S Y i l) | no p ↦ absurd (d .1 (dueOf S i j) (omega arith) (met i j l)) ]
 
           late-number : Y .start + Y .round < releaseOf S i j → Dec (Y .times i ≤ j) → Y .times i ≤ j
           late-number h (yes p) = p
           late-number h (no p) = let q : j ≤ Y .times i = omega arith in absurd (omega (arith, Y .starts i l, Y .common i l, mul-le-mul-right (periodOf S i) q))
 
           back : horizonOf S Y < f → (k : ℕ) → k + Y .times i ≡ j → Seen j f
-          back h k e = at (finishes k)
+          back h k e = at (finishes (jobs S) (dues S) s R met i k l)
             where
               rel : releaseOf S i j ≡ releaseOf S i k + Y .round
               rel = omega (arith, ap (releaseOf S i) e, release-later S Y i l k)
@@ -73,7 +55,7 @@ module _ (S : System) (Y : Cycle S) (light : Light S Y) (s : ℕ → ℕ → ℕ
 
                   down : Y .start + Y .round ≤ g → Seen j f
                   down p =
-                      let (k', g', q', h', w') = ih k (omega (arith, times-pos)) g q in
+                      let (k', g', q', h', w') = ih k (omega (arith, times-pos S Y i l)) g q in
                       (k', g', q', h', omega (arith, rel, j-done (g + Y .round) (done-later k g p q)))
 
                   early : ¬ (Y .start + Y .round ≤ g) → ⊥
@@ -91,47 +73,48 @@ module _ (S : System) (Y : Cycle S) (light : Light S Y) (s : ℕ → ℕ → ℕ
   worst-for-ever w h j f d = let (k, g, q, a, b) = worst-seen j f d in omega (arith, h k g q a)
 
 -- The same in the model's words, of its run.
-module _ (S : System) (Y : Cycle S) (light : Light S Y) (met : Met (jobs S) (dues S) (servedOf S)) (i : ℕ) (l : i < size S) where
+module _ (S : System) (met : Met (jobs S) (dues S) (servedOf S)) (i : ℕ) (l : i < size S) where
   abbrev Ends : ℕ → ℕ → Type 0
   Ends j f = Finishes (S .table) (S .rank) i j f
 
   -- Every job finishes once, after its release and by its deadline.
   pub ends : (j : ℕ) → (f : ℕ) × Ends j f × (releaseOf S i j < f) × (f ≤ dueOf S i j)
-  ends j = let (f, d, a, b) = finishes S Y light (servedOf S) (model-run S) met i l j in (f, finishes-iff S i j f l .1 d, a, b)
+  ends j = let (f, d, a, b) = finishes (jobs S) (dues S) (servedOf S) (model-run S) met i j l in (f, finishes-iff S i j f l .1 d, a, b)
 
   ends-once : (j f g : ℕ) → Ends j f → Ends j g → f ≡ g
   unfolding Finishes
   ends-once j f g a b = least-unique _ f g a b
 
-  -- A response that is attained, and is the largest of those seen by the horizon, is the worst.
-  pub worst-is : (w j f : ℕ) → Ends j f → f - releaseOf S i j ≡ w
-      → ((j f : ℕ) → Ends j f → f ≤ horizonOf S Y → f - releaseOf S i j ≤ w) → Worst (S .table) (S .rank) i w
-  worst-is w j f d e h = record {
-    attained = (j, f, d, e);
-    bound = λ j f d. worst-for-ever S Y light (servedOf S) (model-run S) met i l w (λ j f d. h j f (finishes-iff S i j f l .1 d)) j f (finishes-iff S i j f l .0 d);
-  }
-
-  -- There is one,
-  pub worst-exists : (w : ℕ) × Worst (S .table) (S .rank) i w
-  worst-exists =
-      let (k, m, h) = greatest response (horizonOf S Y) in
-      (response k, worst-is (response k) k (ends k .0) (ends k .1) refl (seen k h))
-    where
-      response : ℕ → ℕ
-      response j = ends j .0 - releaseOf S i j
-
-      seen : (k : ℕ) → ((j : ℕ) → j ≤ horizonOf S Y → response j ≤ response k) → (j f : ℕ) → Ends j f → f ≤ horizonOf S Y → f - releaseOf S i j ≤ response k
-      seen k h j f d g =
-          let e : f ≡ ends j .0 = ends-once j f (ends j .0) d (ends j .1) in
-          omega (arith, h j (omega (arith, ends j .2, le-mul-of-pos-right j (period-pos S i l))), ap (λ (x : ℕ). x - releaseOf S i j) e)
-
-  -- and it is at least 1 and at most the deadline.
+  -- A worst response is at least 1 and at most the deadline.
   pub worst-range : (w : ℕ) → Worst (S .table) (S .rank) i w → (0 < w) × (w ≤ task (S .table) i .deadline)
   worst-range w v =
       let (j, f, d, e) = v .attained in
       let (g, q, a, b) = ends j in
       let c : f ≡ g = ends-once j f g d q in
       (omega arith, omega arith)
+
+  module _ (Y : Cycle S) (light : Light S Y) where
+    -- A response that is attained, and is the largest of those seen by the horizon, is the worst.
+    pub worst-is : (w j f : ℕ) → Ends j f → f - releaseOf S i j ≡ w
+        → ((j f : ℕ) → Ends j f → f ≤ horizonOf S Y → f - releaseOf S i j ≤ w) → Worst (S .table) (S .rank) i w
+    worst-is w j f d e h = record {
+      attained = (j, f, d, e);
+      bound = λ j f d. worst-for-ever S Y light (servedOf S) (model-run S) met i l w (λ j f d. h j f (finishes-iff S i j f l .1 d)) j f (finishes-iff S i j f l .0 d);
+    }
+
+    -- There is one.
+    pub worst-exists : (w : ℕ) × Worst (S .table) (S .rank) i w
+    worst-exists =
+        let (k, m, h) = greatest response (horizonOf S Y) in
+        (response k, worst-is (response k) k (ends k .0) (ends k .1) refl (seen k h))
+      where
+        response : ℕ → ℕ
+        response j = ends j .0 - releaseOf S i j
+
+        seen : (k : ℕ) → ((j : ℕ) → j ≤ horizonOf S Y → response j ≤ response k) → (j f : ℕ) → Ends j f → f ≤ horizonOf S Y → f - releaseOf S i j ≤ response k
+        seen k h j f d g =
+            let e : f ≡ ends j .0 = ends-once j f (ends j .0) d (ends j .1) in
+            omega (arith, h j (omega (arith, ends j .2, le-mul-of-pos-right j (period-pos S i l))), ap (λ (x : ℕ). x - releaseOf S i j) e)
 
 -- Two worst responses of one task are equal.
 pub worst-unique : {t : Table} {rank : Order} {i : ℕ} (v w : ℕ) → Worst t rank i v → Worst t rank i w → v ≡ w

@@ -1,10 +1,10 @@
 -- How many j have f j < x, for an f that grows; closed forms; one round later.
 use mathlib.Core.Path.{_≡_, refl}
-use mathlib.Core.Logic.{_↔_}
+use mathlib.Core.Logic.{_⊎_, inl, inr, _≢_, _↔_}
 use mathlib.Core.Bool.{_&&_}
 use Prim.Native.Nat.{ℕ, zero, suc, _+_, _-_, _*_, _/_, _≤_, _<_, min}
 use native.Mathlib.Nat.{le-refl, le-div-iff-mul-le}
-use native.Mathlib.Decide.{decLt, decLe, le-ind}
+use native.Mathlib.Decide.{decLt, le-ind}
 use native.Mathlib.Omega.{arith}
 use lib.Dec.{leb, ltb}
 use Rattle.model.specs.Notation.{count}
@@ -26,6 +26,13 @@ module _ (f : ℕ → ℕ) (g : Grows f) where
   grows-ge zero = omega arith
   grows-ge (suc j) = omega (arith, grows-ge j, g j)
 
+  pub grows-lt : (i j : ℕ) → f i < f j → i < j
+  grows-lt i j h = elim (decLt i j) [ yes p ↦ p | no p ↦ absurd (omega (arith, grows-mono j i (omega arith))) ]
+
+  -- No value lies strictly between two that follow one another.
+  pub between-none : (x j k : ℕ) → f j < x → x < f (suc j) → f k ≢ x
+  between-none x j k a b e = absurd (omega (arith, grows-lt j k (omega arith), grows-lt k (suc j) (omega arith)))
+
   -- The law of the count: it has passed just the j with f j < x.
   upto : (x m j : ℕ) → (j < count (λ j. ltb (f j) x) m) ↔ ((j < m) × (f j < x))
   unfolding count
@@ -39,10 +46,7 @@ module _ (f : ℕ → ℕ) (g : Grows f) where
           (λ h. (omega arith, omega (arith, grows-mono j m (omega arith))), λ h. omega (arith, h .0))
       at (no p) ih =
           let b = bit-no (ltb (f m) x) (λ t. p (omega tests)) in
-          (λ h. let q = ih .0 (omega arith) in (omega arith, q .1), λ h. omega (arith, ih .1 (smaller (h .0) (h .1), h .1)))
-        where
-          smaller : j < suc m → f j < x → j < m
-          smaller l q = elim (decLt j m) [ yes a ↦ a | no a ↦ absurd (p (omega (arith, grows-mono m j (omega arith)))) ]
+          (λ h. let q = ih .0 (omega arith) in (omega arith, q .1), λ h. omega (arith, ih .1 (grows-lt j m (omega (arith, h .1)), h .1)))
 
   pub lt-below : (x j : ℕ) → (j < below f x) ↔ (f j < x)
   unfolding below
@@ -69,12 +73,24 @@ module _ (f : ℕ → ℕ) (g : Grows f) where
   pub below-next : (x : ℕ) → x ≤ f (below f x)
   below-next x = elim (decLt (f (below f x)) x) [ yes p ↦ absurd (omega (arith, lt-below x (below f x) .1 p)) | no p ↦ omega arith ]
 
-  -- At its own value f has passed the j before, and just after it j too.
+  -- With no value from x up to y, as many lie below the one as below the other.
+  pub below-same : (x y : ℕ) → x ≤ y → ((j : ℕ) → f j < y → f j < x) → below f x ≡ below f y
+  below-same x y h none = omega (arith, below-mono x y h, below-most y (below f x) (λ j l. lt-below x j .1 (none j l)))
+
+  -- At its own value f has passed the j before; after it, and up to the next, j too.
   pub below-at : (j : ℕ) → below f (f j) ≡ j
-  below-at j = below-unique (f j) j (λ k. (λ l. omega (arith, g k, grows-mono (suc k) j l), λ l. elim (decLt k j) [ yes p ↦ p | no p ↦ absurd (omega (arith, grows-mono j k (omega arith))) ]))
+  below-at j = below-unique (f j) j (λ k. (λ l. omega (arith, g k, grows-mono (suc k) j l), grows-lt k j))
+
+  pub below-is : (x j : ℕ) → f j < x → x ≤ f (suc j) → below f x ≡ suc j
+  below-is x j a b = below-unique x (suc j) (λ k. (λ l. omega (arith, grows-mono k j (omega arith)), λ l. grows-lt k (suc j) (omega arith)))
 
   pub below-after : (j : ℕ) → below f (suc (f j)) ≡ suc j
-  below-after j = below-unique (suc (f j)) (suc j) (λ k. (λ l. omega (arith, grows-mono k j (omega arith)), λ l. elim (decLe k j) [ yes p ↦ omega arith | no p ↦ absurd (omega (arith, g j, grows-mono (suc j) k (omega arith))) ]))
+  below-after j = below-is (suc (f j)) j (omega arith) (g j)
+
+-- No value lies below 0.
+pub below-none : (f : ℕ → ℕ) → below f 0 ≡ 0
+unfolding below count
+below-none f = refl
 
 -- What is passed by f at x is passed by g at y.
 pub below-below : (f g : ℕ → ℕ) → Grows f → Grows g → (x y : ℕ) → ((j : ℕ) → f j < x → g j < y) → below f x ≤ below g y
@@ -85,12 +101,13 @@ pub count-between : (f g : ℕ → ℕ) → Grows f → Grows g → (x y m : ℕ
 count-between f g p q x y m = count-from _ (below f x) (below g (suc y)) m (λ j l. (
   λ t.
       let h = simp and-iff at t in
-      (below-most f p x j (λ k a. before j k a (omega tests)), lt-below g q (suc y) j .1 (omega tests)),
+      (below-most f p x j (λ k a. grows-lt f p k j (omega tests)), lt-below g q (suc y) j .1 (omega tests)),
   λ h. simp and-iff (omega (tests, below-next f p x, grows-mono f p (below f x) j (h .0)), omega (tests, lt-below g q (suc y) j .0 (h .1))),
 ))
-  where
-    before : (j k : ℕ) → f k < x → x ≤ f j → k < j
-    before j k a b = elim (decLt k j) [ yes c ↦ c | no c ↦ absurd (omega (arith, grows-mono f p j k (omega arith))) ]
+
+-- Where each g j is above f j, the j that count are below y, and so the first y are enough.
+pub count-inside : (f g : ℕ → ℕ) → Grows f → Grows g → ((j : ℕ) → f j < g j) → (x y : ℕ) → count (λ j. leb x (f j) && leb (g j) y) y ≡ below g (suc y) - below f x
+count-inside f g p q h x y = omega (arith, count-between f g p q x y y, below-most g q (suc y) y (λ j l. omega (arith, h j, grows-ge f p j)))
 
 -- Closed forms for a period p from o on: how many lie below x; how many, moved on by d ≤ p, lie up to x.
 module _ (o p : ℕ) (pos : 0 < p) where
@@ -103,10 +120,7 @@ module _ (o p : ℕ) (pos : 0 < p) where
 -- An f that is h higher m steps later.
 module _ (f : ℕ → ℕ) (g : Grows f) (m h : ℕ) (later : (j : ℕ) → f (j + m) ≡ f j + h) where
   pub below-later-le : (x : ℕ) → below f (x + h) ≤ below f x + m
-  below-later-le x = below-most f g (x + h) (below f x + m) (λ j l. elim (decLt j (below f x + m)) [
-    | yes p ↦ p
-    | no p ↦ absurd (omega (arith, later (below f x), below-next f g x, grows-mono f g (below f x + m) j (omega arith)))
-  ])
+  below-later-le x = below-most f g (x + h) (below f x + m) (λ j l. grows-lt f g j (below f x + m) (omega (arith, later (below f x), below-next f g x)))
 
   pub below-later : (x : ℕ) → f 0 ≤ x → below f (x + h) ≡ below f x + m
   below-later x z = omega (arith, below-later-le x, below-least f g (x + h) (below f x + m) passed)
@@ -117,3 +131,10 @@ module _ (f : ℕ → ℕ) (g : Grows f) (m h : ℕ) (later : (j : ℕ) → f (j
           go : (b : ℕ) → below f x ≡ b → f j < x + h
           go zero e = omega (arith, later 0, grows-mono f g (suc j) (0 + m) (omega arith), g j)
           go (suc c) e = omega (arith, later c, lt-below f g x c .0 (omega arith), grows-mono f g j (c + m) (omega arith))
+
+  pub below-later-or : (x : ℕ) → (below f x ≡ 0) ⊎ (below f (x + h) ≡ below f x + m)
+  below-later-or x = go (below f x) refl
+    where
+      go : (b : ℕ) → below f x ≡ b → (below f x ≡ 0) ⊎ (below f (x + h) ≡ below f x + m)
+      go zero e = inl e
+      go (suc b) e = inr (below-later x (omega (arith, lt-below f g x 0 .0 (omega arith))))

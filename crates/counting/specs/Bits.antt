@@ -4,25 +4,25 @@ use mathlib.Core.Bool.{Bool, true, false}
 use Prim.Native.Nat.{ℕ, zero, suc, _+_, _*_, _/_, _%_, _^_, _≤_, _<_}
 use native.Mathlib.Nat.{add-comm, pow-suc, le-refl, le-step}
 use native.Mathlib.Decide.{le-ind}
-use native.Mathlib.Numerals.{add-one, one-add}
+use native.Mathlib.Numerals.{one-add}
 use native.Mathlib.Omega.{arith}
 use lib.Dec.{T, lit<}
 use lib.Bits.{bitOr, or-shifted-r}
 use lib.Pow.{shl-exact, shr-shr}
 use lib.Count.{ones, ones-cat, trailingZeros, under}
 use Rattle.model.specs.Notation.{bit, sum, count, first, bits}
-use Rattle.counting.specs.Sum.{sum-eq}
+use Rattle.counting.specs.Sum.{sum-eq, sum-none, sum-more}
 use Rattle.counting.specs.Search.{NoneFrom, first-shift}
 
 -- The start of a loop that sets the bits.
 pub bits-none : (p : ℕ → Bool) → 0 ≡ bits p 0
-unfolding bits sum
-bits-none p = refl
+unfolding bits
+bits-none p = sum-none _
 
 -- A turn of that loop.
 pub bits-more : (p : ℕ → Bool) (i : ℕ) {s r : ℕ} → s ≡ bits p i → r ≡ s + bit (p i) * 2 ^ i → r ≡ bits p (i + 1)
-unfolding bits sum
-bits-more p i e q = rw add-one (omega arith)
+unfolding bits
+bits-more p i = sum-more (λ k. bit (p k) * 2 ^ k) i
 
 -- `s | 1 << i` at 32 bits, where the members of s are below i.
 pub set-bit : (s i : ℕ) → i < 32 → s < 2 ^ i → bitOr s (1 * 2 ^ i % 4294967296) ≡ s + 2 ^ i

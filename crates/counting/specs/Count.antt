@@ -1,7 +1,7 @@
 -- Laws of tests and of counts.
 use mathlib.Core.Path.{_≡_, refl}
 use mathlib.Core.Logic.{_⊎_, inl, inr, _↔_}
-use mathlib.Core.Bool.{Bool, true, false, not, _&&_, _||_}
+use mathlib.Core.Bool.{Bool, true, false, not, _&&_, _||_, or-true}
 use Prim.Native.Nat.{ℕ, zero, suc, _+_, _-_, min, _≤_, _<_, zero-le}
 use native.Mathlib.Decide.{ℕ-discrete, decLe, decLt, le-ind}
 use native.Mathlib.Omega.{arith}
@@ -37,16 +37,12 @@ eq→eqb m n e = rw e (eqb-refl n)
 
 -- A number is x, or lies below n, exactly if the test for neither fails.
 pub one-of-iff : (m x n : ℕ) → (not (eqb m x || ltb m n) ≡ false) ↔ ((m ≡ x) ⊎ (m < n))
-one-of-iff m x n = (λ e. seen (eqb m x) (ltb m n) refl refl e, λ h. elim h [ inl e ↦ rw (eq-eqb m x e) | inr l ↦ rw (lt-ltb m n l) (either (eqb m x)) ])
+one-of-iff m x n = (λ e. seen (eqb m x) (ltb m n) refl refl e, λ h. elim h [ inl e ↦ rw (eq-eqb m x e) | inr l ↦ rw (lt-ltb m n l, or-true) ])
   where
     seen : (a b : Bool) → eqb m x ≡ a → ltb m n ≡ b → not (a || b) ≡ false → (m ≡ x) ⊎ (m < n)
     seen true b p q e = inl (eqb-true m x p)
     seen false true p q e = inr (ltb-true m n q)
     seen false false p q e = let z : _≡_ {A = ℕ} 0 1 = cc in absurd (omega arith)
-
-    either : (a : Bool) → not (a || true) ≡ false
-    either true = refl
-    either false = refl
 
 -- What a test counts: 1 where it holds, and else 0.
 pub bit-yes : (p : Bool) → T p → bit p ≡ 1
@@ -57,12 +53,6 @@ pub bit-no : (p : Bool) → (T p → ⊥) → bit p ≡ 0
 bit-no true h = absurd (h tt)
 bit-no false h = refl
 
--- A test that gives another counts no more.
-bit-le : (p q : Bool) → (T p → T q) → bit p ≤ bit q
-bit-le true true h = omega arith
-bit-le true false h = absurd (h tt)
-bit-le false q h = zero-le
-
 -- Two tests that exclude one another, each of which gives a third.
 pub bit-add : (p q r : Bool) → (T p → T q → ⊥) → (T p → T r) → (T q → T r) → bit p + bit q ≤ bit r
 bit-add true true r x f g = absurd (x tt tt)
@@ -71,6 +61,10 @@ bit-add true false false x f g = absurd (f tt)
 bit-add false true true x f g = omega arith
 bit-add false true false x f g = absurd (g tt)
 bit-add false false r x f g = zero-le
+
+-- A test that gives another counts no more.
+bit-le : (p q : Bool) → (T p → T q) → bit p ≤ bit q
+bit-le p q h = omega (arith, bit-add p false q (λ x y. y) h (λ x. absurd x))
 
 -- A test that gives another is passed no more often.
 pub count-le : (p q : ℕ → Bool) (n : ℕ) → ((j : ℕ) → j < n → T (p j) → T (q j)) → count p n ≤ count q n
@@ -108,9 +102,7 @@ count-bound p zero = zero-le
 count-bound p (suc n) = omega (arith, count-bound p n, bit-le (p n) true (λ t. tt))
 
 pub count-all : (p : ℕ → Bool) (n : ℕ) → ((j : ℕ) → j < n → T (p j)) → count p n ≡ n
-unfolding count
-count-all p zero h = refl
-count-all p (suc n) h = omega (arith, bit-yes (p n) (h n (omega arith)), count-all p n (λ j l. h j (omega arith)))
+count-all p n h = omega (arith, count-from p 0 n n (λ j l. (λ x. (zero-le, l), λ x. h j l)))
 
 -- Some number below n passes; every one does.
 pub some-iff : (p : ℕ → Bool) (n : ℕ) → T (some p n) ↔ ((k : ℕ) × (k < n) × T (p k))

@@ -1,12 +1,16 @@
 -- Laws of searches: the first and the last number that passes a test, the largest value, the least number with a property.
 use mathlib.Core.Path.{_≡_, refl}
+use mathlib.Core.Logic.{_↔_}
 use mathlib.Core.Bool.{Bool, true, false}
+use mathlib.Core.WellFounded.{fix}
 use Prim.Native.Nat.{ℕ, zero, suc, _+_, _-_, max, _≤_, _<_}
 use native.Mathlib.Nat.{le-refl, le-step}
 use native.Mathlib.Decide.{ℕ-discrete, decLe, decLt}
 use native.Mathlib.Numerals.{add-one}
 use native.Mathlib.Omega.{arith}
+use borrow.Author.Count.{below-more}
 use lib.Dec.{T}
+use lib.WfN.{Nat·lt-wfRel}
 use Rattle.model.specs.Notation.{first, last, largest, Least}
 
 -- None of the numbers from n up to i passes.
@@ -15,7 +19,7 @@ NoneFrom p n i = (k : ℕ) → n ≤ k → k < i → T (p k) → ⊥
 
 -- A turn of a loop that looks upward: i does not pass either.
 pub none-up : (p : ℕ → Bool) (n i : ℕ) → NoneFrom p n i → (T (p i) → ⊥) → NoneFrom p n (i + 1)
-none-up p n i all here k a b t = elim (ℕ-discrete k i) [ yes e ↦ here (rw e at t) | no e ↦ all k a (omega arith) t ]
+none-up p n i all here k a b = below-more (λ k. n ≤ k → T (p k) → ⊥) i (λ k l m. all k m l) (λ m. here) k b a
 
 -- What the outcome k of a search among the m numbers from n on has to be.
 record IsFirst (p : ℕ → Bool) (n m k : ℕ) : Type 0 where
@@ -176,11 +180,7 @@ greatest f n = let (k, l, e) = largest-attained (suc n) f (omega arith) in (k, o
 
 -- Induction from all smaller numbers.
 pub strong : {P : ℕ → Type 0} → ((n : ℕ) → ((m : ℕ) → m < n → P m) → P n) → (n : ℕ) → P n
-strong {P} step n = step n (below n)
-  where
-    below : (n m : ℕ) → m < n → P m
-    below zero m l = absurd (omega arith)
-    below (suc n) m l = step m (λ i h. below n i (omega arith))
+strong {P} step = fix (Nat·lt-wfRel .wf) step
 
 -- A decidable property that holds at t holds first at some u up to t.
 pub least : (P : ℕ → Type 0) → ((t : ℕ) → Dec (P t)) → (t : ℕ) → P t → (u : ℕ) × (u ≤ t) × Least P u
@@ -190,6 +190,10 @@ least P d (suc t) h = go (d 0) (least (λ k. P (suc k)) (λ k. d (suc k)) t h)
     go : Dec (P 0) → (u : ℕ) × (u ≤ t) × Least (λ k. P (suc k)) u → (u : ℕ) × (u ≤ suc t) × Least P u
     go (yes x) r = (0, omega arith, (x, λ u l. absurd (omega arith)))
     go (no x) (u, l, q) = (suc u, omega arith, (q .0, λ v. elim v [ zero ↦ λ a. x | suc w ↦ λ a. q .1 w (omega arith) ]))
+
+-- Two properties that hold together hold first together.
+pub least-iff : (P Q : ℕ → Type 0) → ((t : ℕ) → P t ↔ Q t) → (t : ℕ) → Least P t ↔ Least Q t
+least-iff P Q e t = (λ (p, f). (e t .0 p, λ u l q. f u l (e u .1 q)), λ (q, f). (e t .1 q, λ u l p. f u l (e u .0 p)))
 
 -- No property holds first at two numbers.
 pub least-unique : (P : ℕ → Type 0) (t u : ℕ) → Least P t → Least P u → t ≡ u

@@ -36,12 +36,6 @@ unfolding sum
 sum-mul zero k f = omega arith
 sum-mul (suc n) k f = omega (arith, sum-mul n k f)
 
--- Terms that are all 0.
-pub sum-zero : (n : ℕ) (f : ℕ → ℕ) → ((i : ℕ) → i < n → f i ≡ 0) → sum n f ≡ 0
-unfolding sum
-sum-zero zero f h = refl
-sum-zero (suc n) f h = omega (arith, sum-zero n f (λ i l. h i (le-step l)), h n (le-refl (suc n)))
-
 -- No term is above the sum.
 pub sum-member : (n : ℕ) (f : ℕ → ℕ) (i : ℕ) → i < n → f i ≤ sum n f
 unfolding sum
@@ -80,6 +74,10 @@ pub sum-bound : (n : ℕ) (f : ℕ → ℕ) (b : ℕ) → ((i : ℕ) → i < n �
 unfolding sum
 sum-bound zero f b h = omega arith
 sum-bound (suc n) f b h = omega (arith, sum-bound n f b (λ i l. h i (le-step l)), h n (le-refl (suc n)))
+
+-- Terms that are all 0.
+pub sum-zero : (n : ℕ) (f : ℕ → ℕ) → ((i : ℕ) → i < n → f i ≡ 0) → sum n f ≡ 0
+sum-zero n f h = omega (arith, sum-bound n f 0 (λ i l. omega (arith, h i l)))
 
 -- The start of a loop that adds up.
 pub sum-none : (f : ℕ → ℕ) → 0 ≡ sum 0 f

@@ -25,7 +25,7 @@ use Rattle.model.specs.Verdict.{needed, lateStart, verdict, emptyIn, Worsts, An
 use Rattle.model.specs.Dispatcher.{State, startOf, waitOf, isLate, leftLate, ownerNow, after}
 use Rattle.model.specs.History.{stateAt, ownerAt}
 use Rattle.counting.specs.Count.{is-false, eq→eqb, decT}
-use Rattle.counting.specs.Search.{NoneFrom, first-le, first-longer, first-is, first-none, first-before}
+use Rattle.counting.specs.Search.{NoneFrom, first-le, first-longer, first-is, first-none, first-before, none-up}
 use Rattle.wellformed.specs.Ranges.{Ranged}
 use Rattle.wellformed.specs.WellFormed.{WellFormed, well-formed}
 use Rattle.backlog.specs.Decided.{too-much-iff}
@@ -34,6 +34,7 @@ use Rattle.backlog.specs.Answers.{light-of-passed, met-of-passed}
 use Rattle.backlog.specs.Taken.{owner-one}
 use Rattle.backlog.specs.Walk.{quiet, Clear, late-iff}
 use Rattle.backlog.specs.WalkWorst.{worstBy, walk-worsts, walk-empty}
+use Rattle.backlog.specs.TableSystem.{tie-ranks}
 use Rattle.slots.specs.Slot as slot
 use Rattle.slots.specs.Columns.{columnsOf}
 use Rattle.slots.specs.Laws as slots-laws
@@ -136,10 +137,9 @@ module _ (t : Table) (r : Ranged t) (n : ℕ) where
             rw (le-ltb (first (emptySlot t) 0 n) n (omega arith), lt-ltb owner taskLimit (omega (arith, r .few)), f, le-ltb (suc n) (suc n) (le-refl _))
           where
             none : NoneFrom (emptySlot t) 0 (0 + suc n)
-            none u a b x = elim (ℕ-discrete u n) [
-              | yes q ↦ (let y : ownerAt t quiet n ≡ taskLimit = eqb→eq _ _ (subst (λ (v : ℕ). T (emptySlot t v)) q x) in absurd (omega (arith, owner-is, r .few)))
-              | no q ↦ first-before (emptySlot t) 0 n u a (omega (arith, first-le (emptySlot t) 0 n)) x
-            ]
+            none u a b =
+                none-up (emptySlot t) 0 n (λ u a b. first-before (emptySlot t) 0 n u a (omega (arith, first-le (emptySlot t) 0 n)))
+                (λ x. let y : ownerAt t quiet n ≡ taskLimit = eqb→eq _ _ x in absurd (omega (arith, owner-is, r .few))) u a (omega arith)
 
     -- So what holds before slot n holds before the next.
     walking-next : {worst : List ℕ} {empty : ℕ} → worst ≡ worstBy t n → empty ≡ emptyBy t (horizon t) n → n < horizon t
@@ -190,7 +190,7 @@ module _ (t : Table) (m : Measure) (budget : ℕ) (well : judged t ≡ Judgement
           let a : needed t ≡ horizon t = none-late t h .0 in
           let u = is-passed t budget fits (omega (arith, facts .horizon-is)) h in
           let k : Clear t (horizon t) = λ v l. c v (omega arith) in
-          let q : Worsts t worst = rw (w .worsts, b) (walk-worsts t r (light-of-passed t r budget (u .0)) (met-of-passed t r budget (u .0)) k) in
+          let q : Worsts t worst = rw (w .worsts, b) (walk-worsts t r (light-of-passed t r budget (u .0) _ (tie-ranks t)) (met-of-passed t r budget (u .0) _ (tie-ranks t)) k) in
           permitted _ Verdict.Passes (u .0) (worst, q, rw (le-ltb n (m .horizon) (omega (arith, facts .horizon-is)), u .1, a, ← empty-told b k, ← b))
 
   -- It found, at a late deadline, the largest start that asks too much.

@@ -5,7 +5,7 @@ use native.Mathlib.Omega.{arith}
 use Rattle.values.specs.declared.Task.{Task}
 use Rattle.model.specs.Tasks.{release, due}
 use Rattle.model.specs.Demand.{jobsIn}
-use Rattle.counting.specs.Below.{Grows, below-most, below-period, upto-period, grows-ge, count-between}
+use Rattle.counting.specs.Below.{Grows, below, below-period, upto-period, count-inside}
 use Rattle.wellformed.specs.Ranges.{InRange}
 
 module _ (k : Task) (r : InRange k) where
@@ -15,13 +15,16 @@ module _ (k : Task) (r : InRange k) where
   pub dues : Grows (due k)
   dues j = omega (arith, r .period-pos)
 
-  pub jobs-closed : (from to : ℕ) → jobsIn k from to ≡ (to + k .period - (k .offset + k .deadline)) / k .period - (from - k .offset + (k .period - 1)) / k .period
+  -- The jobs that are due by `to`, but for those released before `from`.
+  pub jobs-inside : (from to : ℕ) → jobsIn k from to ≡ below (due k) (suc to) - below (release k) from
   unfolding jobsIn
+  jobs-inside = count-inside (release k) (due k) releases dues (λ j. omega (arith, r .deadline-pos))
+
+  pub jobs-closed : (from to : ℕ) → jobsIn k from to ≡ (to + k .period - (k .offset + k .deadline)) / k .period - (from - k .offset + (k .period - 1)) / k .period
   jobs-closed from to =
       omega (
         arith,
-        count-between (release k) (due k) releases dues from to to,
-        below-most (due k) dues (suc to) to (λ j h. omega (arith, r .deadline-pos, grows-ge (release k) releases j)),
+        jobs-inside from to,
         below-period (k .offset) (k .period) (r .period-pos) from,
         upto-period (k .offset) (k .period) (r .period-pos) (k .deadline) to (r .deadline-le) (r .deadline-pos),
       )

@@ -13,12 +13,12 @@ use Rattle.values.specs.declared.Table.{Table}
 use Rattle.model.specs.Tasks.{task, release, due, round, load}
 use Rattle.model.specs.Notation.{sum}
 use Rattle.model.specs.Demand.{jobsIn, demand, asksTooMuch}
-use Rattle.counting.specs.Below.{below, lt-below, below-most, below-mono, below-below, count-between}
+use Rattle.counting.specs.Below.{below-same, below-below}
 use Rattle.counting.specs.Sum.{sum-le, sum-add, sum-mul, sum-zero, sum-bound}
 use Rattle.wellformed.specs.Ranges.{InRange, Ranged}
 use Rattle.wellformed.specs.Round.{share}
 use Rattle.backlog.specs.Decided.{too-much-iff}
-use Rattle.intervals.specs.Closed.{releases, dues}
+use Rattle.intervals.specs.Closed.{releases, dues, jobs-inside}
 use Rattle.intervals.specs.Light.{new-le, shares-le}
 
 -- No release of the task lies after `start` and before `from`.
@@ -36,18 +36,13 @@ module _ (k : Task) (r : InRange k) where
   -- An interval that starts between has the same jobs; one that starts at any earlier instant has at most one more, and one for
   -- each whole period between.
   jobs-same : (start later from to : ℕ) → NoRelease k start from → start < later → later ≤ from → jobsIn k later to ≡ jobsIn k from to
-  unfolding jobsIn
-  jobs-same start later from to q a b =
-      let e : below (release k) later ≡ below (release k) from = omega (arith, below-mono (release k) (releases k r) later from b, below-most (release k) (releases k r) from (below (release k) later) (λ j l. lt-below (release k) (releases k r) later j .1 (omega (arith, q j l)))) in
-      rw (count-between (release k) (due k) (releases k r) (dues k r) later to to, count-between (release k) (due k) (releases k r) (dues k r) from to to, e)
+  jobs-same start later from to q a b = rw (jobs-inside k r later to, jobs-inside k r from to, below-same (release k) (releases k r) later from b (λ j l. omega (arith, q j l)))
 
   jobs-more : (later from to : ℕ) → later < from → jobsIn k later to ≤ jobsIn k from to + (1 + (from - later - 1) / k .period)
-  unfolding jobsIn
-  jobs-more later from to h = omega (arith, count-between (release k) (due k) (releases k r) (dues k r) later to to, count-between (release k) (due k) (releases k r) (dues k r) from to to, new-le k r later from h)
+  jobs-more later from to h = omega (arith, jobs-inside k r later to, jobs-inside k r from to, new-le k r later from h)
 
   jobs-none : (to : ℕ) → jobsIn k to to ≡ 0
-  unfolding jobsIn
-  jobs-none to = omega (arith, count-between (release k) (due k) (releases k r) (dues k r) to to to, below-below (due k) (release k) (dues k r) (releases k r) (suc to) to (λ j h. omega (arith, r .deadline-pos)))
+  jobs-none to = omega (arith, jobs-inside k r to to, below-below (due k) (release k) (dues k r) (releases k r) (suc to) to (λ j h. omega (arith, r .deadline-pos)))
 
 -- An interval of no slots asks for none.
 pub demand-none : (t : Table) → Ranged t → (to : ℕ) → demand t to to ≡ 0

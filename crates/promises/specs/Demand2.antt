@@ -22,11 +22,11 @@ use Rattle.model.specs.Run.{tieOrder, run}
 use Rattle.model.specs.Verdict.{needed, lateStart, verdict, settledBy, emptyIn, Worsts, Answers, PermittedBy, Permitted}
 use Rattle.wellformed.specs.WellFormed.{well-formed}
 use Rattle.backlog.specs.Decided.{sufficient}
-use Rattle.backlog.specs.Verdicts.{Case, overload, undecided, late, passed, the-case, needed-le, needed-is, none-before, none-late, is-late, start-asks, start-largest, is-overload, undecided-iff, longer}
+use Rattle.backlog.specs.Verdicts.{Case, overload, undecided, late, passed, the-case, needed-le, needed-is, none-before, none-late, is-late, start-asks, start-largest, undecided-iff, longer, overload-iff, late-needed}
 use Rattle.backlog.specs.RunSchedule.{run-rule}
 use Rattle.backlog.specs.Worst.{worst-range}
-use Rattle.backlog.specs.TableSystem.{tie-ranks, systemOf, cycleOf}
-use Rattle.backlog.specs.Answers.{never-of-passed, light-of-passed, met-of-passed, passes-iff, overload-infeasible, late-infeasible, permitted-unique}
+use Rattle.backlog.specs.TableSystem.{tie-ranks, tieSystem}
+use Rattle.backlog.specs.Answers.{never-of-passed, met-of-passed, passes-iff, overload-infeasible, late-infeasible, permitted-unique, answers-say}
 
 module _ (t : Table) (m : Measure) (well : judged t ≡ Judgement.WellFormed m) where
   -- With a budget that reaches the horizon it passes exactly if some schedule is good.
@@ -44,21 +44,15 @@ module _ (t : Table) (m : Measure) (well : judged t ≡ Judgement.WellFormed m) 
   pub run-is-good : (budget : ℕ) → verdict t budget ≡ Verdict.Passes → Good t (run t (tieOrder t))
   run-is-good budget e =
       let r = well-formed t m well .ranged in
-      sufficient (systemOf t r (tieOrder t) (tie-ranks t)) (never-of-passed t r budget e .1)
+      sufficient (tieSystem t r) (never-of-passed t r budget e .1)
 
 -- What follows from 0 being 1.
 apart : {A : Type 0} → _≡_ {A = ℕ} 0 1 → A
 apart e = absurd (omega arith)
 
 -- Overload is said exactly if the load is above 1, whatever the budget.
-overload-case : (t : Table) (budget : ℕ) (v : Verdict) (n : ℕ) → Case t budget v n → v ≡ Verdict.Overload → round t < load t
-overload-case t budget v n (overload g) e = g
-overload-case t budget v n (undecided g b) e = let z : _≡_ {A = ℕ} 0 1 = cc in absurd (omega arith)
-overload-case t budget v n (late g b l) e = let z : _≡_ {A = ℕ} 0 1 = cc in absurd (omega arith)
-overload-case t budget v n (passed g b l) e = let z : _≡_ {A = ℕ} 0 1 = cc in absurd (omega arith)
-
 pub overload-exactly : (t : Table) (budget : ℕ) → (verdict t budget ≡ Verdict.Overload) ↔ (round t < load t)
-overload-exactly t budget = (overload-case t budget (verdict t budget) (settledBy t budget) (the-case t budget), λ h. is-overload t budget h .0)
+overload-exactly = overload-iff
 
 -- Of any table: undecided exactly below the needed count, where there is no overload.
 pub undecided-exactly : (t : Table) (budget : ℕ) → (verdict t budget ≡ Verdict.Undecided) ↔ ((load t ≤ round t) × (budget < needed t))
@@ -89,11 +83,9 @@ pub record LateRight (t : Table) (from to asked : ℕ) : Type 0 where
   pub largest-start : (later : ℕ) → from < later → T (asksTooMuch t later to) → ⊥
   pub demands : asked ≡ demand t from to
 
-late-case : (t : Table) (budget : ℕ) (v : Verdict) (n from to asked : ℕ) → Case t budget v n → v ≡ Verdict.Late from to asked → LateRight t from to asked × (n ≡ to)
-late-case t budget v n from to asked (overload g) e = let z : _≡_ {A = ℕ} 0 1 = cc in absurd (omega arith)
-late-case t budget v n from to asked (undecided g b) e = let z : _≡_ {A = ℕ} 0 1 = cc in absurd (omega arith)
-late-case t budget v n from to asked (passed g b l) e = let z : _≡_ {A = ℕ} 0 1 = cc in absurd (omega arith)
-late-case t budget v n from to asked (late g b l) e =
+pub late-exactly : (t : Table) (budget from to asked : ℕ) → verdict t budget ≡ Verdict.Late from to asked → LateRight t from to asked × (settledBy t budget ≡ to)
+late-exactly t budget from to asked e =
+    let (l, q, n) = late-needed t budget from to asked e in
     let f : lateStart t (needed t) ≡ from = cc in
     let k : needed t ≡ to = cc in
     let d : demand t (lateStart t (needed t)) (needed t) ≡ asked = cc in (
@@ -103,11 +95,8 @@ late-case t budget v n from to asked (late g b l) e =
         largest-start = λ later m h. start-largest t (needed t) later (omega arith) (subst (λ (u : ℕ). T (asksTooMuch t later u)) (sym k) h);
         demands = sym d ∙ rw (f, k);
       },
-      k,
+      n ∙ k,
     )
-
-pub late-exactly : (t : Table) (budget from to asked : ℕ) → verdict t budget ≡ Verdict.Late from to asked → LateRight t from to asked × (settledBy t budget ≡ to)
-late-exactly t budget from to asked = late-case t budget (verdict t budget) (settledBy t budget) from to asked (the-case t budget)
 
 -- And it is said wherever there is one within the horizon and the budget, and no overload.
 pub late-said : (t : Table) (budget to : ℕ) → load t ≤ round t → Least (λ u. T (lateAt t u)) to → to ≤ horizon t → to ≤ budget → verdict t budget ≡ Verdict.Late (lateStart t to) to (demand t (lateStart t to) to)
@@ -122,16 +111,10 @@ pub record Says (t : Table) (budget : ℕ) (m : Measure) (a : Answer) : Type 0 w
   pub settled : a .settled ≡ settledBy t budget
   pub measures : a .measure ≡ m
 
-says : (t : Table) (budget : ℕ) (m : Measure) (a : Answer) (v : Verdict) → Answers t budget m a v → (a .outcome ≡ Outcome.Tested v) × (a .settled ≡ settledBy t budget) × (a .measure ≡ m)
-says t budget m a Verdict.Passes (w, p, e) = (ap (λ (x : Answer). x .outcome) e, ap (λ (x : Answer). x .settled) e, ap (λ (x : Answer). x .measure) e)
-says t budget m a Verdict.Overload e = (ap (λ (x : Answer). x .outcome) e, ap (λ (x : Answer). x .settled) e, ap (λ (x : Answer). x .measure) e)
-says t budget m a (Verdict.Late f k d) e = (ap (λ (x : Answer). x .outcome) e, ap (λ (x : Answer). x .settled) e, ap (λ (x : Answer). x .measure) e)
-says t budget m a Verdict.Undecided e = (ap (λ (x : Answer). x .outcome) e, ap (λ (x : Answer). x .settled) e, ap (λ (x : Answer). x .measure) e)
-
 pub answer-exactly : (t : Table) (m : Measure) → judged t ≡ Judgement.WellFormed m → (budget : ℕ) (a : Answer) → Permitted t budget a → Says t budget m a
 unfolding Permitted
 answer-exactly t m well budget a h =
-    let (o, s, k) = says t budget m a (verdict t budget) (rw well at h) in
+    let (o, s, k) = answers-say t budget m a (verdict t budget) (rw well at h) in
     record { outcome = o; said = ap outcomeSaid o; settled = s; measures = k }
 
 -- The worst responses of a passing answer are exact, for all jobs for ever, and its first empty slot is the run's.
@@ -154,7 +137,7 @@ pub worst-by-deadline : (t : Table) (m : Measure) → judged t ≡ Judgement.Wel
 worst-by-deadline t m well budget a p o i l =
     let r = well-formed t m well .ranged in
     let (v, w, e) = passed-exactly t budget a p o in
-    worst-range (systemOf t r _ (tie-ranks t)) (cycleOf t r _ (tie-ranks t)) (light-of-passed t r budget v) (met-of-passed t r budget v) i l (getD (a .worst) i 0) (w .worst i l)
+    worst-range (tieSystem t r) (met-of-passed t r budget v _ (tie-ranks t)) i l (getD (a .worst) i 0) (w .worst i l)
 
 -- A longer budget alters no answer but undecided.
 longer-answers : (t : Table) (budget more : ℕ) (m : Measure) (a : Answer) (v : Verdict) → settledBy t more ≡ settledBy t budget → Answers t budget m a v → Answers t more m a v
@@ -166,7 +149,7 @@ longer-answers t budget more m a Verdict.Undecided s e = rw s e
 longer-judged : (t : Table) (budget more : ℕ) (a : Answer) (j : Judgement) → budget ≤ more → a .outcome ≢ Outcome.Tested Verdict.Undecided → PermittedBy t budget a j → PermittedBy t more a j
 longer-judged t budget more a (Judgement.Refused r) l u h = h
 longer-judged t budget more a (Judgement.WellFormed m) l u h =
-    let (v, s) = longer t budget more l (λ e. u (says t budget m a (verdict t budget) h .0 ∙ ap Outcome.Tested e)) in
+    let (v, s) = longer t budget more l (λ e. u (answers-say t budget m a (verdict t budget) h .0 ∙ ap Outcome.Tested e)) in
     subst (Answers t more m a) (sym v) (longer-answers t budget more m a (verdict t budget) s h)
 
 pub longer-same-answer : (t : Table) (budget more : ℕ) (a b : Answer) → budget ≤ more → a .outcome ≢ Outcome.Tested Verdict.Undecided → Permitted t budget a → Permitted t more b → a ≡ b
@@ -182,4 +165,4 @@ pub run-is-the-rule : (t : Table) (m : Measure) → judged t ≡ Judgement.WellF
     ((run t (tieOrder t) u ≡ none) × ((i j : ℕ) → Waits t u i j → ⊥))
     ⊎ ((i : ℕ) × (j : ℕ) × (run t (tieOrder t) u ≡ job i j) × Waits t u i j
     × ((k n : ℕ) → Waits t u k n → (due (task t i) j < due (task t k) n) ⊎ ((due (task t i) j ≡ due (task t k) n) × (i ≤ k))))
-run-is-the-rule t m well = run-rule (systemOf t (well-formed t m well .ranged) (tieOrder t) (tie-ranks t))
+run-is-the-rule t m well = run-rule (tieSystem t (well-formed t m well .ranged))

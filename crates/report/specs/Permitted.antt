@@ -25,8 +25,8 @@ use Rattle.wellformed.specs.WellFormed.{horizonLimit, WellFormed, well-formed}
 use Rattle.wellformed.specs.Demand.{demand-le}
 use Rattle.backlog.specs.Decided.{too-much-iff}
 use Rattle.backlog.specs.Verdicts.{Late, lateVerdict, needed-le, start-asks, Case, overload, undecided, late, passed, the-case}
-use Rattle.backlog.specs.Answers.{light-of-passed, met-of-passed}
-use Rattle.backlog.specs.TableSystem.{tie-ranks, systemOf, cycleOf}
+use Rattle.backlog.specs.Answers.{met-of-passed, answers-say}
+use Rattle.backlog.specs.TableSystem.{tie-ranks, tieSystem}
 use Rattle.backlog.specs.Worst.{worst-range}
 use Rattle.report.specs.Fits.{Wide, EmptyWide, VerdictWide, Printable, fits}
 
@@ -68,7 +68,7 @@ module _ (t : Table) (m : Measure) (well : WellFormed t m) where
     worst-wide e w q k l =
         let r = well .ranged in
         let i = r .each k l in
-        omega (arith, i .deadline-le, i .period-le, worst-range (systemOf t r _ (tie-ranks t)) (cycleOf t r _ (tie-ranks t)) (light-of-passed t r budget e) (met-of-passed t r budget e) k l (getD w k 0) (q .worst k l) .1)
+        omega (arith, i .deadline-le, i .period-le, worst-range (tieSystem t r) (met-of-passed t r budget e _ (tie-ranks t)) k l (getD w k 0) (q .worst k l) .1)
 
     settled-wide : Wide (settledBy t budget)
     settled-wide = omega (arith, well .horizon-le, verdict-wide (verdict t budget) (settledBy t budget) (the-case t budget) .1)
@@ -104,13 +104,6 @@ module _ (t : Table) (m : Measure) (well : WellFormed t m) where
         go (Verdict.Late from to asked) e f x = rw f (brief-printable (Verdict.Late from to asked) x)
         go Verdict.Undecided e f x = rw f (brief-printable Verdict.Undecided x)
 
--- What the answers of a verdict tell is that verdict.
-told : (t : Table) (budget : ℕ) (m : Measure) (a : Answer) (v : Verdict) → Answers t budget m a v → a .outcome ≡ Outcome.Tested v
-told t budget m a Verdict.Passes (w, q, f) = rw f refl
-told t budget m a Verdict.Overload f = rw f refl
-told t budget m a (Verdict.Late from to asked) f = rw f refl
-told t budget m a Verdict.Undecided f = rw f refl
-
 -- A refusal is tellable, and the report of a verdict fits.
 abbrev pub Fitting : ℕ → Answer → Outcome → Type 0
 Fitting n a (Outcome.Refused r) = Tellable r
@@ -123,4 +116,4 @@ permitted-fits t budget a p = go (judged t) refl p (judged-tellable t)
     go : (j : Judgement) → judged t ≡ j → PermittedBy t budget a j → JudgementTellable j → Fitting (t .count) a (a .outcome)
     go (Judgement.Refused r) q f h = rw f h
     go (Judgement.WellFormed m) q f h =
-        subst (Fitting (t .count) a) (sym (told t budget m a (verdict t budget) f)) (fits (t .count) a (verdict t budget) (printable t m (well-formed t m q) budget a (verdict t budget) refl f))
+        subst (Fitting (t .count) a) (sym (answers-say t budget m a (verdict t budget) f .0)) (fits (t .count) a (verdict t budget) (printable t m (well-formed t m q) budget a (verdict t budget) refl f))

@@ -4,9 +4,9 @@ use mathlib.Core.Logic.{_⊎_}
 use mathlib.Core.List.{List}
 use mathlib.Core.Bool.{true, false, cond}
 use Prim.Native.Nat.{ℕ, _+_, _-_, _^_, _≤_, _<_}
-use native.Mathlib.Decide.{ℕ-discrete}
 use native.Mathlib.Omega.{arith}
 use borrow.Author.Tests.{lt-ltb, le-ltb, eq-eqb, ne-eqb}
+use borrow.Author.Count.{below-more}
 use lib.Dec.{T, ltb, eqb, ltb→lt, eqb→eq}
 use lib.ListN.{set}
 use Rattle.model.specs.Limits.{taskLimit}
@@ -52,13 +52,13 @@ module _ (wait₀ left₀ period cost slack rank : List ℕ) (n : ℕ) where
 
   -- It is not, and neither were those before.
   quiet-more : (i : ℕ) → ((k : ℕ) → k < i → T (isLate wait₀ left₀ slack n k) → ⊥) → (0 < at left₀ i → at wait₀ i ≡ at slack i → ⊥) → (k : ℕ) → k < i + 1 → T (isLate wait₀ left₀ slack n k) → ⊥
-  quiet-more i q h k l x = elim (ℕ-discrete k i) [
-    | no a ↦ q k (omega arith) x
-    | yes a ↦
-        (let y = and-iff (ltb i n) _ .0 (subst (λ (v : ℕ). T (isLate wait₀ left₀ slack n v)) a x) .1 in
-        let z = and-iff (ltb 0 (at left₀ i)) _ .0 y in
-        h (ltb→lt 0 (at left₀ i) (z .0)) (eqb→eq (at wait₀ i) (at slack i) (z .1)))
-  ]
+  quiet-more i q h = below-more (λ k. T (isLate wait₀ left₀ slack n k) → ⊥) i q calm
+    where
+      calm : T (isLate wait₀ left₀ slack n i) → ⊥
+      calm x =
+          let y = and-iff (ltb i n) _ .0 x .1 in
+          let z = and-iff (ltb 0 (at left₀ i)) _ .0 y in
+          h (ltb→lt 0 (at left₀ i) (z .0)) (eqb→eq (at wait₀ i) (at slack i) (z .1))
 
   -- A task more, with its wait w and slots left l once its job is released.
   module _

@@ -15,13 +15,13 @@ use Rattle.values.specs.declared.Admission.{Admission}
 use Rattle.model.specs.Limits.{taskLimit}
 use Rattle.model.specs.Tasks.{judged}
 use Rattle.model.specs.TableFile.{formOf}
-use Rattle.model.specs.Dispatcher.{State, firstStrange, lastStrange, ownerNow, turn, startJudged, started, stepJudged, stepped}
+use Rattle.model.specs.Dispatcher.{State, firstStrange, lastStrange, turn, startJudged, started, stepJudged, stepped}
 use Rattle.model.specs.Report.{Exported, refused}
 use Rattle.model.specs.StateBuffer.{stateBytes, stateIn, startWritten, stepWritten, onFile, startExported, stepExported}
 use Rattle.wellformed.specs.WellFormed.{well-formed}
 use Rattle.wellformed.specs.Refused.{Tellable, JudgementTellable, judged-tellable}
 use Rattle.tablefile.specs.Refused.{AdmissionTellable, form-tellable}
-use Rattle.slots.specs.Choice.{choose-range}
+use Rattle.backlog.specs.Taken.{owner-one}
 
 -- What is returned and left is a taken call's, or that of a tellable refusal.
 abbrev pub Apart : (Exported → Type 0) → List ℕ → Exported → Type 0
@@ -61,8 +61,8 @@ start-apart file buffer = file-apart TakenStart file buffer (λ t. startWritten 
 
 -- The owner of a slot is a task or none.
 owner-range : (t : Table) (d : State) (done : Bool) → t .count ≤ taskLimit → let k = turn t d done .owner in (k ≤ taskLimit) × ((k ≡ taskLimit) ⊎ (k < t .count))
-unfolding turn ownerNow
-owner-range t d done few = go (choose-range _ _ _ (t .count))
+unfolding turn
+owner-range t d done few = go (owner-one t d done few)
   where
     go : {k : ℕ} → (k ≡ taskLimit) ⊎ (k < t .count) → (k ≤ taskLimit) × ((k ≡ taskLimit) ⊎ (k < t .count))
     go (inl e) = (omega arith, inl e)

@@ -1,10 +1,11 @@
 -- Every refusal of a table has a number above 0 and a place below 65,536.
 use mathlib.Core.Path.{_≡_, refl}
-use mathlib.Core.Bool.{Bool, true, false, cond, not}
-use Prim.Native.Nat.{ℕ, zero, suc, _<_}
+use mathlib.Core.Bool.{Bool, true, false, cond}
+use Prim.Native.Nat.{_<_}
 use native.Mathlib.Omega.{arith}
+use native.Mathlib.Nat.{pos-of-ne-zero}
 use borrow.Author.Tests.{ltb-true, ltb-false}
-use lib.Dec.{T, ltb, eqb}
+use lib.Dec.{ltb, eqb}
 use Rattle.values.specs.declared.Table.{Table}
 use Rattle.values.specs.declared.Refusal.{Refusal}
 use Rattle.values.specs.declared.Judgement.{Judgement}
@@ -12,6 +13,7 @@ use Rattle.model.specs.Values.{refusal}
 use Rattle.model.specs.Limits.{taskLimit, roundLimit}
 use Rattle.model.specs.Tasks.{task, taskFault, firstFaulty, round, measure, judged}
 use Rattle.counting.specs.Search.{first-passes}
+use Rattle.wellformed.specs.Ranges.{faulty, unmarked}
 
 -- A refusal of which 65,536 · number + place tells both, and that it is a refusal.
 abbrev pub Tellable : Refusal → Type 0
@@ -22,13 +24,10 @@ abbrev pub JudgementTellable : Judgement → Type 0
 JudgementTellable (Judgement.Refused r) = Tellable r
 JudgementTellable (Judgement.WellFormed m) = Unit
 
-above : (n : ℕ) → T (not (eqb n 0)) → 0 < n
-above zero h = absurd h
-above (suc n) h = omega arith
-
-faulty : (t : Table) → firstFaulty t < t .count → 0 < taskFault (task t (firstFaulty t))
+-- The fault of the first faulty task is one.
+fault-pos : (t : Table) → firstFaulty t < t .count → 0 < taskFault (task t (firstFaulty t))
 unfolding firstFaulty
-faulty t l = above _ (first-passes (λ i. not (eqb (taskFault (task t i)) 0)) 0 (t .count) (omega arith))
+fault-pos t l = pos-of-ne-zero (λ e. unmarked _ e (first-passes (faulty t) 0 (t .count) (omega arith)))
 
 pub judged-tellable : (t : Table) → JudgementTellable (judged t)
 unfolding judged
@@ -38,6 +37,6 @@ judged-tellable t = go (eqb (t .count) 0) (ltb taskLimit (t .count)) (ltb (first
         → JudgementTellable (cond a (Judgement.Refused (refusal 1 0)) (cond b (Judgement.Refused (refusal 2 taskLimit)) (cond c (Judgement.Refused (refusal (taskFault (task t (firstFaulty t))) (firstFaulty t))) (cond d (Judgement.Refused (refusal 7 0)) (Judgement.WellFormed (measure t))))))
     go true b c d few e = (omega arith, omega arith)
     go false true c d few e = (omega arith, omega arith)
-    go false false true d few e = let l : firstFaulty t < t .count = ltb-true _ _ e in (faulty t l, omega (arith, ltb-false taskLimit (t .count) few))
+    go false false true d few e = let l : firstFaulty t < t .count = ltb-true _ _ e in (fault-pos t l, omega (arith, ltb-false taskLimit (t .count) few))
     go false false false true few e = (omega arith, omega arith)
     go false false false false few e = tt
