@@ -3,16 +3,20 @@ use mathlib.Core.Path.{_≡_, refl, sym, ap, _∙_}
 use mathlib.Core.Bool.{Bool, true, false, cond, _||_}
 use mathlib.Core.List.{List, [], _∷_, _++_, append-nil}
 use Prim.Native.Nat.{ℕ, zero, suc, _+_, _*_, _/_, _%_, _≤_, _<_}
+use native.Mathlib.Nat.{add-assoc, add-zero}
 use native.Mathlib.Omega.{arith}
 use borrow.Author.Tests.{eqb-true, ne-eqb, le-ltb, lt-leb, leb-false, ltb-false}
 use lib.Dec.{leb, ltb, eqb}
-use lib.ListN.{length, getD, drop}
-use lib.Seq.{append-snoc}
+use lib.ListN.{length, getD, drop, length-drop}
+use lib.Seq.{append-snoc, getD-drop, drop-drop}
 use Rattle.values.specs.declared.Task.{Task}
 use Rattle.values.specs.declared.Admission.{Admission}
 use Rattle.values.specs.declared.Loaded.{Loaded}
 use Rattle.model.specs.Limits.{taskLimit, budgetBytes, taskBytes, longestFile}
+use Rattle.model.specs.Tasks.{noTask}
 use Rattle.model.specs.TableFile.{four, eight, taskIn, refuseFile, admit, whole, readRecord, readFrom, formOf}
+use Rattle.model.specs.StateBuffer.{bytesOf}
+use Rattle.tablefile.specs.Word.{wordLimit, word-back}
 
 -- ---- What is read stands in the file
 
@@ -94,3 +98,56 @@ module _ (s : List ℕ) where
   form-read ks few kind stand =
       let size = stand-length budgetBytes ks stand in
       rw (ne-eqb (length s) 0 (omega arith), kind, le-ltb (length s) (0 + budgetBytes) (omega arith)) (stand-read (eight s 1) [] taskLimit budgetBytes ks stand few)
+
+-- ---- The writer
+
+-- A task's record: its kind, then O, C, D and T.
+abbrev pub taskRecord : Task → List ℕ
+taskRecord k = 2 ∷ bytesOf (k .offset ∷ k .cost ∷ k .deadline ∷ k .period ∷ [])
+
+-- The records of these tasks in their order, then the end.
+abbrev pub taskRecords : List Task → List ℕ
+taskRecords [] = 3 ∷ []
+taskRecords (k ∷ ks) = taskRecord k ++ taskRecords ks
+
+-- The file of a budget and tasks: the budget's record is its kind, then its lower and its upper word.
+abbrev pub fileOf : ℕ → List Task → List ℕ
+fileOf b ks = 1 ∷ bytesOf (b % wordLimit ∷ b / wordLimit ∷ []) ++ taskRecords ks
+
+-- Each number of a task fits a word.
+pub record Fits32 (k : Task) : Type 0 where
+  pub offset-fits : k .offset < wordLimit
+  pub cost-fits : k .cost < wordLimit
+  pub deadline-fits : k .deadline < wordLimit
+  pub period-fits : k .period < wordLimit
+
+abbrev pub AllFit : List Task → Type 0
+AllFit ks = (i : ℕ) → i < length ks → Fits32 (getD ks i noTask)
+
+kind-here : (s : List ℕ) (at : ℕ) → getD (drop at s) 0 0 ≡ getD s at 0
+kind-here s at = simp (getD-drop, add-zero)
+
+task-here : (s : List ℕ) (at : ℕ) → taskIn (drop at s) 1 ≡ taskIn s (at + 1)
+task-here s at = simp (getD-drop, add-assoc)
+
+task-back : (k : Task) (rest : List ℕ) → Fits32 k → taskIn (taskRecord k ++ rest) 1 ≡ k
+unfolding bytesOf
+task-back k rest fits = rw (word-back (k .offset) (fits .offset-fits), word-back (k .cost) (fits .cost-fits), word-back (k .deadline) (fits .deadline-fits), word-back (k .period) (fits .period-fits))
+
+written-stands : (s : List ℕ) (at : ℕ) (ks : List Task) → AllFit ks → drop at s ≡ taskRecords ks → Stand s at ks
+unfolding bytesOf
+written-stands s at [] fits e =
+    (sym (kind-here s at) ∙ ap (λ (r : List ℕ). getD r 0 0) e, omega (arith, length-drop at s, ap (λ (r : List ℕ). length r) e))
+written-stands s at (k ∷ ks) fits e = (
+  sym (kind-here s at) ∙ ap (λ (r : List ℕ). getD r 0 0) e,
+  sym (task-here s at) ∙ ap (λ (r : List ℕ). taskIn r 1) e ∙ task-back k (taskRecords ks) (fits 0 (omega arith)),
+  written-stands s (at + taskBytes) ks (λ i l. fits (suc i) (omega arith)) (sym (drop-drop taskBytes at s) ∙ ap (λ (r : List ℕ). drop taskBytes r) e),
+)
+
+pub written-read : (b : ℕ) (ks : List Task) → b < wordLimit * wordLimit → AllFit ks → length ks ≤ taskLimit → formOf (fileOf b ks) ≡ admit b ks
+unfolding bytesOf
+written-read b ks limit fits few =
+    let low = word-back (b % wordLimit) (omega arith) in
+    let high = word-back (b / wordLimit) (omega arith) in
+    let whole : eight (fileOf b ks) 1 ≡ b = omega arith in
+    form-read (fileOf b ks) ks few refl (written-stands (fileOf b ks) budgetBytes ks fits refl) ∙ ap (λ (n : ℕ). admit n ks) whole
