@@ -45,5 +45,6 @@ module _ (s : List ℕ) (bytes : (i : ℕ) → getD s i 0 < 256) where
       rw (one, two, three, next, drop-cons s at 0 (omega arith), drop-cons s (suc at) 0 (omega arith), drop-cons s (suc (suc at)) 0 (omega arith), drop-cons s (suc (suc (suc at))) 0 (omega arith))
 
   -- From a place on the list is the bytes of the word there, and then what stands behind it.
-  pub word-here : (at : ℕ) → at + 4 ≤ length s → drop at s ≡ wordBytes (four s at) ++ drop (at + 4) s
-  word-here at h = four-bytes at h ∙ sym (bytes-back (four s at) _ _ _ _ (drop (at + 4) s) refl (bytes at) (bytes (at + 1)) (bytes (at + 2)) (bytes (at + 3)))
+  pub word-here : (at next : ℕ) → at + 4 ≡ next → next ≤ length s → drop at s ≡ wordBytes (four s at) ++ drop next s
+  word-here at next e h =
+      rw (← e) (four-bytes at (omega arith) ∙ sym (bytes-back (four s at) _ _ _ _ (drop (at + 4) s) refl (bytes at) (bytes (at + 1)) (bytes (at + 2)) (bytes (at + 3))))

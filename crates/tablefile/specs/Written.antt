@@ -7,8 +7,8 @@ use native.Mathlib.Nat.{add-assoc, add-zero}
 use native.Mathlib.Omega.{arith}
 use borrow.Author.Tests.{eqb-true, ne-eqb, le-ltb, lt-leb, leb-false, ltb-false}
 use lib.Dec.{leb, ltb, eqb}
-use lib.ListN.{length, getD, drop, length-drop}
-use lib.Seq.{append-snoc, getD-drop, drop-drop}
+use lib.ListN.{length, getD, drop, length-drop, drop-of-length-le}
+use lib.Seq.{append-snoc, drop-cons, getD-drop, drop-drop}
 use Rattle.values.specs.declared.Task.{Task}
 use Rattle.values.specs.declared.Admission.{Admission}
 use Rattle.values.specs.declared.Loaded.{Loaded}
@@ -16,7 +16,7 @@ use Rattle.model.specs.Limits.{taskLimit, budgetBytes, taskBytes, longestFile}
 use Rattle.model.specs.Tasks.{noTask}
 use Rattle.model.specs.TableFile.{four, eight, taskIn, refuseFile, admit, whole, readRecord, readFrom, formOf}
 use Rattle.model.specs.StateBuffer.{bytesOf}
-use Rattle.tablefile.specs.Word.{wordLimit, word-back}
+use Rattle.tablefile.specs.Word.{wordLimit, word-back, word-fits, word-here}
 
 -- ---- What is read stands in the file
 
@@ -151,3 +151,46 @@ written-read b ks limit fits few =
     let high = word-back (b / wordLimit) (omega arith) in
     let whole : eight (fileOf b ks) 1 ≡ b = omega arith in
     form-read (fileOf b ks) ks few refl (written-stands (fileOf b ks) budgetBytes ks fits refl) ∙ ap (λ (n : ℕ). admit n ks) whole
+
+-- ---- What is read was written
+
+module _ (s : List ℕ) (bytes : (i : ℕ) → getD s i 0 < 256) where
+  stand-fits : (at : ℕ) (ks : List Task) → Stand s at ks → AllFit ks
+  stand-fits at [] stand i l = absurd (omega arith)
+  stand-fits at (k ∷ ks) (kind, body, rest) zero l =
+      let fits = word-fits s bytes in
+      rw (← body) (record { offset-fits = fits (at + 1); cost-fits = fits (at + 1 + 4); deadline-fits = fits (at + 1 + 8); period-fits = fits (at + 1 + 12) })
+  stand-fits at (k ∷ ks) (kind, body, rest) (suc i) l = stand-fits (at + taskBytes) ks rest i (omega arith)
+
+  task-written : (at : ℕ) → getD s at 0 ≡ 2 → at + taskBytes ≤ length s → drop at s ≡ taskRecord (taskIn s (at + 1)) ++ drop (at + taskBytes) s
+  unfolding bytesOf
+  task-written at kind h =
+      let body : suc at ≡ at + 1 = omega arith in
+      let word = word-here s bytes in
+      rw (drop-cons s at 0 (omega arith), kind, body, word (at + 1) (at + 1 + 4) refl (omega arith), word (at + 1 + 4) (at + 1 + 8) (omega arith) (omega arith), word (at + 1 + 8) (at + 1 + 12) (omega arith) (omega arith), word (at + 1 + 12) (at + taskBytes) (omega arith) (omega arith))
+
+  stand-written : (at : ℕ) (ks : List Task) → Stand s at ks → drop at s ≡ taskRecords ks
+  stand-written at [] (kind, stop) =
+      let none : drop (suc at) s ≡ [] = drop-of-length-le s {i = suc at} (omega arith) in
+      rw (drop-cons s at 0 (omega arith), kind, none)
+  stand-written at (k ∷ ks) (kind, body, rest) =
+      let size = stand-length s (at + taskBytes) ks rest in
+      task-written at kind (omega arith) ∙ ap (λ (t : Task). taskRecord t ++ drop (at + taskBytes) s) body ∙ ap (λ (r : List ℕ). taskRecord k ++ r) (stand-written (at + taskBytes) ks rest)
+
+  budget-fits : eight s 1 < wordLimit * wordLimit
+  budget-fits = omega (arith, word-fits s bytes 1, word-fits s bytes (1 + 4))
+
+  file-written : (ks : List Task) → getD s 0 0 ≡ 1 → Stand s budgetBytes ks → s ≡ fileOf (eight s 1) ks
+  unfolding bytesOf
+  file-written ks kind stand =
+      let size = stand-length s budgetBytes ks stand in
+      let low : eight s 1 % wordLimit ≡ four s 1 = omega (arith, word-fits s bytes 1, word-fits s bytes (1 + 4)) in
+      let high : eight s 1 / wordLimit ≡ four s (1 + 4) = omega (arith, word-fits s bytes 1, word-fits s bytes (1 + 4)) in
+      let word = word-here s bytes in
+      drop-cons s 0 0 (omega arith) ∙ rw (low, high, kind, word 1 (1 + 4) refl (omega arith), word (1 + 4) budgetBytes refl (omega arith), stand-written budgetBytes ks stand)
+
+  -- A file of good form is what the writer writes of its budget and of at most 16 tasks, which are the tasks of its table.
+  pub read-written : formOf s .admission ≡ Admission.Admitted → (formOf s .budget < wordLimit * wordLimit) × ((ks : List Task) × (length ks ≤ taskLimit) × AllFit ks × (s ≡ fileOf (formOf s .budget) ks) × (formOf s ≡ admit (formOf s .budget) ks))
+  read-written h =
+      let (kind, (ks, few, stand, same)) = form-takes s h in
+      rw same (budget-fits, (ks, few, stand-fits budgetBytes ks stand, file-written ks kind stand, refl))
