@@ -42,7 +42,8 @@ module _ (s : List ℕ) (bytes : (i : ℕ) → getD s i 0 < 256) where
       let two : at + 2 ≡ suc (suc at) = omega arith in
       let three : at + 3 ≡ suc (suc (suc at)) = omega arith in
       let next : at + 4 ≡ suc (suc (suc (suc at))) = omega arith in
-      rw (one, two, three, next, drop-cons s at 0 (omega arith), drop-cons s (suc at) 0 (omega arith), drop-cons s (suc (suc at)) 0 (omega arith), drop-cons s (suc (suc (suc at))) 0 (omega arith))
+      let from : (i : ℕ) → i < length s → drop i s ≡ getD s i 0 ∷ drop (suc i) s = λ i l. drop-cons s i 0 l in
+      rw (one, two, three, next, from at (omega arith), from (suc at) (omega arith), from (suc (suc at)) (omega arith), from (suc (suc (suc at))) (omega arith))
 
   -- From a place on the list is the bytes of the word there, and then what stands behind it.
   pub word-here : (at next : ℕ) → at + 4 ≡ next → next ≤ length s → drop at s ≡ wordBytes (four s at) ++ drop next s

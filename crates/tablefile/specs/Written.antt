@@ -123,9 +123,9 @@ module _ (s : List ℕ) where
       go false false false kind = refusal-holds 21 0
 
   -- A file of good form has the bytes of a budget, of its tasks, at most 16, and of the end.
-  pub legal-length : formOf s .admission ≡ Admission.Admitted
+  pub form-length : formOf s .admission ≡ Admission.Admitted
       → (formOf s .table .count ≤ taskLimit) × (length s ≡ budgetBytes + formOf s .table .count * taskBytes + 1)
-  legal-length h = let (kind, (ks, few, stand, same)) = form-holds h in rw same (few, stand-length budgetBytes ks stand)
+  form-length h = let (kind, (ks, few, stand, same)) = form-holds h in rw same (few, stand-length budgetBytes ks stand)
 
   -- ---- What stands in the file is read
 
@@ -166,7 +166,8 @@ written-stands : (s : List ℕ) (at : ℕ) (ks : List Task) → AllFit ks → dr
 unfolding bytesOf
 written-stands s at [] fits e = (kind-at s at e, omega (arith, length-drop at s, ap (λ (r : List ℕ). length r) e))
 written-stands s at (k ∷ ks) fits e =
-    let task : taskIn s (at + 1) ≡ k = sym (task-part s (at + 1)) ∙ ap (λ (r : List ℕ). taskIn r 0) (behind s at 1 e) ∙ task-back k (taskRecords ks) (fits 0 (omega arith)) in
+    let body : taskIn s (at + 1) ≡ taskIn (drop 1 (taskRecords (k ∷ ks))) 0 = sym (task-part s (at + 1)) ∙ ap (λ (r : List ℕ). taskIn r 0) (behind s at 1 e) in
+    let task : taskIn s (at + 1) ≡ k = body ∙ task-back k (taskRecords ks) (fits 0 (omega arith)) in
     (kind-at s at e, task, written-stands s (at + taskBytes) ks (λ i l. fits (suc i) (omega arith)) (behind s at taskBytes e))
 
 pub written-read : (b : ℕ) (ks : List Task) → b < budgetLimit → AllFit ks → length ks ≤ taskLimit → formOf (fileOf b ks) ≡ admit b ks
