@@ -201,7 +201,7 @@ pub read-was-written : (file : List ℕ) → ((i : ℕ) → getD file i 0 < 256)
     × ((ks : List Task) × (length ks ≤ taskLimit) × AllFit ks × (file ≡ fileOf (formOf file .budget) ks) × (formOf file ≡ admit (formOf file .budget) ks))
 read-was-written = read-written
 
--- It has the bytes of a budget, of each task and of the end, and so no more than the longest legal file.
+-- A file whose form is good has the bytes of a budget, of each task and of the end, and so no more than the longest legal file.
 pub legal-length : (file : List ℕ) → formOf file .admission ≡ Admission.Admitted
     → (formOf file .table .count ≤ taskLimit) × (length file ≡ budgetBytes + formOf file .table .count * taskBytes + 1) × (length file ≤ longestFile)
 legal-length file h = let (few, size) = form-length file h in (few, size, omega arith)
