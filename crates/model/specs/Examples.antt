@@ -214,7 +214,7 @@ budgetOf n = 1 ∷ word n ++ word 0
 abbrev rowOf : Task → List ℕ
 rowOf k = 2 ∷ word (k .offset) ++ word (k .cost) ++ word (k .deadline) ++ word (k .period)
 
-abbrev file-b : List ℕ
+abbrev pub file-b : List ℕ
 file-b = budgetOf 1000 ++ rowOf (of 8 5 7 15) ++ rowOf (of 0 2 2 5) ++ (3 ∷ [])
 
 rowsOfOne : ℕ → List ℕ

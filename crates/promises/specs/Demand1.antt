@@ -1,15 +1,16 @@
 -- DEMAND 1: each bad input is refused by number and place and changes nothing, and every call has one permitted result.
 -- That no call traps or runs on is what being proved means, and is not said again. Each contract is an equation with, or a
--- permission by, the model's own word, for every input; so the theorems here speak of these words (`record-read` of tablefile's).
+-- permission by, the model's own word, for every input; so the theorems here speak of these words (`record-read`,
+-- `written-is-read` and `read-was-written` of tablefile's too).
 use mathlib.Core.Path.{_≡_, refl, sym, ap, subst, _∙_}
 use mathlib.Core.Logic.{_↔_, _⊎_, inl, inr}
 use mathlib.Core.List.{List, [], _∷_}
 use mathlib.Core.Bool.{Bool, true, false, cond}
-use Prim.Native.Nat.{ℕ, suc, _/_, _%_, _≤_, _<_, _∣_}
+use Prim.Native.Nat.{ℕ, suc, _+_, _*_, _/_, _%_, _≤_, _<_, _∣_}
 use native.Mathlib.Omega.{arith}
 use borrow.Author.Tests.{ltb-true, lt-ltb, le-ltb}
 use lib.Dec.{ltb}
-use lib.ListN.{length, take}
+use lib.ListN.{length, getD, take}
 use Rattle.values.specs.declared.Task.{Task}
 use Rattle.values.specs.declared.Table.{Table}
 use Rattle.values.specs.declared.Refusal.{Refusal}
@@ -21,11 +22,11 @@ use Rattle.values.specs.declared.Admission.{Admission}
 use Rattle.values.specs.declared.Given.{Given}
 use Rattle.values.specs.declared.Answer.{Answer}
 use Rattle.values.specs.declared.Loaded.{Loaded}
-use Rattle.model.specs.Limits.{taskLimit, slotLimit, roundLimit, reportBytes, longestFile}
+use Rattle.model.specs.Limits.{taskLimit, slotLimit, roundLimit, reportBytes, budgetBytes, taskBytes, longestFile}
 use Rattle.model.specs.Values.{refusal, refusalSaid, judgementSaid, admissionSaid, givenSaid}
 use Rattle.model.specs.Tasks.{task, round, measure, judged}
 use Rattle.model.specs.Verdict.{verdict, brief, Permitted}
-use Rattle.model.specs.TableFile.{formOf, loadedFrom}
+use Rattle.model.specs.TableFile.{admit, formOf, loadedFrom}
 use Rattle.model.specs.Dispatcher as model
 use Rattle.model.specs.Dispatcher.{State, firstStrange, lastStrange, turn, after, stepJudged, started, stepped}
 use Rattle.dispatch.specs.declared.Dispatcher.{Dispatcher}
@@ -46,6 +47,7 @@ use Rattle.tablefile.specs.Said.{recordSaid, numbersAt, Has, record-said}
 use Rattle.tablefile.specs.Admitted.{admitted}
 use Rattle.tablefile.specs.Longer.{first-form, first-bytes}
 use Rattle.tablefile.specs.Refused.{AdmissionTellable, load-tellable}
+use Rattle.tablefile.specs.Written.{fileOf, budgetLimit, AllFit, form-length, written-read, read-written}
 use Rattle.report.specs.Permitted.{Fitting, permitted-fits}
 use Rattle.statebuffer.specs.Told.{Apart}
 use Rattle.promises.specs.Demand2.{answer-exactly}
@@ -188,6 +190,21 @@ read-exactly file = (λ h. let (same, well) = admitted file h in (ap (λ (l : Lo
 
 pub read-as-formed : (file : List ℕ) → loadedFrom file .admission ≡ Admission.Admitted → loadedFrom file ≡ formOf file
 read-as-formed file h = admitted file h .0
+
+-- What the plain writer `fileOf` writes of any budget of eight bytes and of at most 16 tasks, each number below 2^32, is read as these.
+pub written-is-read : (b : ℕ) (ks : List Task) → b < budgetLimit → AllFit ks → length ks ≤ taskLimit → formOf (fileOf b ks) ≡ admit b ks
+written-is-read = written-read
+
+-- A list of bytes whose form is good is what this writer writes of its budget and of the tasks of its table: there is no other good form.
+pub read-was-written : (file : List ℕ) → ((i : ℕ) → getD file i 0 < 256) → formOf file .admission ≡ Admission.Admitted
+    → (formOf file .budget < budgetLimit)
+    × ((ks : List Task) × (length ks ≤ taskLimit) × AllFit ks × (file ≡ fileOf (formOf file .budget) ks) × (formOf file ≡ admit (formOf file .budget) ks))
+read-was-written = read-written
+
+-- A file whose form is good has the bytes of a budget, of each task and of the end, and so no more than the longest legal file.
+pub legal-length : (file : List ℕ) → formOf file .admission ≡ Admission.Admitted
+    → (formOf file .table .count ≤ taskLimit) × (length file ≡ budgetBytes + formOf file .table .count * taskBytes + 1) × (length file ≤ longestFile)
+legal-length file h = let (few, size) = form-length file h in (few, size, omega arith)
 
 -- A refused file leaves the report buffer as it was.
 pub refused-export : (file buffer : List ℕ) (e : Exported) (r : Refusal) → ltb (length buffer) reportBytes ≡ false → loadedFrom file .admission ≡ Admission.Refused r → Checked file buffer e → e ≡ refused r buffer

@@ -26,7 +26,8 @@ use Rattle.wellformed.specs.Ranges.{Ranged}
 use Rattle.wellformed.specs.WellFormed.{well-formed}
 use Rattle.backlog.specs.Taken.{known}
 use Rattle.backlog.specs.Stepping.{sound, past-none, never-refused}
-use Rattle.statebuffer.specs.RoundTrip.{wordLimit, Fits, state-back, buffer-size}
+use Rattle.tablefile.specs.Word.{wordLimit}
+use Rattle.statebuffer.specs.RoundTrip.{Fits, state-back, buffer-size}
 
 -- Every state of a history fits its buffer.
 module _ (t : Table) (r : Ranged t) (done : ℕ → Bool) where

@@ -1,7 +1,7 @@
 -- What was written into a state buffer is what is read from it.
 use mathlib.Core.Path.{_≡_, sym, ap, _∙_}
 use mathlib.Core.List.{List, [], _∷_, _++_}
-use Prim.Native.Nat.{ℕ, zero, suc, _+_, _*_, _/_, _%_, _<_}
+use Prim.Native.Nat.{ℕ, zero, suc, _+_, _*_, _<_}
 use native.Mathlib.Omega.{arith}
 use lib.ListN.{length, getD, replicate, length-append, length-replicate, List·getD-append}
 use lib.Seq.{ext-getD, getD-append-add}
@@ -11,18 +11,8 @@ use Rattle.model.specs.TableFile.{four}
 use Rattle.model.specs.Dispatcher.{State}
 use Rattle.model.specs.StateBuffer.{stateBytes, wordBytes, bytesOf, bufferOf, wordsIn, stateIn}
 use Rattle.counting.specs.Fill.{fill-length, fill-passed}
+use Rattle.tablefile.specs.Word.{wordLimit, word-back}
 use Rattle.statebuffer.specs.Words.{bytes-append, bytes-length}
-
--- A word fits four bytes.
-abbrev pub wordLimit : ℕ
-wordLimit = 4294967296
-
-word-back : (x : ℕ) → x < wordLimit → x % 256 + 256 * (x / 256 % 256) + 65536 * (x / 65536 % 256) + 16777216 * (x / 16777216 % 256) ≡ x
-word-back x h =
-    let second : x / 65536 ≡ x / 256 / 256 = omega arith in
-    let third : x / 16777216 ≡ x / 65536 / 256 = omega arith in
-    let fourth : x / 16777216 / 256 ≡ 0 = omega arith in
-    omega arith
 
 -- Behind a word the next one is read four bytes further on.
 behind : (a b c d : ℕ) (s : List ℕ) (at : ℕ) → getD (a ∷ b ∷ c ∷ d ∷ s) (4 + at) 0 ≡ getD s at 0

@@ -1,6 +1,7 @@
 -- What reading at a place comes to, and the laws by which reading on and on comes to the form of the file.
 pub mod Reading
 pub mod Part
+pub mod Word
 pub mod Said
 pub mod Built
 pub mod Steps
@@ -8,3 +9,4 @@ pub mod Loading
 pub mod Admitted
 pub mod Longer
 pub mod Refused
+pub mod Written

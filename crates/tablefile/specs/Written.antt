@@ -1,0 +1,233 @@
+-- The reader takes exactly what a plain writer writes: a budget, tasks in their order, the end.
+use mathlib.Core.Path.{_≡_, refl, sym, ap, _∙_}
+use mathlib.Core.Bool.{Bool, true, false, cond, _||_}
+use mathlib.Core.List.{List, [], _∷_, _++_, append-nil}
+use Prim.Native.Nat.{ℕ, zero, suc, _+_, _*_, _/_, _%_, _≤_, _<_}
+use native.Mathlib.Nat.{add-zero}
+use native.Mathlib.Omega.{arith}
+use borrow.Author.Tests.{eqb-true, ne-eqb, le-ltb, lt-leb, leb-false, ltb-false}
+use lib.Dec.{leb, ltb, eqb}
+use lib.ListN.{length, getD, drop, length-drop, drop-of-length-le}
+use lib.Seq.{append-snoc, drop-cons, getD-drop, drop-drop}
+use Rattle.values.specs.declared.Task.{Task}
+use Rattle.values.specs.declared.Admission.{Admission}
+use Rattle.values.specs.declared.Loaded.{Loaded}
+use Rattle.model.specs.Limits.{taskLimit, budgetBytes, taskBytes}
+use Rattle.model.specs.Tasks.{noTask}
+use Rattle.model.specs.TableFile.{four, eight, taskIn, refuseFile, admit, whole, readRecord, readFrom, formOf}
+use Rattle.model.specs.StateBuffer.{bytesOf}
+use Rattle.model.specs.Examples.{of, file-b}
+use Rattle.tablefile.specs.Part.{task-part}
+use Rattle.tablefile.specs.Word.{wordLimit, word-back, word-fits, word-here}
+
+-- ---- The writer
+
+-- A task's record: its kind, then O, C, D and T.
+abbrev pub taskRecord : Task → List ℕ
+taskRecord k = 2 ∷ bytesOf (k .offset ∷ k .cost ∷ k .deadline ∷ k .period ∷ [])
+
+-- The records of these tasks in their order, then the end.
+abbrev pub taskRecords : List Task → List ℕ
+taskRecords [] = 3 ∷ []
+taskRecords (k ∷ ks) = taskRecord k ++ taskRecords ks
+
+-- The file of a budget and tasks: the kind of a budget, its lower and its upper word, then these records.
+abbrev pub fileOf : ℕ → List Task → List ℕ
+fileOf b ks = 1 ∷ bytesOf (b % wordLimit ∷ b / wordLimit ∷ []) ++ taskRecords ks
+
+-- A budget fits eight bytes.
+abbrev pub budgetLimit : ℕ
+budgetLimit = wordLimit * wordLimit
+
+-- Each number of a task fits a word; and so for each of these tasks.
+abbrev pub Fits32 : Task → Type 0
+Fits32 k = (k .offset < wordLimit) × (k .cost < wordLimit) × (k .deadline < wordLimit) × (k .period < wordLimit)
+
+abbrev pub AllFit : List Task → Type 0
+AllFit ks = (i : ℕ) → i < length ks → Fits32 (getD ks i noTask)
+
+-- ---- What is read stands in the file
+
+module _ (s : List ℕ) where
+  -- From this place on the file holds these tasks one after another, then the end and nothing more.
+  abbrev Stand : ℕ → List Task → Type 0
+  Stand at [] = (getD s at 0 ≡ 3) × (length s ≡ at + 1)
+  Stand at (k ∷ ks) = (getD s at 0 ≡ 2) × (taskIn s (at + 1) ≡ k) × Stand (at + taskBytes) ks
+
+  stand-length : (at : ℕ) (ks : List Task) → Stand at ks → length s ≡ at + length ks * taskBytes + 1
+  stand-length at [] (kind, stop) = omega arith
+  stand-length at (k ∷ ks) (kind, body, rest) = omega (arith, stand-length (at + taskBytes) ks rest)
+
+  -- If the file is taken, tasks stand from this place on, no more than there is room for, and were read after the tasks ks.
+  abbrev Takes : ℕ → List Task → ℕ → ℕ → Loaded → Type 0
+  Takes b ks room at l = l .admission ≡ Admission.Admitted → (more : List Task) × (length more ≤ room) × Stand at more × (l ≡ admit b (ks ++ more))
+
+  refusal-takes : (b : ℕ) (ks : List Task) (room at n p : ℕ) → Takes b ks room at (refuseFile n p)
+  refusal-takes b ks room at n p h = let z : _≡_ {A = ℕ} 0 1 = cc in absurd (omega arith)
+
+  whole-takes : (b : ℕ) (ks : List Task) (room at place bytes : ℕ) (l : Loaded) → Takes b ks room at l → Takes b ks room at (whole s place bytes l)
+  whole-takes b ks room at place bytes l h = go (ltb (length s) (place + bytes))
+    where
+      go : (short : Bool) → Takes b ks room at (cond short (refuseFile 20 place) l)
+      go true = refusal-takes b ks room at 20 place
+      go false = h
+
+  record-takes : (b : ℕ) (ks : List Task) (room at : ℕ) (l : Loaded) → (getD s at 0 ≡ 2 → Takes b ks room at l) → Takes b ks room at (readRecord s b ks at l)
+  record-takes b ks room at l task =
+      go (leb (length s) at) (eqb (getD s at 0) 1) (eqb (getD s at 0) 2) (eqb (getD s at 0) 3) (ltb (at + 1) (length s))
+      (leb-false (length s) at) (eqb-true (getD s at 0) 2) (eqb-true (getD s at 0) 3) (ltb-false (at + 1) (length s))
+    where
+      refuses : (n p : ℕ) → Takes b ks room at (refuseFile n p)
+      refuses = refusal-takes b ks room at
+
+      go : (past budget two three more : Bool)
+          → (past ≡ false → at < length s) → (two ≡ true → getD s at 0 ≡ 2) → (three ≡ true → getD s at 0 ≡ 3) → (more ≡ false → length s ≤ at + 1)
+          → let ended = cond more (refuseFile 24 (at + 1)) (admit b ks) in
+          Takes b ks room at (cond past (refuseFile 26 (length s)) (cond budget (refuseFile 23 at) (cond two l (cond three ended (refuseFile 21 at)))))
+      go true budget two three more inside task-kind end-kind last = refuses 26 (length s)
+      go false true two three more inside task-kind end-kind last = refuses 23 at
+      go false false true three more inside task-kind end-kind last = task (task-kind refl)
+      go false false false true true inside task-kind end-kind last = refuses 24 (at + 1)
+      go false false false true false inside task-kind end-kind last =
+          λ h. ([], omega arith, (end-kind refl, omega (arith, inside refl, last refl)), ap (admit b) (sym (append-nil ks)))
+      go false false false false more inside task-kind end-kind last = refuses 21 at
+
+  from-takes : (b : ℕ) (ks : List Task) (room at : ℕ) → Takes b ks room at (readFrom s b ks room at)
+  unfolding readFrom
+  from-takes b ks zero at = record-takes b ks zero at (refuseFile 25 at) (λ kind. refusal-takes b ks zero at 25 at)
+  from-takes b ks (suc room) at =
+      let k = taskIn s (at + 1) in
+      let next = from-takes b (ks ++ (k ∷ [])) room (at + taskBytes) in
+      record-takes b ks (suc room) at _
+      (λ kind. whole-takes b ks (suc room) at at taskBytes _
+      (λ h. let (more, few, stand, same) = next h in (k ∷ more, omega arith, (kind, refl, stand), same ∙ ap (admit b) (append-snoc ks k more))))
+
+  -- If the file is taken, it holds a budget and tasks, and these were read.
+  abbrev Holds : Loaded → Type 0
+  Holds l = l .admission ≡ Admission.Admitted → (getD s 0 0 ≡ 1) × ((ks : List Task) × (length ks ≤ taskLimit) × Stand budgetBytes ks × (l ≡ admit (eight s 1) ks))
+
+  refusal-holds : (n p : ℕ) → Holds (refuseFile n p)
+  refusal-holds n p h = let z : _≡_ {A = ℕ} 0 1 = cc in absurd (omega arith)
+
+  form-holds : Holds (formOf s)
+  unfolding formOf
+  form-holds = go (eqb (length s) 0) (eqb (getD s 0 0) 1) (eqb (getD s 0 0) 2 || eqb (getD s 0 0) 3) (eqb-true (getD s 0 0) 1)
+    where
+      go : (none budget other : Bool) → (budget ≡ true → getD s 0 0 ≡ 1)
+          → let good = whole s 0 budgetBytes (readFrom s (eight s 1) [] taskLimit budgetBytes) in
+          Holds (cond none (refuseFile 22 0) (cond budget good (cond other (refuseFile 22 0) (refuseFile 21 0))))
+      go true budget other kind = refusal-holds 22 0
+      go false true other kind =
+          λ h. (kind refl, whole-takes (eight s 1) [] taskLimit budgetBytes 0 budgetBytes _ (from-takes (eight s 1) [] taskLimit budgetBytes) h)
+      go false false true kind = refusal-holds 22 0
+      go false false false kind = refusal-holds 21 0
+
+  -- A file of good form has the bytes of a budget, of its tasks, at most 16, and of the end.
+  pub form-length : formOf s .admission ≡ Admission.Admitted
+      → (formOf s .table .count ≤ taskLimit) × (length s ≡ budgetBytes + formOf s .table .count * taskBytes + 1)
+  form-length h = let (kind, (ks, few, stand, same)) = form-holds h in rw same (few, stand-length budgetBytes ks stand)
+
+  -- ---- What stands in the file is read
+
+  end-read : (b : ℕ) (ks : List Task) (at : ℕ) (l : Loaded) → Stand at [] → readRecord s b ks at l ≡ admit b (ks ++ [])
+  end-read b ks at l (kind, stop) = rw (lt-leb (length s) at (omega arith), kind, le-ltb (at + 1) (length s) (omega arith), append-nil ks)
+
+  stand-read : (b : ℕ) (ks : List Task) (room at : ℕ) (more : List Task) → Stand at more → length more ≤ room → readFrom s b ks room at ≡ admit b (ks ++ more)
+  unfolding readFrom
+  stand-read b ks zero at [] stand few = end-read b ks at _ stand
+  stand-read b ks (suc room) at [] stand few = end-read b ks at _ stand
+  stand-read b ks zero at (k ∷ more) stand few = absurd (omega arith)
+  stand-read b ks (suc room) at (k ∷ more) (kind, body, rest) few =
+      let size = stand-length (at + taskBytes) more rest in
+      rw (lt-leb (length s) at (omega arith), kind, le-ltb (length s) (at + taskBytes) (omega arith), body)
+      (stand-read b (ks ++ (k ∷ [])) room (at + taskBytes) more rest (omega arith) ∙ ap (admit b) (append-snoc ks k more))
+
+  form-read : (ks : List Task) → length ks ≤ taskLimit → getD s 0 0 ≡ 1 → Stand budgetBytes ks → formOf s ≡ admit (eight s 1) ks
+  unfolding formOf
+  form-read ks few kind stand =
+      let size = stand-length budgetBytes ks stand in
+      rw (ne-eqb (length s) 0 (omega arith), kind, le-ltb (length s) (0 + budgetBytes) (omega arith))
+      (stand-read (eight s 1) [] taskLimit budgetBytes ks stand few)
+
+-- ---- What is written is read
+
+task-back : (k : Task) (rest : List ℕ) → Fits32 k → taskIn (drop 1 (taskRecord k ++ rest)) 0 ≡ k
+unfolding bytesOf
+task-back k rest (o, c, d, t) = rw (word-back (k .offset) o, word-back (k .cost) c, word-back (k .deadline) d, word-back (k .period) t)
+
+module _ (s : List ℕ) (at : ℕ) where
+  kind-at : {r : List ℕ} → drop at s ≡ r → getD s at 0 ≡ getD r 0 0
+  kind-at e = rw (← e) (simp (getD-drop, add-zero))
+
+  behind : (n : ℕ) {r : List ℕ} → drop at s ≡ r → drop (at + n) s ≡ drop n r
+  behind n e = sym (drop-drop n at s) ∙ ap (λ (r : List ℕ). drop n r) e
+
+written-stands : (s : List ℕ) (at : ℕ) (ks : List Task) → AllFit ks → drop at s ≡ taskRecords ks → Stand s at ks
+unfolding bytesOf
+written-stands s at [] fits e = (kind-at s at e, omega (arith, length-drop at s, ap (λ (r : List ℕ). length r) e))
+written-stands s at (k ∷ ks) fits e =
+    let body : taskIn s (at + 1) ≡ taskIn (drop 1 (taskRecords (k ∷ ks))) 0 = sym (task-part s (at + 1)) ∙ ap (λ (r : List ℕ). taskIn r 0) (behind s at 1 e) in
+    let task : taskIn s (at + 1) ≡ k = body ∙ task-back k (taskRecords ks) (fits 0 (omega arith)) in
+    (kind-at s at e, task, written-stands s (at + taskBytes) ks (λ i l. fits (suc i) (omega arith)) (behind s at taskBytes e))
+
+pub written-read : (b : ℕ) (ks : List Task) → b < budgetLimit → AllFit ks → length ks ≤ taskLimit → formOf (fileOf b ks) ≡ admit b ks
+unfolding bytesOf
+written-read b ks limit fits few =
+    let low = word-back (b % wordLimit) (omega arith) in
+    let high = word-back (b / wordLimit) (omega arith) in
+    let budget : eight (fileOf b ks) 1 ≡ b = omega arith in
+    form-read (fileOf b ks) ks few refl (written-stands (fileOf b ks) budgetBytes ks fits refl) ∙ ap (λ (n : ℕ). admit n ks) budget
+
+-- ---- What is read was written
+
+module _ (s : List ℕ) (bytes : (i : ℕ) → getD s i 0 < 256) where
+  stand-fits : (at : ℕ) (ks : List Task) → Stand s at ks → AllFit ks
+  stand-fits at [] stand i l = absurd (omega arith)
+  stand-fits at (k ∷ ks) (kind, body, rest) zero l =
+      let fits = word-fits s bytes in
+      rw (← body) (fits (at + 1), fits (at + 1 + 4), fits (at + 1 + 8), fits (at + 1 + 12))
+  stand-fits at (k ∷ ks) (kind, body, rest) (suc i) l = stand-fits (at + taskBytes) ks rest i (omega arith)
+
+  task-written : (at : ℕ) → getD s at 0 ≡ 2 → at + taskBytes ≤ length s → drop at s ≡ taskRecord (taskIn s (at + 1)) ++ drop (at + taskBytes) s
+  unfolding bytesOf
+  task-written at kind h =
+      let body : suc at ≡ at + 1 = omega arith in
+      let offset = word-here s bytes (at + 1) (at + 1 + 4) refl (omega arith) in
+      let cost = word-here s bytes (at + 1 + 4) (at + 1 + 8) (omega arith) (omega arith) in
+      let deadline = word-here s bytes (at + 1 + 8) (at + 1 + 12) (omega arith) (omega arith) in
+      let period = word-here s bytes (at + 1 + 12) (at + taskBytes) (omega arith) (omega arith) in
+      rw (drop-cons s at 0 (omega arith), kind, body, offset, cost, deadline, period)
+
+  stand-written : (at : ℕ) (ks : List Task) → Stand s at ks → drop at s ≡ taskRecords ks
+  stand-written at [] (kind, stop) =
+      let none : drop (suc at) s ≡ [] = drop-of-length-le s {i = suc at} (omega arith) in
+      rw (drop-cons s at 0 (omega arith), kind, none)
+  stand-written at (k ∷ ks) (kind, body, rest) =
+      let size = stand-length s (at + taskBytes) ks rest in
+      task-written at kind (omega arith)
+      ∙ ap (λ (t : Task). taskRecord t ++ drop (at + taskBytes) s) body
+      ∙ ap (λ (r : List ℕ). taskRecord k ++ r) (stand-written (at + taskBytes) ks rest)
+
+  file-written : (ks : List Task) → getD s 0 0 ≡ 1 → Stand s budgetBytes ks → s ≡ fileOf (eight s 1) ks
+  unfolding bytesOf
+  file-written ks kind stand =
+      let size = stand-length s budgetBytes ks stand in
+      let low : eight s 1 % wordLimit ≡ four s 1 = omega (arith, word-fits s bytes 1, word-fits s bytes (1 + 4)) in
+      let high : eight s 1 / wordLimit ≡ four s (1 + 4) = omega (arith, word-fits s bytes 1, word-fits s bytes (1 + 4)) in
+      let lower = word-here s bytes 1 (1 + 4) refl (omega arith) in
+      let upper = word-here s bytes (1 + 4) budgetBytes refl (omega arith) in
+      drop-cons s 0 0 (omega arith) ∙ rw (low, high, kind, lower, upper, stand-written budgetBytes ks stand)
+
+  -- A file of good form is what the writer writes of its budget and of the tasks of its table, at most 16.
+  pub read-written : formOf s .admission ≡ Admission.Admitted
+      → (formOf s .budget < budgetLimit)
+      × ((ks : List Task) × (length ks ≤ taskLimit) × AllFit ks × (s ≡ fileOf (formOf s .budget) ks) × (formOf s ≡ admit (formOf s .budget) ks))
+  read-written h =
+      let (kind, (ks, few, stand, same)) = form-holds s h in
+      let limit : eight s 1 < budgetLimit = omega (arith, word-fits s bytes 1, word-fits s bytes (1 + 4)) in
+      rw same (limit, (ks, few, stand-fits budgetBytes ks stand, file-written ks kind stand, refl))
+
+-- The model's file of table b is what the writer writes of its budget and tasks.
+b-written : fileOf 1000 (of 8 5 7 15 ∷ of 0 2 2 5 ∷ []) ≡ file-b
+unfolding bytesOf
+b-written = refl
