@@ -1,4 +1,4 @@
--- A pass means a good schedule, and every table and budget has one permitted answer.
+-- DEMAND 2 of the model's verdict: a pass means a good schedule, and no table and budget has two permitted answers.
 use mathlib.Core.Path.{_≡_, sym, _∙_, ap}
 use mathlib.Core.Logic.{_↔_}
 use mathlib.Core.List.{List}
@@ -6,6 +6,7 @@ use Prim.Native.Nat.{ℕ, _≤_, _<_}
 use native.Mathlib.Decide.{decLt}
 use native.Mathlib.Omega.{arith}
 use lib.Seq.{ext-getD}
+use lib.Dec.{T}
 use Rattle.values.specs.declared.Table.{Table}
 use Rattle.values.specs.declared.Measure.{Measure}
 use Rattle.values.specs.declared.Judgement.{Judgement}
@@ -15,6 +16,7 @@ use Rattle.values.specs.declared.Outcome.{Outcome}
 use Rattle.model.specs.Tasks.{round, load, horizon, judged}
 use Rattle.model.specs.Run.{Worst, Order}
 use Rattle.model.specs.Verdict.{needed, verdict, settledBy, Worsts, Answers, PermittedBy, Permitted}
+use Rattle.model.specs.Demand.{lateAt}
 use Rattle.wellformed.specs.Ranges.{Ranged}
 use Rattle.backlog.specs.Criterion.{Met}
 use Rattle.backlog.specs.System.{jobs, dues, System, Ranks}
@@ -23,7 +25,7 @@ use Rattle.backlog.specs.Shift.{Light}
 use Rattle.backlog.specs.Worst.{worst-exists, worst-unique}
 use Rattle.backlog.specs.TableSystem.{systemOf, cycleOf, load-is}
 use Rattle.backlog.specs.Decided.{NeverTooMuch, Feasible, met-of-never, feasible-iff, late-soon, overload-late, never-iff}
-use Rattle.backlog.specs.Verdicts.{Late, Case, overload, undecided, late, passed, the-case, is-passed, needed-le, none-late, overload-iff, late-needed}
+use Rattle.backlog.specs.Verdicts.{Case, overload, undecided, late, passed, the-case, is-passed, needed-le, none-late, overload-iff, late-needed}
 
 module _ (t : Table) (r : Ranged t) where
   -- What a pass says of the intervals, whatever the budget was.
@@ -40,7 +42,7 @@ module _ (t : Table) (r : Ranged t) where
   passed-of-never : (budget : ℕ) → horizon t ≤ budget → NeverTooMuch t → verdict t budget ≡ Verdict.Passes
   passed-of-never budget b h = is-passed t budget light (omega (arith, needed-le t)) (quiet (needed t)) .0
     where
-      quiet : (to : ℕ) → Late t to → ⊥
+      quiet : (to : ℕ) → T (lateAt t to) → ⊥
       quiet = never-iff t .0 h
 
       light : load t ≤ round t

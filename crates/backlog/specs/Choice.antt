@@ -6,14 +6,18 @@ use Prim.Native.Nat.{ℕ, zero, suc, _≤_, _<_}
 use native.Mathlib.Nat.{le-refl}
 use native.Mathlib.Omega.{arith}
 use borrow.Author.Tests.{ltb-true, ltb-false, eqb-true, eqb-false}
-use borrow.Author.Count.{below-more}
 use lib.Dec.{T, ltb, eqb}
 use Rattle.model.specs.Limits.{taskLimit}
 use Rattle.model.specs.Run.{Order, precedes, choose}
+use Rattle.counting.specs.Search.{below-suc}
 
--- Task k comes no later than task i: an earlier deadline, or the same and no higher rank.
+-- A deadline and a rank come no later than others: an earlier deadline, or the same and no higher rank.
+abbrev pub Ahead : ℕ → ℕ → ℕ → ℕ → Type 0
+Ahead due rank due' rank' = (due < due') ⊎ ((due ≡ due') × (rank ≤ rank'))
+
+-- Task k comes no later than task i.
 abbrev pub NoLater : (ℕ → ℕ) → Order → ℕ → ℕ → Type 0
-NoLater deadline rank k i = (deadline k < deadline i) ⊎ ((deadline k ≡ deadline i) × (rank k ≤ rank i))
+NoLater deadline rank k i = Ahead (deadline k) (rank k) (deadline i) (rank i)
 
 -- The choice c among the tasks below n.
 pub record Nobody (open? : ℕ → Bool) (n c : ℕ) : Type 0 where
@@ -28,18 +32,14 @@ pub record Somebody (open? : ℕ → Bool) (deadline : ℕ → ℕ) (rank : Orde
 abbrev pub Chosen : (ℕ → Bool) → (ℕ → ℕ) → Order → ℕ → ℕ → Type 0
 Chosen open? deadline rank n c = Nobody open? n c ⊎ Somebody open? deadline rank n c
 
--- A fact of all below n, and of n, is a fact of all up to n.
-below-suc : (P : ℕ → Type 0) (n : ℕ) → ((i : ℕ) → i < n → P i) → P n → (i : ℕ) → i < suc n → P i
-below-suc P n f x i l = below-more P n f x i (omega arith)
-
 module _ (open? : ℕ → Bool) (deadline : ℕ → ℕ) (rank : Order) where
-  -- One task comes before another, or no earlier.
   no-later : (i k : ℕ) → NoLater deadline rank i k → (m : ℕ) → NoLater deadline rank k m → NoLater deadline rank i m
   no-later i k (inl a) m (inl b) = inl (omega arith)
   no-later i k (inl a) m (inr b) = inl (omega (arith, b .0))
   no-later i k (inr a) m (inl b) = inl (omega (arith, a .0))
   no-later i k (inr a) m (inr b) = inr (omega (arith, a .0, b .0), omega (arith, a .1, b .1))
 
+  -- Of two tasks one comes no later, as the test says.
   before : (i k : ℕ) (p q r : Bool) → ltb (deadline i) (deadline k) ≡ p → eqb (deadline i) (deadline k) ≡ q → ltb (rank i) (rank k) ≡ r
       → (T (p || (q && r)) → NoLater deadline rank i k) × ((T (p || (q && r)) → ⊥) → NoLater deadline rank k i)
   before i k true q r a b c = (λ t. inl (ltb-true _ _ a), λ h. absurd (h tt))

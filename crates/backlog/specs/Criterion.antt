@@ -10,10 +10,9 @@ use lib.Dec.{leb}
 use Rattle.model.specs.Notation.{sum, count}
 use Rattle.counting.specs.Sum.{sum-eq, sum-le, sum-add, sum-pos}
 use Rattle.counting.specs.Below.{Grows, below, lt-below, below-below, count-inside}
-use Rattle.counting.specs.Search.{least}
 use Rattle.backlog.specs.Queue.{sum-backlog, busy-from}
-use Rattle.backlog.specs.Streams.{Jobs, released, work, Run, left, leftOf, arrive}
-use Rattle.backlog.specs.Left.{left-is, arrived, done-of-none-left, served-mono, DoneFirst, finish}
+use Rattle.backlog.specs.Streams.{Jobs, released, work, Run, left, leftOf, arrive, arrivals, arrived}
+use Rattle.backlog.specs.Left.{left-is, done-of-none-left, served-mono, DoneFirst, first-done}
 
 -- Deadlines that the key order goes by: the cut of t takes just the jobs that are due by t.
 pub record Dues (J : Jobs) : Type 0 where
@@ -22,6 +21,10 @@ pub record Dues (J : Jobs) : Type 0 where
   pub cut-law : (i j t : ℕ) → i < J .n → (J .key i j ≤ cut t) ↔ (due i j ≤ t)
   pub rel-due : (i j : ℕ) → i < J .n → J .rel i j < due i j
   pub due-grows : (i : ℕ) → i < J .n → Grows (due i)
+
+-- Each job is due before the next of its stream is released.
+abbrev pub Constrained : (J : Jobs) → Dues J → Type 0
+Constrained J D = (i j : ℕ) → i < J .n → D .due i j ≤ J .rel i (suc j)
 
 -- The work of the jobs that are released at or after t1 and due at or before t2.
 abbrev pub inInterval : (J : Jobs) → Dues J → ℕ → ℕ → ℕ → ℕ
@@ -58,7 +61,7 @@ module _ (J : Jobs) (D : Dues J) where
   work-released i t l = mul-le-mul-left (J .cost i) (below-below (J .key i) (J .rel i) (J .key-grows i l) (J .rel-grows i l) _ _ (λ j h. omega (arith, D .rel-due i j l, D .cut-law i j t l .0 (omega arith))))
 
   -- Demand is what is due by t2, but for what of it was released before t1.
-  pub demand-is : (t1 t2 : ℕ) → demand J D t1 t2 + sum (J .n) (λ i. min (work J (D .cut t2) i) (released J t1 i)) ≡ total t2
+  pub demand-is : (t1 t2 : ℕ) → demand J D t1 t2 + arrivals J (D .cut t2) t1 ≡ total t2
   unfolding demand
   demand-is t1 t2 =
       sym (sum-add (J .n) _ _) ∙ sum-eq (J .n) _ _ (λ i l. each i l)
@@ -75,15 +78,15 @@ module _ (J : Jobs) (D : Dues J) (s : ℕ → ℕ → ℕ) (R : Run J s) where
   left-of-over : (t : ℕ) → Over J D t → 0 < left J s (D .cut t) t
   left-of-over t (u, l, h) =
       let k = D .cut t in
-      let a : sum (J .n) (λ i. min (work J k i) (released J t i)) ≡ total J D t = sum-eq (J .n) _ _ (λ i l. omega (arith, work-released J D i t l)) in
-      omega (arith, sum-backlog (arrive J k) u t (omega arith), left-is J s R k t, arrived J s R k t, arrived J s R k u, demand-is J D u t)
+      let a : arrivals J k t ≡ total J D t = sum-eq (J .n) _ _ (λ i l. omega (arith, work-released J D i t l)) in
+      omega (arith, sum-backlog (arrive J k) u t (omega arith), left-is J s R k t, arrived J k t, arrived J k u, demand-is J D u t)
 
   over-of-left : (t : ℕ) → 0 < left J s (D .cut t) t → Over J D t
   over-of-left t h =
       let k = D .cut t in
       let (u, b) = busy-from (arrive J k) t (omega (arith, left-is J s R k t)) in
-      let a : sum (J .n) (λ i. min (work J k i) (released J t i)) ≤ total J D t = sum-le (J .n) _ _ (λ i l. omega arith) in
-      (u, b .early, omega (arith, b .exact, left-is J s R k t, arrived J s R k t, arrived J s R k u, demand-is J D u t))
+      let a : arrivals J k t ≤ total J D t = sum-le (J .n) _ _ (λ i l. omega arith) in
+      (u, b .early, omega (arith, b .exact, left-is J s R k t, arrived J k t, arrived J k u, demand-is J D u t))
 
   pub late-of-left : (t : ℕ) → 0 < left J s (D .cut t) t → Late J D s t
   unfolding left
@@ -127,5 +130,5 @@ module _ (J : Jobs) (D : Dues J) (s : ℕ → ℕ → ℕ) (R : Run J s) where
   -- Where it does, every job finishes, after its release and by its deadline.
   pub finishes : Met J D s → (i j : ℕ) → i < J .n → (f : ℕ) × DoneFirst J s i j f × (J .rel i j < f) × (f ≤ D .due i j)
   finishes met i j l =
-      let (f, h, d) = least (λ u. J .cost i * suc j ≤ s u i) (λ u. decLe _ _) (D .due i j) (met i j l) in
-      (f, d, finish J s R i j l f .0 d .0 .0, h)
+      let (f, h, d, c) = first-done J s R i j l (D .due i j) (met i j l) in
+      (f, d, c .0, h)

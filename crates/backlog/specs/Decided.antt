@@ -46,7 +46,7 @@ pub never-iff : (t : Table) → NeverTooMuch t ↔ ((to : ℕ) → T (lateAt t t
 never-iff t = (λ h to w. let (from, x) = late-at-iff t to .0 w in h from to x, λ h from to x. h to (late-at-iff t to .1 (from, x)))
 
 module _ (S : System) where
-  -- The same of the streams.
+  -- A late deadline, in terms of the streams.
   over-iff : (to : ℕ) → T (lateAt (S .table) to) ↔ Over (jobs S) (dues S) to
   over-iff to = (
     λ h. let (from, w) = late-at-iff (S .table) to .0 h in let (l, d) = too-much-iff (S .table) from to .0 w in (from, l, omega (arith, demand-streams S from to)),

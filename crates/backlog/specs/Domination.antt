@@ -2,16 +2,15 @@
 use mathlib.Core.Path.{_≡_, refl, sym, ap, subst, _∙_}
 use mathlib.Core.Logic.{_⊎_, inl, inr, _≢_}
 use Prim.Native.Nat.{ℕ, suc, _+_, _-_, _*_, _≤_, _<_}
-use native.Mathlib.Nat.{eq-zero-or-pos, le-refl, mul-le-mul-left}
+use native.Mathlib.Nat.{eq-zero-or-pos, le-refl}
 use native.Mathlib.Decide.{ℕ-discrete, decLe, le-ind}
 use native.Mathlib.Omega.{arith}
 use Rattle.model.specs.Notation.{sum}
-use Rattle.counting.specs.Search.{least}
 use Rattle.counting.specs.Sum.{sum-le, sum-add, sum-zero, sum-by, sum-member}
-use Rattle.counting.specs.Below.{below, lt-below, below-mono, below-after, grows-lt, below-same, below-next}
+use Rattle.counting.specs.Below.{below, lt-below, below-mono, below-after, grows-lt, below-same, below-next, work-le}
 use Rattle.backlog.specs.Queue.{backlog, backlog-bounds}
 use Rattle.backlog.specs.Streams.{Jobs, Run, released, work, left, arrive, arriveOf}
-use Rattle.backlog.specs.Left.{left-is, finish}
+use Rattle.backlog.specs.Left.{left-is, first-done}
 
 -- A number where something is so, and else 0.
 abbrev pub if-so : {P : Type 0} → Dec P → ℕ → ℕ
@@ -92,7 +91,7 @@ module _ (J : Jobs) where
           at (yes d) =
               let v : below (J .rel i) (suc t) - 1 ≡ j = omega arith in
               let q : J .key i j ≤ κ = subst (λ (y : ℕ). J .key i y ≤ κ) v d in
-              let w : J .cost i * suc j ≤ work J κ i = mul-le-mul-left (J .cost i) (lt-below (J .key i) (J .key-grows i k) (suc κ) j .1 (omega arith)) in
+              let w : J .cost i * suc j ≤ work J κ i = work-le (J .key i) (J .key-grows i k) (J .cost i) (suc κ) j (omega arith) in
               let a : released J t i ≡ J .cost i * j = ap (λ (y : ℕ). J .cost i * y) e in
               let b : released J (suc t) i ≡ J .cost i * suc j = ap (λ (y : ℕ). J .cost i * y) f in
               omega (arith, o .fresh i j k r)
@@ -108,9 +107,6 @@ module _ (J : Jobs) (lf : ℕ → ℕ → ℕ) (P : Dispatch J lf) where
           enough : sum (J .n) (heldOf J κ (suc t) x) ≤ sum (J .n) (heldOf J κ t (lf t)) + sum (J .n) (arriveOf J κ t)
           enough = omega (arith, sum-le (J .n) (heldOf J κ (suc t) x) (λ i. heldOf J κ t (lf t) i + arriveOf J κ t i) (λ i l. opened J κ t (lf t) x o i l), sum-add (J .n) (heldOf J κ t (lf t)) (arriveOf J κ t))
 
-          same : {P : Type 0} (d : Dec P) (a b : ℕ) → a ≡ b → if-so d a ≡ if-so d b
-          same d a b e = rw e
-
           slot : Rests J x (lf (suc t)) ⊎ ((k : ℕ) × Gives J t x (lf (suc t)) k) → sum (J .n) (heldOf J κ (suc t) (lf (suc t))) ≤ (sum (J .n) (heldOf J κ t (lf t)) + sum (J .n) (arriveOf J κ t)) - 1
           slot (inl d) = omega (arith, sum-zero (J .n) (heldOf J κ (suc t) (lf (suc t))) (λ i l. if-so-none (decLe (openKey J (suc t) i) κ) (lf (suc t) i) (λ p. omega (arith, d .none i l, d .rest i l))))
           slot (inr (k, d)) = at (decLe (openKey J (suc t) k) κ) refl
@@ -118,7 +114,7 @@ module _ (J : Jobs) (lf : ℕ → ℕ → ℕ) (P : Dispatch J lf) where
               at : (e : Dec (openKey J (suc t) k ≤ κ)) → decLe (openKey J (suc t) k) κ ≡ e → sum (J .n) (heldOf J κ (suc t) (lf (suc t))) ≤ (sum (J .n) (heldOf J κ t (lf t)) + sum (J .n) (arriveOf J κ t)) - 1
               at (yes p) e =
                   let q : heldOf J κ (suc t) x k ≡ heldOf J κ (suc t) (lf (suc t)) k + 1 = rw e (d .one) in
-                  omega (arith, enough, sum-by (J .n) (heldOf J κ (suc t) x) (heldOf J κ (suc t) (lf (suc t))) k 1 (d .bound) q (λ i l f. same (decLe (openKey J (suc t) i) κ) (x i) (lf (suc t) i) (sym (d .rest i l f))))
+                  omega (arith, enough, sum-by (J .n) (heldOf J κ (suc t) x) (heldOf J κ (suc t) (lf (suc t))) k 1 (d .bound) q (λ i l f. ap (λ (y : ℕ). if-so (decLe (openKey J (suc t) i) κ) y) (sym (d .rest i l f))))
               at (no p) e = omega (arith, sum-zero (J .n) (heldOf J κ (suc t) (lf (suc t))) (λ i l. if-so-none (decLe (openKey J (suc t) i) κ) (lf (suc t) i) (λ h. each i l h (ℕ-discrete i k))))
                 where
                   each : (i : ℕ) → i < J .n → openKey J (suc t) i ≤ κ → Dec (i ≡ k) → lf (suc t) i ≡ 0
@@ -169,7 +165,6 @@ module _ (J : Jobs) (lf : ℕ → ℕ → ℕ) (P : Dispatch J lf) where
     -- A job that the run has done by f has nothing left at f.
     pub not-open : (i j f : ℕ) → i < J .n → J .cost i * suc j ≤ s f i → below (J .rel i) f ≡ suc j → lf f i ≡ 0
     not-open i j f l d e =
-        let (g, h, q) = least (λ u. J .cost i * suc j ≤ s u i) (λ u. decLe _ _) f d in
-        let c = finish J s R i j l g .0 q .0 in
+        let (g, h, q, c) = first-done J s R i j l f d in
         let b : below (J .rel i) g ≡ suc j = omega (arith, below-mono (J .rel i) (J .rel-grows i l) g f h, lt-below (J .rel i) (J .rel-grows i l) g j .1 (c .0)) in
         omega (arith, only-falls i g f l h (e ∙ sym b), none-held i j g l b (c .1))

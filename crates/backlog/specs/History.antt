@@ -9,8 +9,16 @@ use Rattle.model.specs.Notation.{sum}
 use Rattle.counting.specs.Below.{below, between-none, below-is}
 use Rattle.backlog.specs.Streams.{Jobs, Run}
 use Rattle.backlog.specs.Left.{DoneFirst, served-mono}
-use Rattle.backlog.specs.Criterion.{Dues, Met, finishes}
+use Rattle.backlog.specs.Criterion.{Dues, Met, finishes, Constrained}
 use Rattle.backlog.specs.Domination.{Dispatch, Gives, Rests, openKey, not-open}
+
+-- Between releases a job is kept, or closed: reported, or late.
+abbrev pub Keeps : (J : Jobs) → Dues J → (ℕ → ℕ → Type 0) → (ℕ → ℕ → ℕ) → (ℕ → ℕ → ℕ) → ℕ → ℕ → Type 0
+Keeps J D told open' ready t i = (ready t i ≡ open' t i) ⊎ ((ready t i ≡ 0) × (told t i ⊎ ((j : ℕ) × (D .due i j ≡ t))))
+
+-- The slot goes to the open job of least key; to none only if none is open.
+abbrev pub Goes : Jobs → (ℕ → ℕ → ℕ) → (ℕ → ℕ → ℕ) → ℕ → Type 0
+Goes J ready gave t = ((i : ℕ) → i < J .n → ready t i ≡ 0) ⊎ ((k : ℕ) × (k < J .n) × (0 < ready t k) × ((i : ℕ) → i < J .n → 0 < ready t i → openKey J (suc t) k ≤ openKey J (suc t) i) × (gave t k ≡ 1) × ((i : ℕ) → i < J .n → i ≢ k → gave t i ≡ 0))
 
 -- Before slot t the open job of stream i has `open t i` slots left; after closings and releases `ready t i`; of slot t it is
 -- given `gave t i`, 1 or 0. `told t i`: its end is reported before slot t.
@@ -18,25 +26,19 @@ pub record History (J : Jobs) (D : Dues J) (told : ℕ → ℕ → Type 0) (open
   pub start : (i : ℕ) → i < J .n → open' 0 i ≡ 0
   -- A released job has its whole cost.
   pub fresh : (t i j : ℕ) → i < J .n → J .rel i j ≡ t → ready t i ≡ J .cost i
-  -- Between releases a job is kept, or closed: reported, or late.
-  pub kept : (t i : ℕ) → i < J .n → ((j : ℕ) → J .rel i j ≢ t) → (ready t i ≡ open' t i) ⊎ ((ready t i ≡ 0) × (told t i ⊎ ((j : ℕ) × (D .due i j ≡ t))))
+  pub kept : (t i : ℕ) → i < J .n → ((j : ℕ) → J .rel i j ≢ t) → Keeps J D told open' ready t i
   pub spent : (t i : ℕ) → i < J .n → ready t i ≡ open' (suc t) i + gave t i
-  -- The slot goes to the open job of least key; to none only if none is open.
-  pub slot : (t : ℕ) → ((i : ℕ) → i < J .n → ready t i ≡ 0) ⊎ ((k : ℕ) × (k < J .n) × (0 < ready t k) × ((i : ℕ) → i < J .n → 0 < ready t i → openKey J (suc t) k ≤ openKey J (suc t) i) × (gave t k ≡ 1) × ((i : ℕ) → i < J .n → i ≢ k → gave t i ≡ 0))
-
--- Each job is due before the next of its stream is released.
-abbrev pub Constrained : (J : Jobs) → Dues J → Type 0
-Constrained J D = (i j : ℕ) → i < J .n → D .due i j ≤ J .rel i (suc j)
+  pub slot : (t : ℕ) → Goes J ready gave t
 
 module _ (J : Jobs) (D : Dues J) (told : ℕ → ℕ → Type 0) (open' ready gave : ℕ → ℕ → ℕ) (P : History J D told open' ready gave) where
-  pub dispatches : Dispatch J open'
+  dispatches : Dispatch J open'
   dispatches = record { start = P .start; turn = λ t. (ready t, record { kept = λ i l n. keep t i (P .kept t i l n); fresh = λ i j l e. omega (arith, P .fresh t i j l e) }, slot t (P .slot t)) }
     where
-      keep : (t i : ℕ) → (ready t i ≡ open' t i) ⊎ ((ready t i ≡ 0) × (told t i ⊎ ((j : ℕ) × (D .due i j ≡ t)))) → ready t i ≤ open' t i
+      keep : (t i : ℕ) → Keeps J D told open' ready t i → ready t i ≤ open' t i
       keep t i (inl e) = omega arith
       keep t i (inr (e, c)) = omega arith
 
-      slot : (t : ℕ) → ((i : ℕ) → i < J .n → ready t i ≡ 0) ⊎ ((k : ℕ) × (k < J .n) × (0 < ready t k) × ((i : ℕ) → i < J .n → 0 < ready t i → openKey J (suc t) k ≤ openKey J (suc t) i) × (gave t k ≡ 1) × ((i : ℕ) → i < J .n → i ≢ k → gave t i ≡ 0))
+      slot : (t : ℕ) → Goes J ready gave t
           → Rests J (ready t) (open' (suc t)) ⊎ ((k : ℕ) × Gives J t (ready t) (open' (suc t)) k)
       slot t (inl z) = inl (record { none = z; rest = λ i l. omega (arith, z i l, P .spent t i l) })
       slot t (inr (k, b, r, m, o, q)) = inr (k, record { bound = b; ready = r; least-key = m; one = omega (arith, P .spent t k b); rest = λ i l e. omega (arith, P .spent t i l, q i l e) })
@@ -60,7 +62,7 @@ module _ (J : Jobs) (D : Dues J) (told : ℕ → ℕ → Type 0) (open' ready ga
   at-most i j (suc d) l h = go (at-most i j d l (omega arith)) (P .kept (J .rel i j + suc d) i l (between i j d l (omega arith)))
     where
       go : givenTo i (J .rel i j) (suc d) + open' (J .rel i j + suc d) i ≤ J .cost i
-          → (ready (J .rel i j + suc d) i ≡ open' (J .rel i j + suc d) i) ⊎ ((ready (J .rel i j + suc d) i ≡ 0) × (told (J .rel i j + suc d) i ⊎ ((k : ℕ) × (D .due i k ≡ J .rel i j + suc d))))
+          → Keeps J D told open' ready (J .rel i j + suc d) i
           → givenTo i (J .rel i j) (suc (suc d)) + open' (J .rel i j + suc (suc d)) i ≤ J .cost i
       go q (inl e) = omega (arith, P .spent (J .rel i j + suc d) i l, ap (λ (y : ℕ). open' y i) (sym (add-suc (J .rel i j) (suc d))))
       go q (inr (e, c)) = omega (arith, P .spent (J .rel i j + suc d) i l, ap (λ (y : ℕ). open' y i) (sym (add-suc (J .rel i j) (suc d))))
@@ -91,7 +93,7 @@ module _ (J : Jobs) (D : Dues J) (told : ℕ → ℕ → Type 0) (open' ready ga
         more e q = omega (arith, P .spent (J .rel i j + suc d) i l, ap (λ (y : ℕ). open' y i) (sym (add-suc (J .rel i j) (suc d))))
 
         go : ((u : ℕ) × (0 < u) × (u ≤ d) × told (J .rel i j + u) i) ⊎ (givenTo i (J .rel i j) (suc d) + open' (J .rel i j + suc d) i ≡ J .cost i)
-            → (ready (J .rel i j + suc d) i ≡ open' (J .rel i j + suc d) i) ⊎ ((ready (J .rel i j + suc d) i ≡ 0) × (told (J .rel i j + suc d) i ⊎ ((k : ℕ) × (D .due i k ≡ J .rel i j + suc d))))
+            → Keeps J D told open' ready (J .rel i j + suc d) i
             → ((u : ℕ) × (0 < u) × (u ≤ suc d) × told (J .rel i j + u) i) ⊎ (givenTo i (J .rel i j) (suc (suc d)) + open' (J .rel i j + suc (suc d)) i ≡ J .cost i)
         go (inl (u, a, b, c)) y = inl (u, a, le-step b, c)
         go (inr q) (inl e) = inr (more e q)

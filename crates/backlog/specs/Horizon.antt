@@ -1,15 +1,15 @@
 -- HORIZON: without overload, if any deadline is ever missed then one is by the start and two rounds. OVERLOAD: with it, one is missed.
 use mathlib.Core.Path.{_≡_, sym, ap, subst}
-use Prim.Native.Nat.{ℕ, suc, _+_, _-_, _*_, _≤_, _<_, min}
+use Prim.Native.Nat.{ℕ, suc, _+_, _-_, _*_, _≤_, _<_}
 use native.Mathlib.Nat.{sub-add-cancel, mul-le-mul-left, mul-le-mul-right}
 use native.Mathlib.Decide.{decLe}
 use native.Mathlib.Omega.{arith}
 use Rattle.counting.specs.Search.{strong}
-use Rattle.counting.specs.Sum.{sum-le, sum-mul, sum-zero}
-use Rattle.counting.specs.Below.{below, below-least, below-none}
-use Rattle.backlog.specs.Streams.{Run, left, work, released}
+use Rattle.counting.specs.Sum.{sum-le, sum-mul}
+use Rattle.counting.specs.Below.{below, below-least}
+use Rattle.backlog.specs.Streams.{Run, left, work, arrivals-none}
 use Rattle.backlog.specs.Criterion.{Late, Over, late-of-left, left-of-late, late-iff-over, demand, demand-is}
-use Rattle.backlog.specs.System.{System, size, costOf, periodOf, releaseOf, keyOf, jobs, dues}
+use Rattle.backlog.specs.System.{System, size, costOf, periodOf, keyOf, jobs, dues}
 use Rattle.backlog.specs.Shift.{Cycle, horizonOf, Light, loadOf, left-down}
 
 module _ (S : System) (Y : Cycle S) (light : Light S Y) (s : ℕ → ℕ → ℕ) (R : Run (jobs S) s) where
@@ -58,13 +58,10 @@ module _ (S : System) (Y : Cycle S) where
       omega (
         arith,
         demand-is (jobs S) (dues S) 0 (Y .start + Y .round + m * Y .round),
-        sum-zero (size S) (λ i. min (work (jobs S) (last m) i) (released (jobs S) 0 i)) (λ i l. none i l),
+        arrivals-none (jobs S) (last m),
         sum-mul (size S) m (λ i. costOf S i * Y .times i),
         sum-le (size S) (λ i. m * (costOf S i * Y .times i)) (work (jobs S) (last m)) (λ i l. omega (arith, mul-le-mul-left (costOf S i) (jobs-due i m l))),
       )
-    where
-      none : (i : ℕ) → i < size S → min (work (jobs S) (last m) i) (released (jobs S) 0 i) ≡ 0
-      none i l = rw (below-none (releaseOf S i)) (omega arith)
 
   -- A load above the round asks too much of some interval.
   pub overload : Y .round < loadOf S Y → (t : ℕ) × Over (jobs S) (dues S) t

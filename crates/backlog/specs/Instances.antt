@@ -1,6 +1,6 @@
 -- No theorem here is empty: what they ask for is met by tables of document 01.
 use mathlib.Core.Path.{_≡_, refl}
-use mathlib.Core.Logic.{inr}
+use mathlib.Core.Logic.{inr, _⊎_}
 use mathlib.Core.List.{_∷_}
 use mathlib.Core.Bool.{Bool, false, true}
 use Prim.Native.Nat.{ℕ, suc, _+_, _-_, _≤_, _<_}
@@ -10,32 +10,36 @@ use lib.Dec.{T, lit≤, lit<, eqb}
 use Rattle.model.specs.Notation.{sum, largest, count, first, last, fill, Least}
 use Rattle.values.specs.declared.Verdict.{Verdict}
 use Rattle.values.specs.declared.Given.{Given}
+use Rattle.values.specs.declared.Answer.{Answer}
 use Rattle.model.specs.Limits.{taskLimit}
 use Rattle.model.specs.Tasks.{task, release, due, taskFault, firstFaulty, round, load, horizon, judged}
-use Rattle.model.specs.Demand.{jobsIn, demand, lateAt}
-use Rattle.model.specs.Run.{tieOrder, choose, firstEmpty}
-use Rattle.model.specs.Verdict.{needed, lateStart, verdict, Worsts}
+use Rattle.model.specs.Demand.{jobsIn, demand, lateAt, asksTooMuch}
+use Rattle.model.specs.Run.{tieOrder, choose, firstEmpty, run}
+use Rattle.model.specs.Verdict.{needed, lateStart, verdict, Worsts, Permitted}
 use Rattle.model.specs.Dispatcher.{State, Stepped, firstStrange, startOf, isLate, ownerNow, after, turn, stepped}
 use Rattle.model.specs.History.{stateAt, ownerAt, had, Finished}
 use Rattle.model.specs.Examples.{table-b, table-c, table-d, table-g, table-i}
+use Rattle.model.specs.Schedule.{none, job}
 use Rattle.wellformed.specs.Ranges.{Ranged}
 use Rattle.wellformed.specs.WellFormed.{well-formed}
 use Rattle.backlog.specs.Streams.{released}
 use Rattle.backlog.specs.Criterion.{Met}
-use Rattle.backlog.specs.System.{System, dueOf, jobs, dues}
+use Rattle.backlog.specs.System.{System, dueOf, jobs, dues, constrained, Ranks, JobNoLater}
 use Rattle.backlog.specs.ModelRun.{servedOf, model-run}
 use Rattle.backlog.specs.Shift.{Light}
 use Rattle.backlog.specs.History.{none-late}
-use Rattle.backlog.specs.RunHistory.{constrained, run-history}
-use Rattle.backlog.specs.TableSystem.{tie-ranks, tieSystem, tieCycle}
+use Rattle.backlog.specs.RunHistory.{run-history}
+use Rattle.backlog.specs.TableSystem.{tie-ranks, tieSystem, tieCycle, systemOf}
 use Rattle.backlog.specs.Decided.{Feasible, Missed, first-missed, late-soon, overload-late, feasible-iff, never-iff}
-use Rattle.backlog.specs.Verdicts.{Late, none-before, longer, undecided-iff, overload-iff}
-use Rattle.backlog.specs.Answers.{passes-iff, overload-infeasible, late-infeasible, light-of-passed, met-of-passed, worst-of}
+use Rattle.backlog.specs.Verdicts.{none-before, longer, undecided-iff, overload-iff, needed-is, start-asks}
+use Rattle.backlog.specs.Answers.{passes-iff, overload-infeasible, late-infeasible, light-of-passed, met-of-passed, worst-of, permitted-unique}
 use Rattle.backlog.specs.Taken.{Belongs, belongs-after}
 use Rattle.backlog.specs.Stepping.{never-refused, owned-ready}
-use Rattle.backlog.specs.StepHistory.{never-more, none-after, in-time, none-waits}
+use Rattle.backlog.specs.StepHistory.{never-more, none-after, in-time, none-waits, none-told}
 use Rattle.backlog.specs.Walk.{quiet, Clear, late-iff}
 use Rattle.backlog.specs.WalkWorst.{worstBy, walk-worsts, walk-empty}
+use Rattle.backlog.specs.RunSchedule.{Waiting, run-rule}
+use Rattle.backlog.specs.Computed.{answerOf, computed}
 
 -- Table b keeps its ranges and passes, so some schedule of it is good.
 b-ranged : Ranged table-b
@@ -59,6 +63,17 @@ b-met = met-of-passed table-b b-ranged 38 b-passes _ (tie-ranks table-b)
 
 b-none-late : (i j : ℕ) → i < 2 → released (jobs b-system) (dueOf b-system i j) i - servedOf b-system (dueOf b-system i j) i ≡ 0
 b-none-late = none-late (jobs b-system) (dues b-system) (λ t i. ⊥) _ _ _ (run-history (jobs b-system) (dues b-system) (constrained b-system) (servedOf b-system) (model-run b-system) b-met) (constrained b-system) (servedOf b-system) (model-run b-system) b-met
+
+-- In the other order of its two tasks too every deadline is met, and the run keeps its rule.
+b-reversed : Ranks table-b (λ i. 1 - i)
+b-reversed = record { low = λ i l. omega arith; apart = λ i k a b e. omega arith }
+
+b-met-reversed : Met (jobs (systemOf table-b b-ranged _ b-reversed)) (dues (systemOf table-b b-ranged _ b-reversed)) (servedOf (systemOf table-b b-ranged _ b-reversed))
+b-met-reversed = met-of-passed table-b b-ranged 38 b-passes _ b-reversed
+
+b-rule : (u : ℕ) → let S = systemOf table-b b-ranged (λ i. 1 - i) b-reversed in
+    ((run table-b (λ i. 1 - i) u ≡ none) × ((i j : ℕ) → Waiting S u i j → ⊥)) ⊎ ((i : ℕ) × (j : ℕ) × (run table-b (λ i. 1 - i) u ≡ job i j) × Waiting S u i j × ((k m : ℕ) → Waiting S u k m → JobNoLater S i j k m))
+b-rule = run-rule (systemOf table-b b-ranged (λ i. 1 - i) b-reversed)
 
 -- No interval of it asks too much, so a walk to its horizon finds its worst responses, and the first slot without a job.
 b-clear : Clear table-b (horizon table-b)
@@ -87,12 +102,20 @@ d-ranged : Ranged table-d
 unfolding judged firstFaulty taskFault first round load horizon largest sum count
 d-ranged = well-formed table-d (record { round = 15; load = 11; horizon = 30 }) refl .ranged
 
-d-late : Least (Late table-d) 7
+d-late : Least (λ u. T (lateAt table-d u)) 7
 unfolding needed lateAt first round horizon largest sum count demand jobsIn
 d-late = (tt, λ u l. none-before table-d u l)
 
 d-missed : Least (Missed (tieSystem table-d d-ranged)) 7
 d-missed = first-missed (tieSystem table-d d-ranged) 7 .1 d-late
+
+-- So 7 is what it needs, and from its start some interval asks too much up to there.
+d-needed : needed table-d ≡ 7
+unfolding horizon largest round first count
+d-needed = needed-is table-d 7 (lit≤ tt) (d-late .1) (λ h. d-late .0)
+
+d-asks : T (asksTooMuch table-d (lateStart table-d 7) 7)
+d-asks = start-asks table-d 7 (d-late .0)
 
 -- So a walk sees a job at its deadline there.
 d-seen : (i : ℕ) × (i < 2) × T (isLate table-d (stateAt table-d quiet 7) false i)
@@ -103,7 +126,7 @@ i-ranged : Ranged table-i
 unfolding judged firstFaulty taskFault first round load horizon largest sum count
 i-ranged = well-formed table-i (record { round = 5; load = 6; horizon = 12 }) refl .ranged
 
-i-overload : (to : ℕ) × Late table-i to
+i-overload : (to : ℕ) × T (lateAt table-i to)
 unfolding first round load sum count
 i-overload = overload-late table-i i-ranged (lit< tt)
 
@@ -139,6 +162,9 @@ g-owned = owned-ready table-g g-ranged reports 1 1 (lit< tt) refl
 g-never-more : had table-g reports 0 0 4 ≤ 2
 g-never-more = never-more table-g g-ranged reports 0 0 4 (lit< tt) (lit≤ tt)
 
+g-none-told : (n : ℕ) → (turn table-g (stateAt table-g reports n) (reports n) .late ≡ 0) × (turn table-g (stateAt table-g reports n) (reports n) .closed ≡ 0) × (turn table-g (stateAt table-g reports n) (reports n) .lowest ≡ taskLimit)
+g-none-told = none-told table-g g-ranged reports 8 g-passes
+
 g-never-refused : (n : ℕ) → _≡_ {A = Stepped} (stepped table-g (stateAt table-g reports n) (reports n)) (record { given = Given.Slot (turn table-g (stateAt table-g reports n) (reports n)); state = stateAt table-g reports (suc n) })
 unfolding judged firstFaulty taskFault first round load horizon largest sum count
 g-never-refused = never-refused table-g g-ranged reports (record { round = 4; load = 4; horizon = 8 }) refl
@@ -154,12 +180,12 @@ g-belongs = record { waits = refl; lefts = refl; each = lit≤ tt; ran = refl }
 g-belongs-after : Belongs table-g (after table-g other true)
 g-belongs-after = belongs-after table-g g-ranged other true g-belongs
 
--- Table c: late at 15, within its horizon of 38, and so with any longer budget; undecided below.
+-- Table c: late at 15, within its horizon of 38, and so with any longer budget; table b undecided at 37.
 c-ranged : Ranged table-c
 unfolding judged firstFaulty taskFault first round load horizon largest sum count
 c-ranged = well-formed table-c (record { round = 15; load = 12; horizon = 38 }) refl .ranged
 
-c-late-soon : (u : ℕ) × (u ≤ horizon table-c) × Late table-c u
+c-late-soon : (u : ℕ) × (u ≤ horizon table-c) × T (lateAt table-c u)
 unfolding first round load sum count demand jobsIn lateAt
 c-late-soon = late-soon table-c c-ranged (lit≤ tt) 15 tt
 
@@ -176,3 +202,7 @@ c-infeasible = late-infeasible table-c c-ranged 15 8 15 8 c-late
 b-undecided : (load table-b ≤ round table-b) × (37 < needed table-b)
 unfolding verdict needed lateStart lateAt first last round load horizon largest sum count demand jobsIn
 b-undecided = undecided-iff table-b 37 .0 refl
+
+-- One answer is permitted to table b with this budget: the computed one.
+b-one : (a : Answer) → Permitted table-b 38 a → a ≡ answerOf table-b 38
+b-one a p = permitted-unique table-b 38 a (answerOf table-b 38) p (computed table-b 38)

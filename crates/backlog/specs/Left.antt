@@ -2,22 +2,19 @@
 use mathlib.Core.Path.{_≡_, sym, ap, subst, _∙_}
 use mathlib.Core.Logic.{inl, inr, _↔_}
 use Prim.Native.Nat.{ℕ, zero, suc, _+_, _-_, _*_, _/_, _≤_, _<_, min}
-use native.Mathlib.Nat.{le-refl, mul-le-mul-left, mul-pos, zero-lt-suc, lt-of-mul-lt-mul-left, div-eq-of-lt-le}
+use native.Mathlib.Nat.{le-refl, mul-pos, zero-lt-suc, lt-of-mul-lt-mul-left, div-eq-of-lt-le, lt-of-not-le}
 use native.Mathlib.Decide.{ℕ-discrete, decLt, decLe, le-ind}
 use native.Mathlib.Omega.{arith}
 use Rattle.model.specs.Notation.{sum, Least}
 use Rattle.counting.specs.Search.{least}
 use Rattle.counting.specs.Sum.{sum-eq, sum-add, sum-zero, sum-by, sum-member}
-use Rattle.counting.specs.Below.{lt-below, below-after, below-none}
+use Rattle.counting.specs.Below.{lt-below, below-after, below-none, work-le}
 use Rattle.backlog.specs.Queue.{backlog}
 use Rattle.backlog.specs.Streams.{Jobs, released, work, keyAt, SlotOf, Run, Serves, leftOf, left, arriveOf, arrive, released-mono, in-class}
 
 -- Of w class work with s served: what is left once r' is released is what was left at r, and what came between.
 merge : (w r r' s : ℕ) → s ≤ r → r ≤ r' → min w r' - min s w ≡ (min w r - min s w) + (min w r' - min w r)
 merge w r r' s h k = omega arith
-
-not-lt : {a b : ℕ} → ¬ (a < b) → b ≤ a
-not-lt h = omega arith
 
 module _ (J : Jobs) (s : ℕ → ℕ → ℕ) (R : Run J s) where
   -- No more is served than is released.
@@ -69,7 +66,7 @@ module _ (J : Jobs) (s : ℕ → ℕ → ℕ) (R : Run J s) where
               let q : due κ t k ≡ leftOf J κ (suc t) (s (suc t)) k + 1 = omega (arith, d .one, d .ready) in
               omega (arith, due-sum κ t, sum-by (J .n) (due κ t) (leftOf J κ (suc t) (s (suc t))) k 1 (d .bound) q (λ i l e. rw (d .rest i l e)))
           at (no p) =
-              let w : work J κ k ≤ s t k = not-lt (λ h. p (in-class J κ k (d .bound) (s t k) .0 h)) in
+              let w : work J κ k ≤ s t k = elim (decLt (s t k) (work J κ k)) [ yes h ↦ absurd (p (in-class J κ k (d .bound) (s t k) .0 h)) | no h ↦ omega arith ] in
               none-due (λ i l. over p i l (decLt _ _) (decLt _ _)) (λ i l. same w i l (ℕ-discrete i k))
 
   left-start : (κ : ℕ) → left J s κ 0 ≡ 0
@@ -82,15 +79,6 @@ module _ (J : Jobs) (s : ℕ → ℕ → ℕ) (R : Run J s) where
   left-is κ zero = left-start κ
   left-is κ (suc t) = rw (← left-is κ t) (left-step κ t)
 
-  -- All class work that is released before t.
-  pub arrived : (κ t : ℕ) → sum t (arrive J κ) ≡ sum (J .n) (λ i. min (work J κ i) (released J t i))
-  unfolding sum arrive
-  arrived κ zero = sym (sum-zero (J .n) _ (λ i l. rw (below-none (J .rel i)) (omega arith)))
-  arrived κ (suc t) =
-      ap (λ (x : ℕ). x + arrive J κ t) (arrived κ t)
-      ∙ sym (sum-add (J .n) (λ i. min (work J κ i) (released J t i)) (arriveOf J κ t))
-      ∙ sum-eq (J .n) _ _ (λ i l. omega (arith, released-mono J i l t (suc t) (omega arith)))
-
   -- With no work left up to a key, every released job up to that key is done.
   pub done-of-none-left : (κ t i j : ℕ) → i < J .n → J .key i j ≤ κ → J .rel i j < t → left J s κ t ≡ 0 → J .cost i * suc j ≤ s t i
   unfolding left
@@ -98,8 +86,8 @@ module _ (J : Jobs) (s : ℕ → ℕ → ℕ) (R : Run J s) where
       omega (
         arith,
         sum-member (J .n) (leftOf J κ t (s t)) i l,
-        mul-le-mul-left (J .cost i) (lt-below (J .key i) (J .key-grows i l) (suc κ) j .1 (omega arith)),
-        mul-le-mul-left (J .cost i) (lt-below (J .rel i) (J .rel-grows i l) t j .1 r),
+        work-le (J .key i) (J .key-grows i l) (J .cost i) (suc κ) j (omega arith),
+        work-le (J .rel i) (J .rel-grows i l) (J .cost i) t j r,
       )
 
   -- And in the slot that finishes a job, no work is left up to its key.
@@ -151,25 +139,26 @@ module _ (J : Jobs) (s : ℕ → ℕ → ℕ) (R : Run J s) (i j : ℕ) (l : i <
   abbrev Done : ℕ → Type 0
   Done t = J .cost i * suc j ≤ s t i
 
-  abbrev Clear : ℕ → Type 0
-  Clear t = (J .rel i j < t) × (left J s (J .key i j) t ≡ 0)
+  abbrev NoneLeft : ℕ → Type 0
+  NoneLeft t = (J .rel i j < t) × (left J s (J .key i j) t ≡ 0)
 
-  done-of-clear : (t : ℕ) → Clear t → Done t
-  done-of-clear t (r, e) = done-of-none-left J s R (J .key i j) t i j l (le-refl _) r e
+  done-of-left : (t : ℕ) → NoneLeft t → Done t
+  done-of-left t (r, e) = done-of-none-left J s R (J .key i j) t i j l (le-refl _) r e
 
-  undone : {t : ℕ} → (Done t → ⊥) → s t i < J .cost i * suc j
-  undone h = omega arith
+  left-of-first : (t : ℕ) → Least Done t → NoneLeft t
+  left-of-first zero (d, f) = absurd (omega (arith, R .start i l, mul-pos (J .cost-pos i l) (zero-lt-suc j)))
+  left-of-first (suc t) (d, f) = (lt-below (J .rel i) (J .rel-grows i l) (suc t) j .0 (lt-of-mul-lt-mul-left (J .cost i) (omega (arith, served-le J s R (suc t) i l, J .cost-pos i l))), none-left-of-done J s R t i j l (lt-of-not-le (f t (le-refl _))) d)
 
-  clear-of-first : (t : ℕ) → Least Done t → Clear t
-  clear-of-first zero (d, f) = absurd (omega (arith, R .start i l, mul-pos (J .cost-pos i l) (zero-lt-suc j)))
-  clear-of-first (suc t) (d, f) = (lt-below (J .rel i) (J .rel-grows i l) (suc t) j .0 (lt-of-mul-lt-mul-left (J .cost i) (omega (arith, served-le J s R (suc t) i l, J .cost-pos i l))), none-left-of-done J s R t i j l (undone (f t (le-refl _))) d)
+  -- What is done by t was done first at some f up to t, after its release, and with no work left up to its key.
+  pub first-done : (t : ℕ) → Done t → (f : ℕ) × (f ≤ t) × DoneFirst J s i j f × NoneLeft f
+  first-done t d = let (f, h, q) = least Done (λ t. decLe _ _) t d in (f, h, q, left-of-first f q)
 
   -- FINISH: a job is done first when, first after its release, no work up to its key is left.
-  pub finish : (t : ℕ) → Least Done t ↔ Least Clear t
+  pub finish : (t : ℕ) → Least Done t ↔ Least NoneLeft t
   finish t = (fwd, bwd)
     where
-      fwd : Least Done t → Least Clear t
-      fwd (d, f) = (clear-of-first t (d, f), λ u a c. f u a (done-of-clear u c))
+      fwd : Least Done t → Least NoneLeft t
+      fwd (d, f) = (left-of-first t (d, f), λ u a c. f u a (done-of-left u c))
 
-      bwd : Least Clear t → Least Done t
-      bwd (c, f) = (done-of-clear t c, λ u a d. let (v, b, e) = least Done (λ t. decLe _ _) u d in f v (omega arith) (clear-of-first v e))
+      bwd : Least NoneLeft t → Least Done t
+      bwd (c, f) = (done-of-left t c, λ u a d. let (v, b, e, n) = first-done u d in f v (omega arith) n)

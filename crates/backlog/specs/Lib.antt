@@ -5,16 +5,16 @@ pub mod Left
 pub mod Criterion
 pub mod Domination
 pub mod History
+pub mod RunHistory
 -- A table, its run, and one round later.
-pub mod System
 pub mod Choice
+pub mod System
 pub mod ModelRun
 pub mod RunSchedule
 pub mod Shift
 pub mod Repeats
 pub mod Worst
 pub mod Horizon
-pub mod RunHistory
 -- The model's own words.
 pub mod TableSystem
 pub mod Necessary

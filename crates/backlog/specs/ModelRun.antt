@@ -1,8 +1,7 @@
--- The model's run is a run of its streams, and there is one run only.
+-- The model's run is a run of its streams.
 use mathlib.Core.Path.{_≡_, refl}
 use mathlib.Core.Logic.{inl, inr, _≢_, _↔_}
 use Prim.Native.Nat.{ℕ, zero, suc, _+_, _/_, _<_}
-use native.Mathlib.Nat.{div-lt-iff-lt-mul}
 use native.Mathlib.Decide.{decLt}
 use native.Mathlib.Omega.{arith}
 use lib.Dec.{T, leb}
@@ -10,7 +9,7 @@ use lib.ListN.{getD, length, set, length-set, length-replicate, getD-replicate}
 use lib.Seq.{getD-set-same, getD-set-other}
 use Rattle.model.specs.Run.{ownerOf, served, owner}
 use Rattle.counting.specs.Count.{tests}
-use Rattle.counting.specs.Below.{below, lt-below}
+use Rattle.counting.specs.Below.{work-lt}
 use Rattle.backlog.specs.Streams.{Run, SlotOf, released}
 use Rattle.backlog.specs.Choice.{Chosen, choose-is}
 use Rattle.backlog.specs.System.{System, size, costOf, releaseOf, dueOf, jobs, keys-order}
@@ -27,13 +26,7 @@ module _ (S : System) where
 
   -- A task is ready exactly if some of its released work is not served.
   pub ready-iff : (i t s : ℕ) → i < size S → T (leb (releaseOf S i (s / costOf S i)) t) ↔ (s < released (jobs S) (suc t) i)
-  ready-iff i t s l = (
-    λ h. omega (arith, div-lt-iff-lt-mul (S .cost-pos i l) .0 (law .1 (omega tests))),
-    λ h. omega (tests, law .0 (div-lt-iff-lt-mul (S .cost-pos i l) .1 (omega arith))),
-  )
-    where
-      law : (s / costOf S i < below (releaseOf S i) (suc t)) ↔ (releaseOf S i (s / costOf S i) < suc t)
-      law = lt-below (releaseOf S i) ((jobs S) .rel-grows i l) (suc t) (s / costOf S i)
+  ready-iff i t s l = let law = work-lt (releaseOf S i) ((jobs S) .rel-grows i l) (costOf S i) (suc t) s (S .cost-pos i l) in (λ h. law .1 (omega tests), λ h. omega (tests, law .0 h))
 
   abbrev deadlineAt : ℕ → ℕ → ℕ
   deadlineAt t i = dueOf S i (servedOf S t i / costOf S i)

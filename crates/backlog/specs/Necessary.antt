@@ -8,7 +8,7 @@ use Rattle.values.specs.declared.Table.{Table}
 use Rattle.model.specs.Tasks.{task, release, due}
 use Rattle.model.specs.Demand.{inside, jobsIn, demand}
 use Rattle.model.specs.Schedule.{Slot, none, job, Schedule, belongs, given, Good}
-use Rattle.counting.specs.Count.{tests, and-iff, bit-add, count-le, count-add, count-more, count-from}
+use Rattle.counting.specs.Count.{tests, and-iff, bit-add, count-le, count-add, count-more, count-from, bit-and}
 
 -- The slot is a job below m of task i; it is a job of a task below n.
 abbrev early : ℕ → ℕ → Slot → Bool
@@ -32,11 +32,6 @@ under-early n m (job a b) = bit-add (ltb a n) (eqb a n && ltb b m) (ltb a (suc n
     (λ p q. let x = simp and-iff at q in omega tests)
     (λ p. omega tests)
     (λ q. let x = simp and-iff at q in omega tests)
-
--- A test in front.
-bit-and : (c p q r : Bool) → bit p + bit q ≤ bit r → bit (c && p) + bit (c && q) ≤ bit (c && r)
-bit-and true p q r h = h
-bit-and false p q r h = omega arith
 
 module _ (σ : Schedule) (t1 t2 : ℕ) where
   -- The slots from t1 up to t2 that pass a test; each passes for one job at most.

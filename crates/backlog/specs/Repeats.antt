@@ -2,10 +2,10 @@
 use mathlib.Core.Path.{_≡_, refl, sym, ap, _∙_}
 use mathlib.Core.Logic.{_≢_, _↔_}
 use Prim.Native.Nat.{ℕ, zero, suc, _+_, _-_, _*_, _≤_, _<_, min}
-use native.Mathlib.Nat.{mul-pos, mul-le-mul-left, min-eq-left}
+use native.Mathlib.Nat.{mul-pos, min-eq-left}
 use native.Mathlib.Omega.{arith}
 use Rattle.counting.specs.Sum.{sum-by}
-use Rattle.counting.specs.Below.{below, lt-below, below-at, below-after, below-same}
+use Rattle.counting.specs.Below.{below, below-at, below-after, below-same, work-le}
 use Rattle.backlog.specs.Streams.{Jobs, Run, released, work, left, leftOf}
 use Rattle.backlog.specs.System.{System, size, costOf, releaseOf, dueOf, keyOf, jobs, some-task}
 use Rattle.backlog.specs.Shift.{Cycle, Light, release-later, key-later, left-up, left-down}
@@ -36,7 +36,7 @@ module _ (J : Jobs) (s : ℕ → ℕ → ℕ) where
       own : leftOf J (J .key i j) t (s t) i ≡ leftOf J κ t (s t) i + restOf J s t i j
       own =
           let w : work J κ i ≡ J .cost i * j = ap (λ (x : ℕ). J .cost i * x) before in
-          rw (here, w) (part (J .cost i) (J .cost i * j) (J .cost i * suc j) (released J t i) (s t i) (omega arith) (mul-le-mul-left (J .cost i) (lt-below (J .rel i) (J .rel-grows i l) t j .1 r)))
+          rw (here, w) (part (J .cost i) (J .cost i * j) (J .cost i * suc j) (released J t i) (s t i) (omega arith) (work-le (J .rel i) (J .rel-grows i l) (J .cost i) t j r))
 
       other : (k : ℕ) → k < J .n → k ≢ i → leftOf J (J .key i j) t (s t) k ≡ leftOf J κ t (s t) k
       other k q d = rw same

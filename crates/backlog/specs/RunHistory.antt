@@ -1,20 +1,15 @@
 -- The run at full cost is itself a history with nothing reported, so what is asked of histories can be met.
 use mathlib.Core.Path.{_≡_, refl, ap}
-use mathlib.Core.Logic.{_⊎_, inl, inr, _≢_}
+use mathlib.Core.Logic.{inl, inr, _≢_}
 use Prim.Native.Nat.{ℕ, zero, suc, _-_, _*_, _/_, _≤_, _<_}
 use native.Mathlib.Nat.{div-eq-of-lt-le}
 use native.Mathlib.Omega.{arith}
 use Rattle.counting.specs.Below.{below, lt-below, below-none}
 use Rattle.backlog.specs.Streams.{Run, SlotOf, released, Jobs}
 use Rattle.backlog.specs.Left.{served-le, served-mono}
-use Rattle.backlog.specs.Criterion.{Met, Dues}
-use Rattle.backlog.specs.System.{System, jobs, dues}
+use Rattle.backlog.specs.Criterion.{Met, Dues, Constrained}
 use Rattle.backlog.specs.Domination.{Releases, releases, openKey}
-use Rattle.backlog.specs.History.{History, Constrained}
-
--- A table's deadlines are at most its periods.
-pub constrained : (S : System) → Constrained (jobs S) (dues S)
-constrained S i j l = omega (arith, S .deadline-le i l)
+use Rattle.backlog.specs.History.{History, Goes}
 
 module _ (J : Jobs) (D : Dues J) (due-first : Constrained J D) (s : ℕ → ℕ → ℕ) (R : Run J s) (met : Met J D s) where
   -- The jobs before the last one released are done.
@@ -57,8 +52,7 @@ module _ (J : Jobs) (D : Dues J) (due-first : Constrained J D) (s : ℕ → ℕ 
       kept t i n (inl (k, q, a, b)) = absurd (n k q)
       kept t i n (inr (n', e)) = rw e
 
-      slot : (t : ℕ) → SlotOf J t (s t) (s (suc t))
-          → ((i : ℕ) → i < J .n → waiting t i ≡ 0) ⊎ ((k : ℕ) × (k < J .n) × (0 < waiting t k) × ((i : ℕ) → i < J .n → 0 < waiting t i → openKey J (suc t) k ≤ openKey J (suc t) i) × (gave t k ≡ 1) × ((i : ℕ) → i < J .n → i ≢ k → gave t i ≡ 0))
+      slot : (t : ℕ) → SlotOf J t (s t) (s (suc t)) → Goes J waiting gave t
       slot t (inl d) = inl (λ i l. omega (arith, d .none i l))
       slot t (inr (k, d)) = inr (k, d .bound, omega (arith, d .ready), λ i l p. least-of i l (omega arith), omega (arith, d .one), λ i l e. omega (arith, d .rest i l e))
         where

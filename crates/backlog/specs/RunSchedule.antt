@@ -19,9 +19,27 @@ use Rattle.backlog.specs.ModelRun.{servedOf, chosen, owner-served, other
 use Rattle.backlog.specs.Left.{DoneFirst}
 use Rattle.backlog.specs.Criterion.{Met}
 
+-- One slot more for the task: one more for the job it is at, and for no other.
+more : (c s j : ℕ) → 0 < c → min c (s + 1 - c * j) ≡ min c (s - c * j) + bit (eqb (s / c) j)
+more c s j pos = go (ℕ-discrete (s / c) j)
+  where
+    low : c * (s / c) ≤ s
+    low = omega (arith, div-mul-le-self s c, mul-comm c (s / c))
+
+    high : s < c * suc (s / c)
+    high = omega (arith, lt-mul-div-succ s pos)
+
+    go : Dec (s / c ≡ j) → min c (s + 1 - c * j) ≡ min c (s - c * j) + bit (eqb (s / c) j)
+    go (yes e) = rw (eq-eqb (s / c) j e) (omega (arith, low, high, ap (λ (x : ℕ). c * x) e))
+    go (no e) = rw (ne-eqb (s / c) j e) (apart (decLt (s / c) j))
+      where
+        apart : Dec (s / c < j) → min c (s + 1 - c * j) ≡ min c (s - c * j) + 0
+        apart (yes l) = omega (arith, high, mul-le-mul-left c l)
+        apart (no l) = let m : suc j ≤ s / c = omega arith in omega (arith, low, mul-le-mul-left c m)
+
 module _ (S : System) where
-  abbrev ownerAt : ℕ → ℕ
-  ownerAt u = owner (S .table) (S .rank) u
+  abbrev runOwner : ℕ → ℕ
+  runOwner u = owner (S .table) (S .rank) u
 
   abbrev runAt : ℕ → Slot
   runAt u = run (S .table) (S .rank) u
@@ -31,50 +49,32 @@ module _ (S : System) where
   at u i = servedOf S u i / costOf S i
 
   -- The slot of an owner, and of none.
-  pub run-job : (u : ℕ) → ownerAt u < size S → runAt u ≡ job (ownerAt u) (at u (ownerAt u))
+  run-job : (u : ℕ) → runOwner u < size S → runAt u ≡ job (runOwner u) (at u (runOwner u))
   unfolding run
-  run-job u l = rw (lt-ltb (ownerAt u) (size S) l)
+  run-job u l = rw (lt-ltb (runOwner u) (size S) l)
 
-  pub run-none : (u : ℕ) → size S ≤ ownerAt u → runAt u ≡ none
+  run-none : (u : ℕ) → size S ≤ runOwner u → runAt u ≡ none
   unfolding run
-  run-none u l = rw (le-ltb (ownerAt u) (size S) l)
+  run-none u l = rw (le-ltb (runOwner u) (size S) l)
 
   -- A job has slot u exactly if its task owns it and is at it.
-  belongs-own : (u i j : ℕ) → i < size S → i ≡ ownerAt u → belongs i j (runAt u) ≡ eqb (at u i) j
+  belongs-own : (u i j : ℕ) → i < size S → i ≡ runOwner u → belongs i j (runAt u) ≡ eqb (at u i) j
   belongs-own u i j l e =
       ap (λ s. belongs i j s) (run-job u (omega arith)) ∙ rw (← e) (ap (λ b. b && eqb (at u i) j) (eq-eqb i i refl))
 
-  belongs-other : (u i j : ℕ) → i ≢ ownerAt u → belongs i j (runAt u) ≡ false
-  belongs-other u i j e = elim (decLt (ownerAt u) (size S)) [
-    | yes l ↦ ap (λ s. belongs i j s) (run-job u l) ∙ ap (λ b. b && eqb (at u (ownerAt u)) j) (ne-eqb (ownerAt u) i (λ q. e (sym q)))
+  belongs-other : (u i j : ℕ) → i ≢ runOwner u → belongs i j (runAt u) ≡ false
+  belongs-other u i j e = elim (decLt (runOwner u) (size S)) [
+    | yes l ↦ ap (λ s. belongs i j s) (run-job u l) ∙ ap (λ b. b && eqb (at u (runOwner u)) j) (ne-eqb (runOwner u) i (λ q. e (sym q)))
     | no l ↦ ap (λ s. belongs i j s) (run-none u (omega arith))
   ]
-
-  -- One slot more for the task: one more for the job it is at, and for no other.
-  more : (c s j : ℕ) → 0 < c → min c (s + 1 - c * j) ≡ min c (s - c * j) + bit (eqb (s / c) j)
-  more c s j pos = go (ℕ-discrete (s / c) j)
-    where
-      low : c * (s / c) ≤ s
-      low = omega (arith, div-mul-le-self s c, mul-comm c (s / c))
-
-      high : s < c * suc (s / c)
-      high = omega (arith, lt-mul-div-succ s pos)
-
-      go : Dec (s / c ≡ j) → min c (s + 1 - c * j) ≡ min c (s - c * j) + bit (eqb (s / c) j)
-      go (yes e) = rw (eq-eqb (s / c) j e) (omega (arith, low, high, ap (λ (x : ℕ). c * x) e))
-      go (no e) = rw (ne-eqb (s / c) j e) (apart (decLt (s / c) j))
-        where
-          apart : Dec (s / c < j) → min c (s + 1 - c * j) ≡ min c (s - c * j) + 0
-          apart (yes l) = omega (arith, high, mul-le-mul-left c l)
-          apart (no l) = let m : suc j ≤ s / c = omega arith in omega (arith, low, mul-le-mul-left c m)
 
   -- The slots that a job has had are those of its task beyond the jobs before, up to its cost.
   pub job-given : (i j u : ℕ) → i < size S → given (run (S .table) (S .rank)) i j 0 u ≡ min (costOf S i) (servedOf S u i - costOf S i * j)
   unfolding given count
   job-given i j zero l = omega (arith, (model-run S) .start i l)
-  job-given i j (suc u) l = go (ℕ-discrete i (ownerAt u)) (job-given i j u l)
+  job-given i j (suc u) l = go (ℕ-discrete i (runOwner u)) (job-given i j u l)
     where
-      go : Dec (i ≡ ownerAt u) → given (run (S .table) (S .rank)) i j 0 u ≡ min (costOf S i) (servedOf S u i - costOf S i * j)
+      go : Dec (i ≡ runOwner u) → given (run (S .table) (S .rank)) i j 0 u ≡ min (costOf S i) (servedOf S u i - costOf S i * j)
           → given (run (S .table) (S .rank)) i j 0 u + bit (leb 0 u && belongs i j (runAt u)) ≡ min (costOf S i) (servedOf S (suc u) i - costOf S i * j)
       go (yes e) ih =
           let a : servedOf S (suc u) i ≡ servedOf S u i + 1 = rw e (owner-served S u (omega arith)) in
@@ -83,9 +83,9 @@ module _ (S : System) where
 
   -- A job has no slot before its release.
   job-released : (i j u : ℕ) → i < size S → T (belongs i j (runAt u)) → releaseOf S i j ≤ u
-  job-released i j u l t = go (ℕ-discrete i (ownerAt u)) (chosen S u)
+  job-released i j u l t = go (ℕ-discrete i (runOwner u)) (chosen S u)
     where
-      go : Dec (i ≡ ownerAt u) → Chosen (λ k. leb (releaseOf S k (at u k)) u) (λ k. dueOf S k (at u k)) (S .rank) (size S) (ownerAt u) → releaseOf S i j ≤ u
+      go : Dec (i ≡ runOwner u) → Chosen (λ k. leb (releaseOf S k (at u k)) u) (λ k. dueOf S k (at u k)) (S .rank) (size S) (runOwner u) → releaseOf S i j ≤ u
       go (no e) c = absurd (rw (belongs-other u i j e) at t)
       go (yes e) (inl c) = absurd (omega (arith, c .none, S .size-le))
       go (yes e) (inr c) =
@@ -98,7 +98,7 @@ module _ (S : System) where
   given-released i j u l = count-le _ _ u (λ v m t. let h = simp and-iff at t in simp and-iff (omega (tests, job-released i j v l (h .1)), h .1))
 
   -- A job is done by u exactly if its task has had the slots of all jobs up to it.
-  pub done-iff : (i j u : ℕ) → i < size S → (costOf S i ≤ given (run (S .table) (S .rank)) i j 0 u) ↔ (costOf S i * suc j ≤ servedOf S u i)
+  done-iff : (i j u : ℕ) → i < size S → (costOf S i ≤ given (run (S .table) (S .rank)) i j 0 u) ↔ (costOf S i * suc j ≤ servedOf S u i)
   done-iff i j u l = (λ h. omega (arith, job-given i j u l, S .cost-pos i l), λ h. omega (arith, job-given i j u l))
 
   pub undone-iff : (i j u : ℕ) → i < size S → (given (run (S .table) (S .rank)) i j 0 u < costOf S i) ↔ (servedOf S u i < costOf S i * suc j)
@@ -139,16 +139,16 @@ module _ (S : System) where
         | no q ↦ let n : suc (at u k) ≤ m = omega (arith, before k m w) in inl (omega (arith, ap (dueOf S i) e, mul-le-mul-right (periodOf S k) n, period-pos S k (w .0)))
       ]
 
-      go : Chosen (λ k. leb (releaseOf S k (at u k)) u) (λ k. dueOf S k (at u k)) (S .rank) (size S) (ownerAt u)
+      go : Chosen (λ k. leb (releaseOf S k (at u k)) u) (λ k. dueOf S k (at u k)) (S .rank) (size S) (runOwner u)
           → ((runAt u ≡ none) × ((i j : ℕ) → Waiting u i j → ⊥)) ⊎ ((i : ℕ) × (j : ℕ) × (runAt u ≡ job i j) × Waiting u i j × ((k m : ℕ) → Waiting u k m → JobNoLater S i j k m))
       go (inl c) = inl (run-none u (omega (arith, c .none, S .size-le)), λ i j w. c .shut i (w .0) (ready i j w))
       go (inr c) = inr (
-        ownerAt u,
-        at u (ownerAt u),
+        runOwner u,
+        at u (runOwner u),
         run-job u (c .bound),
-        (c .bound, omega (tests, c .opened), undone-iff (ownerAt u) (at u (ownerAt u)) u (c .bound) .1 unfinished),
-        λ k m w. later (ownerAt u) (at u (ownerAt u)) k m (c .ahead k (w .0) (ready k m w)) refl w,
+        (c .bound, omega (tests, c .opened), undone-iff (runOwner u) (at u (runOwner u)) u (c .bound) .1 unfinished),
+        λ k m w. later (runOwner u) (at u (runOwner u)) k m (c .ahead k (w .0) (ready k m w)) refl w,
       )
         where
-          unfinished : servedOf S u (ownerAt u) < costOf S (ownerAt u) * suc (at u (ownerAt u))
-          unfinished = omega (arith, lt-mul-div-succ (servedOf S u (ownerAt u)) (S .cost-pos (ownerAt u) (c .bound)))
+          unfinished : servedOf S u (runOwner u) < costOf S (runOwner u) * suc (at u (runOwner u))
+          unfinished = omega (arith, lt-mul-div-succ (servedOf S u (runOwner u)) (S .cost-pos (runOwner u) (c .bound)))

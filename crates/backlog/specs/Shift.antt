@@ -1,4 +1,4 @@
--- ONE ROUND LATER: what is left up to a key at t, and what is left one round later up to the key of a round later.
+-- ONE ROUND LATER as much is left, up to a key that is a round later: no less ever, and no more from one round after the start on.
 use mathlib.Core.Path.{_≡_, sym, ap, subst}
 use mathlib.Core.Logic.{_⊎_, inl, inr}
 use Prim.Native.Nat.{ℕ, suc, _+_, _-_, _*_, _≤_, _<_, min}
@@ -9,8 +9,8 @@ use Rattle.model.specs.Notation.{sum}
 use Rattle.counting.specs.Sum.{sum-add, sum-le-add}
 use Rattle.counting.specs.Below.{below, below-mono, below-later, below-later-le, below-later-or}
 use Rattle.backlog.specs.Queue.{sum-backlog, busy-from, Busy}
-use Rattle.backlog.specs.Streams.{Jobs, Run, released, work, left, arrive, released-mono}
-use Rattle.backlog.specs.Left.{left-is, arrived}
+use Rattle.backlog.specs.Streams.{Jobs, Run, released, work, left, arrive, released-mono, arrivals, arrived}
+use Rattle.backlog.specs.Left.{left-is}
 use Rattle.backlog.specs.System.{System, size, offsetOf, costOf, periodOf, releaseOf, keyOf, jobs}
 
 -- A round is a common multiple of the periods; by the start every task has had its offset.
@@ -58,7 +58,7 @@ module _ (S : System) (Y : Cycle S) where
   abbrev J : Jobs
   J = jobs S
 
-  -- No period is longer than the round.
+  -- A round has a job of each task, and no period is longer.
   pub times-pos : (i : ℕ) → i < size S → 0 < Y .times i
   times-pos i l = elim (eq-zero-or-pos (Y .times i)) [ inl e ↦ absurd (omega (arith, Y .round-pos, Y .common i l, ap (λ (x : ℕ). x * periodOf S i) e)) | inr p ↦ p ]
 
@@ -90,25 +90,17 @@ module _ (S : System) (Y : Cycle S) where
   rel-later : (i t : ℕ) → i < size S → (released J t i ≡ 0) ⊎ (released J (t + Y .round) i ≡ released J t i + costOf S i * Y .times i)
   rel-later i t l = scaled (costOf S i) (Y .times i) (below-later-or (releaseOf S i) (J .rel-grows i l) (Y .times i) (Y .round) (release-later i l) t)
 
-  -- The class work that is released before t.
-  abbrev arr : ℕ → ℕ → ℕ → ℕ
-  arr κ t i = min (work J κ i) (released J t i)
-
-  arr-up : (κ t u : ℕ) → u ≤ t → sum (size S) (arr κ t) + sum (size S) (arr (κ + size S * Y .round) (u + Y .round)) ≤ sum (size S) (arr (κ + size S * Y .round) (t + Y .round)) + sum (size S) (arr κ u)
+  arr-up : (κ t u : ℕ) → u ≤ t → arrivals J κ t + arrivals J (κ + size S * Y .round) (u + Y .round) ≤ arrivals J (κ + size S * Y .round) (t + Y .round) + arrivals J κ u
   arr-up κ t u h = sum-le-add (size S) _ _ _ _ (λ i l. up _ _ _ _ _ _ _ (class-later i κ l) (class-later-le i κ l) (class-mono i κ l) (rel-later i t l) (released-mono J i l u t h) (rel-later-le i u l) (released-mono J i l (u + Y .round) (t + Y .round) (omega arith)))
 
-  arr-down : (κ t u : ℕ) → u ≤ t → Y .start ≤ u → sum (size S) (arr (κ + size S * Y .round) (t + Y .round)) + sum (size S) (arr κ u) ≤ sum (size S) (arr κ t) + sum (size S) (arr (κ + size S * Y .round) (u + Y .round))
+  arr-down : (κ t u : ℕ) → u ≤ t → Y .start ≤ u → arrivals J (κ + size S * Y .round) (t + Y .round) + arrivals J κ u ≤ arrivals J κ t + arrivals J (κ + size S * Y .round) (u + Y .round)
   arr-down κ t u h f = sum-le-add (size S) _ _ _ _ (λ i l. down _ _ _ _ _ _ _ (class-later i κ l) (class-later-le i κ l) (rel-later-from i t l (omega (arith, Y .starts i l))) (rel-later-from i u l (omega (arith, Y .starts i l))) (released-mono J i l u t h))
 
-  arr-across : Light S Y → (κ t u : ℕ) → u ≤ t → sum (size S) (arr (κ + size S * Y .round) (t + Y .round)) + sum (size S) (arr κ u) ≤ (sum (size S) (arr κ t) + sum (size S) (arr (κ + size S * Y .round) u)) + Y .round
+  arr-across : Light S Y → (κ t u : ℕ) → u ≤ t → arrivals J (κ + size S * Y .round) (t + Y .round) + arrivals J κ u ≤ (arrivals J κ t + arrivals J (κ + size S * Y .round) u) + Y .round
   unfolding loadOf
-  arr-across light κ t u h = omega (arith, light, sum-add (size S) (arr κ t) (arr (κ + size S * Y .round) u), sum-le-add (size S) _ _ _ _ (λ i l. across _ _ _ _ _ _ (class-later-le i κ l) (class-mono i κ l) (rel-later-le i t l) (released-mono J i l u t h)))
+  arr-across light κ t u h = omega (arith, light, sum-add (size S) (λ i. min (work J κ i) (released J t i)) (λ i. min (work J (κ + size S * Y .round) i) (released J u i)), sum-le-add (size S) _ _ _ _ (λ i l. across _ _ _ _ _ _ (class-later-le i κ l) (class-mono i κ l) (rel-later-le i t l) (released-mono J i l u t h)))
 
--- The class work that is released before t, of all streams.
-abbrev arrivals : Jobs → ℕ → ℕ → ℕ
-arrivals J κ t = sum (J .n) (λ i. min (work J κ i) (released J t i))
-
--- The backlog of a busy period is at most that of another, if no more arrives in it, but for the slots that it is longer.
+-- The backlog of a busy period is at most that of another interval, if no more arrives in it, but for the slots that it is longer.
 compare : (J : Jobs) (s : ℕ → ℕ → ℕ) → Run J s → (κ κ' t t' u u' : ℕ) → Busy (arrive J κ) t u → u' ≤ t'
     → arrivals J κ t + arrivals J κ' u' ≤ (arrivals J κ' t' + arrivals J κ u) + ((t - u) - (t' - u')) → t' - u' ≤ t - u → left J s κ t ≤ left J s κ' t'
 compare J s R κ κ' t t' u u' b h more shorter =
@@ -118,10 +110,10 @@ compare J s R κ κ' t t' u u' b h more shorter =
       left-is J s R κ t,
       left-is J s R κ' t',
       sum-backlog (arrive J κ') u' t' h,
-      arrived J s R κ t,
-      arrived J s R κ u,
-      arrived J s R κ' t',
-      arrived J s R κ' u',
+      arrived J κ t,
+      arrived J κ u,
+      arrived J κ' t',
+      arrived J κ' u',
     )
 
 module _ (S : System) (Y : Cycle S) (s : ℕ → ℕ → ℕ) (R : Run (jobs S) s) where

@@ -17,20 +17,19 @@ use Rattle.model.specs.Verdict.{verdict}
 use Rattle.model.specs.Run.{tieOrder, Worst}
 use Rattle.model.specs.Dispatcher.{leftOf, isLate, waitReleased, leftReleased, turn}
 use Rattle.model.specs.History.{stateAt, ownerAt, reported, had, Finished}
-use Rattle.counting.specs.Count.{tests, and-iff, count-more}
+use Rattle.counting.specs.Count.{tests, and-iff, count-more, count-none}
 use Rattle.counting.specs.Search.{NoneFrom, first-none}
-use Rattle.counting.specs.Bits.{bits-none, bits-past, count-past}
+use Rattle.counting.specs.Bits.{bits-none, bits-past}
 use Rattle.counting.specs.Below.{below, between-none}
 use Rattle.wellformed.specs.Ranges.{Ranged}
 use Rattle.backlog.specs.Criterion.{Met}
 use Rattle.backlog.specs.Domination.{openKey}
 use Rattle.backlog.specs.History as streams
-use Rattle.backlog.specs.History.{History}
-use Rattle.backlog.specs.System.{System, releaseOf, dueOf, keyOf, jobs, dues, keys-order}
+use Rattle.backlog.specs.History.{History, Keeps, Goes}
+use Rattle.backlog.specs.System.{System, releaseOf, dueOf, keyOf, jobs, dues, keys-order, constrained}
 use Rattle.backlog.specs.Choice.{NoLater, Chosen}
 use Rattle.backlog.specs.ModelRun.{servedOf, model-run}
 use Rattle.backlog.specs.RunSchedule.{finishes-iff}
-use Rattle.backlog.specs.RunHistory.{constrained}
 use Rattle.backlog.specs.Worst.{worst-range}
 use Rattle.backlog.specs.TableSystem.{tie-ranks, tieSystem}
 use Rattle.backlog.specs.Answers.{met-of-passed, worst-of}
@@ -53,7 +52,10 @@ module _ (t : Table) (r : Ranged t) (done : ℕ → Bool) where
   abbrev Choice : ℕ → Type 0
   Choice n = Chosen (λ i. ltb 0 (ready n i)) (λ i. waitReleased t (stateAt t done n) (done n) i - (task t i .period - task t i .deadline)) (tieOrder t) (t .count) (ownerAt t done n)
 
-  -- What comes no later has no larger key.
+  abbrev Closing : ℕ → ℕ → Type 0
+  Closing = Keeps (jobs table-system) (dues table-system) (λ n i. T (reported t done i n)) open' ready
+
+  -- The keys of the last released jobs are in the order of the waits.
   key-le : (n i k : ℕ) → i < t .count → k < t .count → 0 < ready n i → 0 < ready n k
       → NoLater (λ i. waitReleased t (stateAt t done n) (done n) i - (task t i .period - task t i .deadline)) (tieOrder t) k i
       → openKey (jobs table-system) (suc n) k ≤ openKey (jobs table-system) (suc n) i
@@ -88,8 +90,7 @@ module _ (t : Table) (r : Ranged t) (done : ℕ → Bool) where
       fresh n i j l e (inl (k, f)) = f .left
       fresh n i j l e (inr k) = absurd (k .none j e)
 
-      kept : (n i : ℕ) → i < t .count → ((j : ℕ) → releaseOf table-system i j ≢ n) → ((k : ℕ) × Fresh t r done n i k) ⊎ Kept t r done n i
-          → (ready n i ≡ open' n i) ⊎ ((ready n i ≡ 0) × (T (reported t done i n) ⊎ ((j : ℕ) × (dueOf table-system i j ≡ n))))
+      kept : (n i : ℕ) → i < t .count → ((j : ℕ) → releaseOf table-system i j ≢ n) → ((k : ℕ) × Fresh t r done n i k) ⊎ Kept t r done n i → Closing n i
       kept n i l none (inl (k, f)) = absurd (none k (f .now))
       kept n i l none (inr k) = elim (k .left) [
         | inl e ↦ inl (e .0)
@@ -100,7 +101,7 @@ module _ (t : Table) (r : Ranged t) (done : ℕ → Bool) where
       spent n i l (no e) = rw (left-next t r done n i (sound t r done n) l, ne-eqb (ownerAt t done n) i e) (omega arith)
       spent n i l (yes e) = rw (left-next t r done n i (sound t r done n) l, eq-eqb (ownerAt t done n) i e) (omega (arith, owner-ready t (stateAt t done n) (done n) (r .few) i l e))
 
-      slot : (n : ℕ) → Choice n → ((i : ℕ) → i < t .count → ready n i ≡ 0) ⊎ ((k : ℕ) × (k < t .count) × (0 < ready n k) × ((i : ℕ) → i < t .count → 0 < ready n i → openKey (jobs table-system) (suc n) k ≤ openKey (jobs table-system) (suc n) i) × (gave n k ≡ 1) × ((i : ℕ) → i < t .count → i ≢ k → gave n i ≡ 0))
+      slot : (n : ℕ) → Choice n → Goes (jobs table-system) ready gave n
       slot n (inl c) = inl (λ i l. elim (decLt 0 (ready n i)) [ yes p ↦ absurd (c .shut i l (lt→ltb 0 (ready n i) p)) | no p ↦ omega arith ])
       slot n (inr c) =
           let p : 0 < ready n (ownerAt t done n) = ltb→lt 0 (ready n (ownerAt t done n)) (c .opened) in
@@ -115,8 +116,8 @@ module _ (t : Table) (r : Ranged t) (done : ℕ → Bool) where
 
   -- The slots that a task had: none before the first one counted, and then slot by slot.
   had-early : (i from m : ℕ) → m ≤ from → had t done i from m ≡ 0
-  unfolding had count
-  had-early i from m l = count-past _ 0 m (omega arith) (λ k a b h. let w = and-iff (leb from k) (eqb (ownerAt t done k) i) .0 h in omega (tests, w .0))
+  unfolding had
+  had-early i from m l = count-none _ m (λ k b h. let w = and-iff (leb from k) (eqb (ownerAt t done k) i) .0 h in omega (tests, w .0))
 
   had-grows : (i from m n : ℕ) → m ≤ n → had t done i from m ≤ had t done i from n
   unfolding had
@@ -178,7 +179,7 @@ module _ (t : Table) (r : Ranged t) (done : ℕ → Bool) where
       let shut : open' (suc (u + d)) i ≡ 0 = omega (arith, step-history .spent (u + d) i l, closed-stays i j u d l a (omega arith) z) in
       rw (add-suc u d) (go shut (step-history .kept (suc (u + d)) i l (between i j (suc (u + d)) l (omega arith) (omega arith))))
     where
-      go : open' (suc (u + d)) i ≡ 0 → (ready (suc (u + d)) i ≡ open' (suc (u + d)) i) ⊎ ((ready (suc (u + d)) i ≡ 0) × (T (reported t done i (suc (u + d))) ⊎ ((j : ℕ) × (dueOf table-system i j ≡ suc (u + d))))) → ready (suc (u + d)) i ≡ 0
+      go : open' (suc (u + d)) i ≡ 0 → Closing (suc (u + d)) i → ready (suc (u + d)) i ≡ 0
       go shut (inl e) = e ∙ shut
       go shut (inr e) = e .0
 
@@ -239,12 +240,12 @@ module _ (t : Table) (r : Ranged t) (done : ℕ → Bool) where
           | no q ↦ closed q (step-history .kept n i l (between i j n l (omega arith) b))
         ]
           where
-            closed : release (task t i) j ≢ n → (ready n i ≡ open' n i) ⊎ ((ready n i ≡ 0) × (T (reported t done i n) ⊎ ((j : ℕ) × (dueOf table-system i j ≡ n)))) → Finished t done i j n
+            closed : release (task t i) j ≢ n → Closing n i → Finished t done i j n
             closed q (inl x) = finished (n - release (task t i) j - 1) (omega arith) (omega arith)
             closed q (inr (x, inl c)) = finished-by i j n (omega arith) (inr (n, omega arith, omega arith, c))
             closed q (inr (x, inr (k, c))) = finished (n - release (task t i) j - 1) (omega arith) (omega (arith, nothing-left i k l, ap (λ (m : ℕ). open' m i) c))
 
-        go : ((i : ℕ) → i < t .count → ready n i ≡ 0) ⊎ ((k : ℕ) × (k < t .count) × (0 < ready n k) × ((i : ℕ) → i < t .count → 0 < ready n i → openKey (jobs table-system) (suc n) k ≤ openKey (jobs table-system) (suc n) i) × (gave n k ≡ 1) × ((i : ℕ) → i < t .count → i ≢ k → gave n i ≡ 0)) → Finished t done i j n
+        go : Goes (jobs table-system) ready gave n → Finished t done i j n
         go (inl z) = idle (z i l)
         go (inr (k, m, p, o, g, x)) = absurd (omega (arith, one k g))
           where
@@ -265,11 +266,11 @@ module _ (t : Table) (r : Ranged t) (done : ℕ → Bool) where
 
     -- In the words of the answer: the set of tasks closed late is empty, none were, and the lowest is none.
     pub none-told : (n : ℕ) → (turn t (stateAt t done n) (done n) .late ≡ 0) × (turn t (stateAt t done n) (done n) .closed ≡ 0) × (turn t (stateAt t done n) (done n) .lowest ≡ taskLimit)
-    unfolding turn count
+    unfolding turn
     none-told n =
         let late = isLate t (stateAt t done n) (done n) in
         let none : NoneFrom late 0 taskLimit = λ i a b. none-closed n i in (
           bits-past late 0 taskLimit (omega arith) none ∙ sym (bits-none late),
-          count-past late 0 taskLimit (omega arith) none,
+          count-none late taskLimit (λ i l. none-closed n i),
           first-none late 0 taskLimit none,
         )

@@ -1,4 +1,4 @@
--- The dispatcher's states from a start on: a wait tells the next release, an open job is the last released and not past its deadline, and no step is refused.
+-- The dispatcher's states from a start on: a wait tells the next release, an open job is the last releasedBy S and not past its deadline, and no step is refused.
 use mathlib.Core.Path.{_≡_, ap, _∙_}
 use mathlib.Core.Logic.{_⊎_, inl, inr, _≢_}
 use mathlib.Core.Bool.{Bool, cond}
@@ -16,12 +16,12 @@ use Rattle.model.specs.Tasks.{task, judged}
 use Rattle.model.specs.Dispatcher.{State, waitOf, leftOf, firstStrange, startOf, isLate, waitReleased, leftReleased, after, turn, stepped}
 use Rattle.model.specs.History.{stateAt, ownerAt}
 use Rattle.counting.specs.Fill.{fill-ahead, getD-same}
-use Rattle.counting.specs.Below.{below, lt-below, below-none}
+use Rattle.counting.specs.Below.{lt-below, below-none}
 use Rattle.wellformed.specs.Ranges.{Ranged}
-use Rattle.backlog.specs.System.{System, releaseOf, dueOf, jobs}
+use Rattle.backlog.specs.System.{System, releaseOf, dueOf, jobs, releasedBy}
 use Rattle.backlog.specs.Domination.{Releases, releases}
 use Rattle.backlog.specs.TableSystem.{tieSystem}
-use Rattle.backlog.specs.Taken.{Belongs, KeptOrClosed, closed-late-iff, left-done-le, kept-or-closed, owner-ready, wait-start, left-start, belongs-start, wait-after, left-after, belongs-after}
+use Rattle.backlog.specs.Taken.{Belongs, KeptOrClosed, closed-late-iff, left-done-le, kept-or-closed, owner-ready, wait-start, left-start, belongs-start, wait-after, left-after, belongs-after, kept-open}
 
 module _ (t : Table) (r : Ranged t) (done : ℕ → Bool) where
   abbrev S : System
@@ -30,27 +30,23 @@ module _ (t : Table) (r : Ranged t) (done : ℕ → Bool) where
   abbrev pub before : ℕ → State
   before n = stateAt t done n
 
-  -- How many jobs of task i are released before slot n.
-  abbrev released : ℕ → ℕ → ℕ
-  released i n = below (releaseOf S i) n
-
   -- What holds of every state.
   pub record Sound (n : ℕ) : Type 0 where
     pub belongs : Belongs t (before n)
-    pub next : (i : ℕ) → i < t .count → waitOf (before n) i + n ≡ releaseOf S i (released i n)
-    pub current : (i : ℕ) → i < t .count → 0 < leftOf (before n) i → (j : ℕ) × (released i n ≡ suc j) × (n ≤ dueOf S i j)
+    pub next : (i : ℕ) → i < t .count → waitOf (before n) i + n ≡ releaseOf S i (releasedBy S i n)
+    pub current : (i : ℕ) → i < t .count → 0 < leftOf (before n) i → (j : ℕ) × (releasedBy S i n ≡ suc j) × (n ≤ dueOf S i j)
 
   -- What step n finds of task i once done and late jobs are closed and jobs are released.
   pub record Fresh (n i j : ℕ) : Type 0 where
     pub now : releaseOf S i j ≡ n
-    pub earlier : released i n ≡ j
-    pub passed : released i (suc n) ≡ suc j
+    pub earlier : releasedBy S i n ≡ j
+    pub passed : releasedBy S i (suc n) ≡ suc j
     pub wait : waitReleased t (before n) (done n) i ≡ task t i .period
     pub left : leftReleased t (before n) (done n) i ≡ task t i .cost
 
   pub record Kept (n i : ℕ) : Type 0 where
     pub none : (j : ℕ) → releaseOf S i j ≢ n
-    pub passed : released i (suc n) ≡ released i n
+    pub passed : releasedBy S i (suc n) ≡ releasedBy S i n
     pub waited : 0 < waitOf (before n) i
     pub wait : waitReleased t (before n) (done n) i ≡ waitOf (before n) i
     pub left : KeptOrClosed t (before n) (done n) i (leftReleased t (before n) (done n) i)
@@ -63,19 +59,19 @@ module _ (t : Table) (r : Ranged t) (done : ℕ → Bool) where
           let z : waitOf (before n) i ≡ 0 = omega (arith, s .next i l, ap (releaseOf S i) b) in
           inl (j, record { now = e; earlier = b; passed = c; wait = rw (eq-eqb (waitOf (before n) i) 0 z); left = rw (eq-eqb (waitOf (before n) i) 0 z) })
       go (inr (none, c)) =
-          let w : waitOf (before n) i ≢ 0 = λ z. none (released i n) (omega (arith, s .next i l)) in
+          let w : waitOf (before n) i ≢ 0 = λ z. none (releasedBy S i n) (omega (arith, s .next i l)) in
           inr (record { none = none; passed = c; waited = omega arith; wait = rw (ne-eqb (waitOf (before n) i) 0 w); left = rw (ne-eqb (waitOf (before n) i) 0 w) (kept-or-closed t (before n) (done n) i) })
 
   -- A job closed as late is at its deadline, and has slots left.
-  pub late-is : (n i : ℕ) → Sound n → i < t .count → T (isLate t (before n) (done n) i) → (0 < leftOf (before n) i) × ((j : ℕ) × (dueOf S i j ≡ n) × (released i n ≡ suc j))
+  pub late-is : (n i : ℕ) → Sound n → i < t .count → T (isLate t (before n) (done n) i) → (0 < leftOf (before n) i) × ((j : ℕ) × (dueOf S i j ≡ n) × (releasedBy S i n ≡ suc j))
   late-is n i s l h =
       let (m, p, w) = closed-late-iff t (before n) (done n) i .0 h in
       let some : 0 < leftOf (before n) i = omega (arith, left-done-le t (before n) (done n) i) in
       let (j, b, d) = s .current i l some in
       (some, (j, omega (arith, s .next i l, ap (releaseOf S i) b, r .each i l .deadline-le), b))
 
-  -- A wait of one slot and more.
-  next-wait : (n i : ℕ) → Sound n → i < t .count → (waitReleased t (before n) (done n) i - 1) + suc n ≡ releaseOf S i (released i (suc n))
+  -- After the step the wait tells the next release too.
+  next-wait : (n i : ℕ) → Sound n → i < t .count → (waitReleased t (before n) (done n) i - 1) + suc n ≡ releaseOf S i (releasedBy S i (suc n))
   next-wait n i s l = elim (finds n i s l) [
     | inl f ↦ omega (arith, f .1 .wait, f .1 .now, ap (releaseOf S i) (f .1 .passed), r .each i l .period-pos)
     | inr k ↦ omega (arith, k .wait, k .waited, s .next i l, ap (releaseOf S i) (k .passed))
@@ -83,22 +79,16 @@ module _ (t : Table) (r : Ranged t) (done : ℕ → Bool) where
 
   -- A job that step n may serve is the last released, and its deadline is after slot n, as far as the wait says.
   pub ready-is : (n i : ℕ) → Sound n → i < t .count → 0 < leftReleased t (before n) (done n) i
-      → (j : ℕ) × (released i (suc n) ≡ suc j) × (dueOf S i j ≡ n + (waitReleased t (before n) (done n) i - (task t i .period - task t i .deadline))) × (n < dueOf S i j)
+      → (j : ℕ) × (releasedBy S i (suc n) ≡ suc j) × (dueOf S i j ≡ n + (waitReleased t (before n) (done n) i - (task t i .period - task t i .deadline))) × (n < dueOf S i j)
   ready-is n i s l p = go (finds n i s l)
     where
-      go : ((j : ℕ) × Fresh n i j) ⊎ Kept n i → (j : ℕ) × (released i (suc n) ≡ suc j) × (dueOf S i j ≡ n + (waitReleased t (before n) (done n) i - (task t i .period - task t i .deadline))) × (n < dueOf S i j)
+      go : ((j : ℕ) × Fresh n i j) ⊎ Kept n i → (j : ℕ) × (releasedBy S i (suc n) ≡ suc j) × (dueOf S i j ≡ n + (waitReleased t (before n) (done n) i - (task t i .period - task t i .deadline))) × (n < dueOf S i j)
       go (inl (j, f)) = (j, f .passed, omega (arith, f .now, f .wait, r .each i l .deadline-le), omega (arith, f .now, r .each i l .deadline-pos))
-      go (inr k) = kept (k .left)
-        where
-          kept : KeptOrClosed t (before n) (done n) i (leftReleased t (before n) (done n) i)
-              → (j : ℕ) × (released i (suc n) ≡ suc j) × (dueOf S i j ≡ n + (waitReleased t (before n) (done n) i - (task t i .period - task t i .deadline))) × (n < dueOf S i j)
-          kept (inr e) = absurd (omega (arith, e .0))
-          kept (inl (e, f, never)) =
-              let some : 0 < leftOf (before n) i = omega arith in
-              let (j, b, d) = s .current i l some in
-              let w : waitOf (before n) i + n ≡ releaseOf S i (suc j) = s .next i l ∙ ap (releaseOf S i) b in
-              let late : dueOf S i j ≡ n → ⊥ = λ q. never (closed-late-iff t (before n) (done n) i .1 (l, omega arith, omega (arith, r .each i l .deadline-le))) in
-              (j, k .passed ∙ b, omega (arith, k .wait, r .each i l .deadline-le), omega arith)
+      go (inr k) =
+          let (some, apart) = kept-open t (before n) (done n) i l (λ e. absurd (omega (arith, k .waited))) p in
+          let (j, b, d) = s .current i l some in
+          let w : waitOf (before n) i + n ≡ releaseOf S i (suc j) = s .next i l ∙ ap (releaseOf S i) b in
+          (j, k .passed ∙ b, omega (arith, k .wait, r .each i l .deadline-le), omega (arith, apart, r .each i l .deadline-le))
 
   -- What a step leaves of a job.
   pub left-next : (n i : ℕ) → Sound n → i < t .count → leftOf (before (suc n)) i ≡ leftReleased t (before n) (done n) i - cond (eqb (ownerAt t done n) i) 1 0
@@ -135,8 +125,9 @@ module _ (t : Table) (r : Ranged t) (done : ℕ → Bool) where
   unfolding stepped stateAt
   never-refused m e n = let b = sound n .belongs in rw (e, le-ltb (firstStrange t (before n)) (t .count) (b .each), b .ran)
 
+module _ (t : Table) (done : ℕ → Bool) where
   -- Entries past the table's last task are 0 from the start on.
-  pub past-none : (n i : ℕ) → t .count ≤ i → (getD (before n .wait) i 0 ≡ 0) × (getD (before n .left) i 0 ≡ 0)
+  pub past-none : (n i : ℕ) → t .count ≤ i → (getD (stateAt t done n .wait) i 0 ≡ 0) × (getD (stateAt t done n .left) i 0 ≡ 0)
   unfolding stateAt startOf after
   past-none zero i l = (fill-ahead (t .count) _ _ i 0 l ∙ getD-same taskLimit 0 i, getD-same taskLimit 0 i)
   past-none (suc n) i l = (fill-ahead (t .count) _ _ i 0 l ∙ past-none n i l .0, fill-ahead (t .count) _ _ i 0 l ∙ past-none n i l .1)

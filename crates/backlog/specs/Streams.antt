@@ -1,11 +1,12 @@
 -- Streams of jobs, a run that serves the pending job of least key, and the work of the jobs up to a key.
-use mathlib.Core.Path.{_≡_}
+use mathlib.Core.Path.{_≡_, sym, ap, _∙_}
 use mathlib.Core.Logic.{_⊎_, _≢_, _↔_}
-use Prim.Native.Nat.{ℕ, suc, _+_, _-_, _*_, _/_, _≤_, _<_, min}
-use native.Mathlib.Nat.{mul-le-mul-left, div-lt-iff-lt-mul}
+use Prim.Native.Nat.{ℕ, suc, _+_, _-_, _*_, _/_, _≤_, _<_, min, zero}
+use native.Mathlib.Nat.{mul-le-mul-left}
 use native.Mathlib.Omega.{arith}
 use Rattle.model.specs.Notation.{sum}
-use Rattle.counting.specs.Below.{Grows, below, lt-below, below-mono}
+use Rattle.counting.specs.Below.{Grows, below, below-mono, work-lt, below-none}
+use Rattle.counting.specs.Sum.{sum-eq, sum-add, sum-zero, sum-none}
 
 -- n streams of jobs. Job j of stream i costs `cost i` slots, is released at `rel i j` and has the key `key i j`; a smaller key goes first.
 pub record Jobs : Type 0 where
@@ -62,13 +63,26 @@ arriveOf J κ t i = min (work J κ i) (released J (suc t) i) - min (work J κ i)
 unfoldable pub arrive : Jobs → ℕ → ℕ → ℕ
 arrive J κ t = sum (J .n) (arriveOf J κ t)
 
+-- All class work that is released before t.
+abbrev pub arrivals : Jobs → ℕ → ℕ → ℕ
+arrivals J κ t = sum (J .n) (λ i. min (work J κ i) (released J t i))
+
 module _ (J : Jobs) where
   pub released-mono : (i : ℕ) → i < J .n → (t u : ℕ) → t ≤ u → released J t i ≤ released J u i
   released-mono i l t u h = mul-le-mul-left (J .cost i) (below-mono (J .rel i) (J .rel-grows i l) t u h)
 
   -- The job that a stream is at is in the class exactly if some class work of the stream is not served.
   pub in-class : (κ i : ℕ) → i < J .n → (s : ℕ) → (s < work J κ i) ↔ (keyAt J i s ≤ κ)
-  in-class κ i l s = (
-    λ h. omega (arith, lt-below (J .key i) (J .key-grows i l) (suc κ) (s / J .cost i) .0 (div-lt-iff-lt-mul (J .cost-pos i l) .1 (omega arith))),
-    λ h. omega (arith, div-lt-iff-lt-mul (J .cost-pos i l) .0 (lt-below (J .key i) (J .key-grows i l) (suc κ) (s / J .cost i) .1 (omega arith))),
-  )
+  in-class κ i l s = let law = work-lt (J .key i) (J .key-grows i l) (J .cost i) (suc κ) s (J .cost-pos i l) in (λ h. omega (arith, law .0 h), λ h. law .1 (omega arith))
+
+  -- All class work that is released before t has arrived in the slots up to there.
+  pub arrived : (κ t : ℕ) → sum t (arrive J κ) ≡ arrivals J κ t
+  unfolding sum arrive
+  arrived κ zero = sym (sum-zero (J .n) _ (λ i l. rw (below-none (J .rel i)) (omega arith)))
+  arrived κ (suc t) =
+      ap (λ (x : ℕ). x + arrive J κ t) (arrived κ t)
+      ∙ sym (sum-add (J .n) (λ i. min (work J κ i) (released J t i)) (arriveOf J κ t))
+      ∙ sum-eq (J .n) _ _ (λ i l. omega (arith, released-mono i l t (suc t) (omega arith)))
+
+  pub arrivals-none : (κ : ℕ) → arrivals J κ 0 ≡ 0
+  arrivals-none κ = sym (sum-none (arrive J κ) ∙ arrived κ 0)

@@ -1,6 +1,6 @@
 -- A table within its ranges, with an order of its tasks, as streams of jobs.
 use mathlib.Core.Path.{_≡_, refl, sym, ap, _∙_}
-use mathlib.Core.Logic.{_⊎_, inl, inr, _↔_}
+use mathlib.Core.Logic.{inl, inr, _↔_}
 use Prim.Native.Nat.{ℕ, suc, _+_, _-_, _*_, _%_, _≤_, _<_}
 use native.Mathlib.Nat.{mul-pos, mul-le-mul-right}
 use native.Mathlib.Decide.{decLe}
@@ -11,10 +11,11 @@ use Rattle.model.specs.Limits.{taskLimit}
 use Rattle.model.specs.Tasks.{task, release, due}
 use Rattle.model.specs.Demand.{jobsIn, demand}
 use Rattle.model.specs.Run.{Order}
-use Rattle.counting.specs.Below.{Grows}
+use Rattle.counting.specs.Below.{Grows, below}
 use Rattle.backlog.specs.Streams.{Jobs}
 use Rattle.backlog.specs.Criterion as streams
-use Rattle.backlog.specs.Criterion.{Dues}
+use Rattle.backlog.specs.Criterion.{Dues, Constrained}
+use Rattle.backlog.specs.Choice.{Ahead}
 
 -- An order of a table's tasks: ranks below the count that tell the tasks apart.
 pub record Ranks (t : Table) (rank : Order) : Type 0 where
@@ -50,13 +51,17 @@ releaseOf S i j = release (task (S .table) i) j
 abbrev pub dueOf : System → ℕ → ℕ → ℕ
 dueOf S i j = due (task (S .table) i) j
 
+-- How many jobs of task i are released before slot n.
+abbrev pub releasedBy : System → ℕ → ℕ → ℕ
+releasedBy S i n = below (releaseOf S i) n
+
 -- One number for deadline and rank: an earlier deadline goes first, and ties by rank. No two jobs share it.
 abbrev pub keyOf : System → ℕ → ℕ → ℕ
 keyOf S i j = dueOf S i j * size S + S .rank i
 
 -- Job j of task i comes no later than job m of task k.
 abbrev pub JobNoLater : System → ℕ → ℕ → ℕ → ℕ → Type 0
-JobNoLater S i j k m = (dueOf S i j < dueOf S k m) ⊎ ((dueOf S i j ≡ dueOf S k m) × (S .rank i ≤ S .rank k))
+JobNoLater S i j k m = Ahead (dueOf S i j) (S .rank i) (dueOf S k m) (S .rank k)
 
 module _ (S : System) where
   pub period-pos : (i : ℕ) → i < size S → 0 < periodOf S i
@@ -107,6 +112,10 @@ dues S = record {
   rel-due = λ i j l. omega (arith, S .deadline-pos i l);
   due-grows = λ i l j. omega (arith, period-pos S i l);
 }
+
+-- A table's deadlines are at most its periods.
+pub constrained : (S : System) → Constrained (jobs S) (dues S)
+constrained S i j l = omega (arith, S .deadline-le i l)
 
 -- The model's demand is that of the streams.
 pub demand-streams : (S : System) (t1 t2 : ℕ) → demand (S .table) t1 t2 ≡ streams.demand (jobs S) (dues S) t1 t2

@@ -13,19 +13,11 @@ use Rattle.model.specs.Limits.{taskLimit}
 use Rattle.model.specs.Tasks.{task}
 use Rattle.model.specs.Run.{tieOrder}
 use Rattle.model.specs.Dispatcher.{State, waitOf, leftOf, isOpen, strange, firstStrange, lastStrange, startOf, leftDone, isLate, leftLate, waitReleased, leftReleased, ownerNow, after}
-use Rattle.counting.specs.Count.{and-iff, eq→eqb, one-of-iff}
+use Rattle.counting.specs.Count.{and-iff, eq→eqb, one-of-iff, or-left, or-right}
 use Rattle.counting.specs.Search.{first-before, first-none}
 use Rattle.counting.specs.Fill.{fill-passed, fill-length, getD-same}
 use Rattle.wellformed.specs.Ranges.{Ranged}
 use Rattle.backlog.specs.Choice.{Chosen, choose-is}
-
--- One of two tests that holds is enough.
-or-left : (a b : Bool) → T a → T (a || b)
-or-left true b h = tt
-
-or-right : (a b : Bool) → T b → T (a || b)
-or-right true b h = tt
-or-right false b h = h
 
 module _ (t : Table) where
   -- The numbers of a task that is not strange.
@@ -96,7 +88,7 @@ module _ (t : Table) where
         go false e false f = inl (rw (e, f) refl, rw f refl, λ h. rw e at h)
 
     -- A job that is open after the releases, and was not released just now, was open before, and is not at its deadline.
-    kept-open : i < t .count → waitOf d i ≢ 0 → 0 < leftReleased t d done i → (0 < leftOf d i) × (waitOf d i ≢ task t i .period - task t i .deadline)
+    pub kept-open : i < t .count → waitOf d i ≢ 0 → 0 < leftReleased t d done i → (0 < leftOf d i) × (waitOf d i ≢ task t i .period - task t i .deadline)
     kept-open l w p = go kept-or-closed (rw (ne-eqb (waitOf d i) 0 w) at p)
       where
         go : KeptOrClosed (leftLate t d done i) → 0 < leftLate t d done i → (0 < leftOf d i) × (waitOf d i ≢ task t i .period - task t i .deadline)

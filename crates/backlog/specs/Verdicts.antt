@@ -19,30 +19,27 @@ use Rattle.backlog.specs.Decided.{too-much-iff, late-at-iff}
 abbrev pub lateVerdict : Table → ℕ → Verdict
 lateVerdict t to = Verdict.Late (lateStart t to) to (demand t (lateStart t to) to)
 
-abbrev pub Late : Table → ℕ → Type 0
-Late t to = T (lateAt t to)
-
 module _ (t : Table) where
   -- The needed count is at most the horizon, no deadline before it is late, and if it is below the horizon it is late itself.
   pub needed-le : needed t ≤ horizon t
   unfolding needed
   needed-le = omega (arith, first-le (lateAt t) 0 (horizon t))
 
-  pub none-before : (u : ℕ) → u < needed t → Late t u → ⊥
+  pub none-before : (u : ℕ) → u < needed t → T (lateAt t u) → ⊥
   unfolding needed
   none-before u l = first-before (lateAt t) 0 (horizon t) u (omega arith) l
 
-  needed-late : needed t < horizon t → Late t (needed t)
+  needed-late : needed t < horizon t → T (lateAt t (needed t))
   unfolding needed
   needed-late l = first-passes (lateAt t) 0 (horizon t) (omega arith)
 
   -- It is the smallest late deadline, if one lies within the horizon, else the horizon.
-  pub needed-is : (u : ℕ) → u ≤ horizon t → ((v : ℕ) → v < u → Late t v → ⊥) → (u < horizon t → Late t u) → needed t ≡ u
+  pub needed-is : (u : ℕ) → u ≤ horizon t → ((v : ℕ) → v < u → T (lateAt t v) → ⊥) → (u < horizon t → T (lateAt t u)) → needed t ≡ u
   unfolding needed
   needed-is u l none late = first-unique (lateAt t) 0 (horizon t) u (omega arith) (omega arith) (λ v a b. none v b) (λ m. late (omega arith))
 
   -- Where the needed count is not late, nothing up to the horizon is.
-  pub none-late : (Late t (needed t) → ⊥) → (needed t ≡ horizon t) × ((u : ℕ) → u ≤ horizon t → Late t u → ⊥)
+  pub none-late : (T (lateAt t (needed t)) → ⊥) → (needed t ≡ horizon t) × ((u : ℕ) → u ≤ horizon t → T (lateAt t u) → ⊥)
   none-late h = (same, λ u l w. elim (decLt u (needed t)) [ yes p ↦ none-before u p w | no p ↦ h (rw (at-end u l p) at w) ])
     where
       same : needed t ≡ horizon t
@@ -52,7 +49,7 @@ module _ (t : Table) where
       at-end u l p = omega (arith, same)
 
   -- The start of a late verdict asks too much, and no larger one does.
-  pub start-asks : (to : ℕ) → Late t to → T (asksTooMuch t (lateStart t to) to)
+  pub start-asks : (to : ℕ) → T (lateAt t to) → T (asksTooMuch t (lateStart t to) to)
   unfolding lateStart
   start-asks to h = let (from, w) = late-at-iff t to .0 h in last-passes (λ from. asksTooMuch t from to) to from (too-much-iff t from to .0 w .0) w
 
@@ -75,11 +72,11 @@ module _ (t : Table) where
       unfolding verdict settledBy
       is-undecided h = rw (le-ltb (round t) (load t) light, lt-ltb budget (needed t) h) (refl, refl)
 
-      pub is-late : needed t ≤ budget → Late t (needed t) → (verdict t budget ≡ lateVerdict t (needed t)) × (settledBy t budget ≡ needed t)
+      pub is-late : needed t ≤ budget → T (lateAt t (needed t)) → (verdict t budget ≡ lateVerdict t (needed t)) × (settledBy t budget ≡ needed t)
       unfolding verdict settledBy
       is-late h w = rw (le-ltb (round t) (load t) light, le-ltb budget (needed t) h, is-true (lateAt t (needed t)) w) (refl, refl)
 
-      pub is-passed : needed t ≤ budget → (Late t (needed t) → ⊥) → (verdict t budget ≡ Verdict.Passes) × (settledBy t budget ≡ needed t)
+      pub is-passed : needed t ≤ budget → (T (lateAt t (needed t)) → ⊥) → (verdict t budget ≡ Verdict.Passes) × (settledBy t budget ≡ needed t)
       unfolding verdict settledBy
       is-passed h w = rw (le-ltb (round t) (load t) light, le-ltb budget (needed t) h, is-false (lateAt t (needed t)) w) (refl, refl)
 
@@ -87,13 +84,13 @@ module _ (t : Table) where
     pub data Case : Verdict → ℕ → Type 0 where
       overload : round t < load t → Case Verdict.Overload 0
       undecided : load t ≤ round t → budget < needed t → Case Verdict.Undecided budget
-      late : load t ≤ round t → needed t ≤ budget → Late t (needed t) → Case (lateVerdict t (needed t)) (needed t)
-      passed : load t ≤ round t → needed t ≤ budget → (Late t (needed t) → ⊥) → Case Verdict.Passes (needed t)
+      late : load t ≤ round t → needed t ≤ budget → T (lateAt t (needed t)) → Case (lateVerdict t (needed t)) (needed t)
+      passed : load t ≤ round t → needed t ≤ budget → (T (lateAt t (needed t)) → ⊥) → Case Verdict.Passes (needed t)
 
     pub the-case : Case (verdict t budget) (settledBy t budget)
     the-case = go (decLt (round t) (load t)) (decLt budget (needed t)) (decT (lateAt t (needed t)))
       where
-        go : Dec (round t < load t) → Dec (budget < needed t) → Dec (Late t (needed t)) → Case (verdict t budget) (settledBy t budget)
+        go : Dec (round t < load t) → Dec (budget < needed t) → Dec (T (lateAt t (needed t))) → Case (verdict t budget) (settledBy t budget)
         go (yes h) b l = rw (is-overload h .0, is-overload h .1) (overload h)
         go (no h) (yes b) l = let g : load t ≤ round t = omega arith in rw (is-undecided g b .0, is-undecided g b .1) (undecided g b)
         go (no h) (no b) (yes l) =
@@ -116,13 +113,13 @@ module _ (t : Table) where
   overload-iff budget = (overload-case budget (verdict t budget) (settledBy t budget) (the-case budget), λ h. is-overload budget h .0)
 
   -- LATE is said of the needed count alone.
-  late-case : (budget : ℕ) (v : Verdict) (n from to asked : ℕ) → Case budget v n → v ≡ Verdict.Late from to asked → Late t (needed t) × (lateVerdict t (needed t) ≡ Verdict.Late from to asked) × (n ≡ needed t)
+  late-case : (budget : ℕ) (v : Verdict) (n from to asked : ℕ) → Case budget v n → v ≡ Verdict.Late from to asked → T (lateAt t (needed t)) × (lateVerdict t (needed t) ≡ Verdict.Late from to asked) × (n ≡ needed t)
   late-case budget v n from to asked (overload g) e = let z : _≡_ {A = ℕ} 0 1 = cc in absurd (omega arith)
   late-case budget v n from to asked (undecided g b) e = let z : _≡_ {A = ℕ} 0 1 = cc in absurd (omega arith)
   late-case budget v n from to asked (late g b l) e = (l, e, refl)
   late-case budget v n from to asked (passed g b l) e = let z : _≡_ {A = ℕ} 0 1 = cc in absurd (omega arith)
 
-  pub late-needed : (budget from to asked : ℕ) → verdict t budget ≡ Verdict.Late from to asked → Late t (needed t) × (lateVerdict t (needed t) ≡ Verdict.Late from to asked) × (settledBy t budget ≡ needed t)
+  pub late-needed : (budget from to asked : ℕ) → verdict t budget ≡ Verdict.Late from to asked → T (lateAt t (needed t)) × (lateVerdict t (needed t) ≡ Verdict.Late from to asked) × (settledBy t budget ≡ needed t)
   late-needed budget from to asked = late-case budget (verdict t budget) (settledBy t budget) from to asked (the-case budget)
 
   -- UNDECIDED exactly below the needed count, where there is no overload.

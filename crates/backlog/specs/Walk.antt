@@ -15,10 +15,10 @@ use Rattle.model.specs.Schedule.{given}
 use Rattle.model.specs.Run.{tieOrder, owner, run}
 use Rattle.model.specs.Dispatcher.{State, waitOf, leftOf, isLate, waitReleased, leftReleased}
 use Rattle.model.specs.History.{stateAt, ownerAt}
-use Rattle.counting.specs.Below.{below, below-none, below-is}
+use Rattle.counting.specs.Below.{below-none, below-is}
 use Rattle.wellformed.specs.Ranges.{Ranged}
 use Rattle.backlog.specs.Left.{served-mono}
-use Rattle.backlog.specs.System.{System, releaseOf, dueOf, jobs}
+use Rattle.backlog.specs.System.{System, releaseOf, dueOf, jobs, releasedBy}
 use Rattle.backlog.specs.Choice.{NoLater, chosen-same}
 use Rattle.backlog.specs.ModelRun.{servedOf, ready-iff, model-run, owner-served, others-served}
 use Rattle.backlog.specs.ModelRun as run-of
@@ -44,15 +44,12 @@ module _ (t : Table) (r : Ranged t) where
   abbrev st : ℕ → State
   st n = stateAt t quiet n
 
-  abbrev rel : ℕ → ℕ → ℕ
-  rel i n = below (releaseOf S i) n
-
   abbrev pub ready : ℕ → ℕ → ℕ
   ready n i = leftReleased t (st n) false i
 
   -- What is left in the dispatcher and what the run has served make all that was released.
   abbrev pub Agrees : ℕ → Type 0
-  Agrees n = (i : ℕ) → i < t .count → leftOf (st n) i + servedOf S n i ≡ task t i .cost * rel i n
+  Agrees n = (i : ℕ) → i < t .count → leftOf (st n) i + servedOf S n i ≡ task t i .cost * releasedBy S i n
 
   -- A job closed as late means a late deadline.
   late-missed : (n : ℕ) → Agrees n → (i : ℕ) → i < t .count → T (isLate t (st n) false i) → T (lateAt t n)
@@ -60,20 +57,20 @@ module _ (t : Table) (r : Ranged t) where
       let (p, (j, e, b)) = late-is t r quiet n i (sound t r quiet n) l h in
       missed-iff S n .0 (i, j, l, omega arith, undone-iff S i j n l .1 (omega (arith, a i l, ap (λ (y : ℕ). task t i .cost * y) b)))
 
-  -- So after the releases of slot n, too.
-  pub ready-agrees : (n : ℕ) → Agrees n → (T (lateAt t n) → ⊥) → (i : ℕ) → i < t .count → ready n i + servedOf S n i ≡ task t i .cost * rel i (suc n)
+  -- So it is after the releases of slot n.
+  pub ready-agrees : (n : ℕ) → Agrees n → (T (lateAt t n) → ⊥) → (i : ℕ) → i < t .count → ready n i + servedOf S n i ≡ task t i .cost * releasedBy S i (suc n)
   ready-agrees n a never i l = go (finds t r quiet n i (sound t r quiet n) l)
     where
-      kept : Kept t r quiet n i → ready n i + servedOf S n i ≡ task t i .cost * rel i (suc n)
+      kept : Kept t r quiet n i → ready n i + servedOf S n i ≡ task t i .cost * releasedBy S i (suc n)
       kept k = elim (k .left) [
         | inl e ↦ omega (arith, e .0, a i l, ap (λ (y : ℕ). task t i .cost * y) (k .passed))
         | inr e ↦ elim (e .1) [ inl x ↦ absurd x | inr x ↦ absurd (never (late-missed n a i l x)) ]
       ]
 
-      fresh : (j : ℕ) → Fresh t r quiet n i j → ready n i + servedOf S n i ≡ task t i .cost * rel i (suc n)
+      fresh : (j : ℕ) → Fresh t r quiet n i j → ready n i + servedOf S n i ≡ task t i .cost * releasedBy S i (suc n)
       fresh j f = at (decLt 0 (leftOf (st n) i))
         where
-          at : Dec (0 < leftOf (st n) i) → ready n i + servedOf S n i ≡ task t i .cost * rel i (suc n)
+          at : Dec (0 < leftOf (st n) i) → ready n i + servedOf S n i ≡ task t i .cost * releasedBy S i (suc n)
           at (no p) = omega (arith, f .left, a i l, ap (λ (y : ℕ). task t i .cost * y) (f .earlier), ap (λ (y : ℕ). task t i .cost * y) (f .passed))
           at (yes p) =
               let (k, b, d) = sound t r quiet n .current i l p in
@@ -81,7 +78,7 @@ module _ (t : Table) (r : Ranged t) where
               let w : waitOf (st n) i + n ≡ releaseOf S i (suc k) = sound t r quiet n .next i l ∙ ap (releaseOf S i) b in
               absurd (never (late-missed n a i l (closed-late-iff t (st n) false i .1 (l, p, omega (arith, r .each i l .deadline-le)))))
 
-      go : ((j : ℕ) × Fresh t r quiet n i j) ⊎ Kept t r quiet n i → ready n i + servedOf S n i ≡ task t i .cost * rel i (suc n)
+      go : ((j : ℕ) × Fresh t r quiet n i j) ⊎ Kept t r quiet n i → ready n i + servedOf S n i ≡ task t i .cost * releasedBy S i (suc n)
       go (inl (j, f)) = fresh j f
       go (inr k) = kept k
 
@@ -116,13 +113,13 @@ module _ (t : Table) (r : Ranged t) where
   agrees zero c i l = rw (below-none (releaseOf S i)) (omega (arith, step-history t r quiet .start i l, (model-run S) .start i l))
   agrees (suc n) c i l = step (agrees n (λ u m. c u (le-step m))) (c n (le-refl (suc n)))
     where
-      step : Agrees n → (T (lateAt t n) → ⊥) → leftOf (st (suc n)) i + servedOf S (suc n) i ≡ task t i .cost * rel i (suc n)
+      step : Agrees n → (T (lateAt t n) → ⊥) → leftOf (st (suc n)) i + servedOf S (suc n) i ≡ task t i .cost * releasedBy S i (suc n)
       step a never = at (ℕ-discrete (ownerAt t quiet n) i) (owner-agrees n a never)
         where
           left-now : leftOf (st (suc n)) i ≡ ready n i - cond (eqb (ownerAt t quiet n) i) 1 0
           left-now = left-next t r quiet n i (sound t r quiet n) l
 
-          at : Dec (ownerAt t quiet n ≡ i) → ownerAt t quiet n ≡ owner t (tieOrder t) n → leftOf (st (suc n)) i + servedOf S (suc n) i ≡ task t i .cost * rel i (suc n)
+          at : Dec (ownerAt t quiet n ≡ i) → ownerAt t quiet n ≡ owner t (tieOrder t) n → leftOf (st (suc n)) i + servedOf S (suc n) i ≡ task t i .cost * releasedBy S i (suc n)
           at (no e) q = rw (left-now, ne-eqb (ownerAt t quiet n) i e, others-served S n i (λ x. e (q ∙ sym x))) (omega (arith, ready-agrees n a never i l))
           at (yes e) q =
               let o : owner t (tieOrder t) n ≡ i = sym q ∙ e in
@@ -148,7 +145,7 @@ module _ (t : Table) (r : Ranged t) where
           now = elim (decLt (dueOf S i j) n) [ yes p ↦ absurd (c (dueOf S i j) p (missed-iff S (dueOf S i j) .0 (i, j, l, le-refl _, behind (dueOf S i j) d))) | no p ↦ omega arith ]
 
           -- So it is the last one released.
-          last : rel i n ≡ suc j
+          last : releasedBy S i n ≡ suc j
           last = below-is (releaseOf S i) ((jobs S) .rel-grows i l) n j (omega (arith, now, r .each i l .deadline-pos)) (omega (arith, now, r .each i l .deadline-le))
 
           some : 0 < leftOf (st n) i

@@ -4,14 +4,15 @@ use mathlib.Core.Logic.{_⊎_, inl, inr}
 use mathlib.Core.List.{List}
 use mathlib.Core.Bool.{Bool, true, false, cond, _&&_}
 use Prim.Native.Nat.{ℕ, zero, suc, _+_, _-_, _*_, _≤_, _<_, max}
-use native.Mathlib.Nat.{le-refl, le-step, mul-le-mul-left}
+use native.Mathlib.Nat.{le-refl, le-step, mul-le-mul-left, lt-of-not-le}
 use native.Mathlib.Decide.{ℕ-discrete, decLt, decLe}
 use native.Mathlib.Omega.{arith}
 use lib.Dec.{T, ltb, eqb, ltb→lt, lt→ltb, eqb→eq}
 use lib.ListN.{getD, length, set, replicate, length-replicate, length-set}
 use lib.Seq.{getD-set-same, getD-set-other}
+use lib.Arith.{le-zero}
 use Rattle.values.specs.declared.Table.{Table}
-use Rattle.model.specs.Notation.{first, largest}
+use Rattle.model.specs.Notation.{first}
 use Rattle.model.specs.Limits.{taskLimit}
 use Rattle.model.specs.Tasks.{task, horizon}
 use Rattle.model.specs.Run.{tieOrder, owner, Finishes, Worst, firstEmpty}
@@ -19,9 +20,9 @@ use Rattle.model.specs.Verdict.{Worsts}
 use Rattle.model.specs.Dispatcher.{State, waitOf, leftOf}
 use Rattle.model.specs.History.{stateAt, ownerAt}
 use Rattle.counting.specs.Count.{and-iff, eq→eqb}
-use Rattle.counting.specs.Search.{first-eq, le-largest}
+use Rattle.counting.specs.Search.{first-eq}
 use Rattle.counting.specs.Fill.{getD-same}
-use Rattle.counting.specs.Below.{below, lt-below}
+use Rattle.counting.specs.Below.{lt-below}
 use Rattle.wellformed.specs.Ranges.{Ranged}
 use Rattle.backlog.specs.Left.{DoneFirst, served-mono}
 use Rattle.backlog.specs.Criterion.{Met}
@@ -71,7 +72,6 @@ module _ (t : Table) (r : Ranged t) where
   -- What slot n does to its owner.
   record Served (n k : ℕ) : Type 0 where
     job : ℕ
-    last : below (releaseOf S k) (suc n) ≡ suc job
     early : releaseOf S k job ≤ n
     waits : ready t r n k + servedOf S n k ≡ task t k .cost * suc job
     most : ready t r n k ≤ task t k .cost
@@ -88,7 +88,6 @@ module _ (t : Table) (r : Ranged t) where
       let o : owner t (tieOrder t) n ≡ k = sym (owner-agrees t r n a (c n (le-refl (suc n)))) ∙ e in
       record {
         job = j;
-        last = b;
         early = omega (arith, lt-below (releaseOf S k) ((jobs S) .rel-grows k l) (suc n) j .0 (omega arith));
         waits = ready-agrees t r n a (c n (le-refl (suc n))) k l ∙ ap (λ (y : ℕ). task t k .cost * y) b;
         most = released-le t r (st n) false (sound t r quiet n .belongs) k l;
@@ -111,7 +110,7 @@ module _ (t : Table) (r : Ranged t) where
   finishes-now n c i j l (d, f) = go (ℕ-discrete (owner-at n) i)
     where
       not-before : servedOf S n i < task t i .cost * suc j
-      not-before = elim (decLe (task t i .cost * suc j) (servedOf S n i)) [ yes p ↦ absurd (f n (le-refl (suc n)) p) | no p ↦ omega arith ]
+      not-before = lt-of-not-le (f n (le-refl (suc n)))
 
       go : Dec (owner-at n ≡ i) → (owner-at n ≡ i) × (leftOf (st (suc n)) i ≡ 0) × (suc n - releaseOf S i j ≡ task t i .period - waitOf (st (suc n)) i)
       go (no e) = absurd (omega (arith, not-before, others-served S n i (λ q. e (owner-agrees t r n (agrees t r n (λ u m. c u (le-step m))) (c n (le-refl (suc n))) ∙ sym q))))
@@ -127,7 +126,7 @@ module _ (t : Table) (r : Ranged t) where
           ]
 
   -- What the walk has noted of task i before slot n: no response seen is larger, and it is one of them, or none was seen.
-  pub record Seen (n i : ℕ) : Type 0 where
+  pub record Noted (n i : ℕ) : Type 0 where
     pub bound : (j f : ℕ) → DoneFirst (jobs S) (servedOf S) i j f → f ≤ n → f - releaseOf S i j ≤ getD (worstBy t n) i 0
     pub attained : (getD (worstBy t n) i 0 ≡ 0) ⊎ ((j : ℕ) × (f : ℕ) × DoneFirst (jobs S) (servedOf S) i j f × (f - releaseOf S i j ≡ getD (worstBy t n) i 0))
 
@@ -151,21 +150,18 @@ module _ (t : Table) (r : Ranged t) where
           left-open : owner-at n ≡ i → leftOf (st (suc n)) i ≡ 0 → ⊥
           left-open x y = subst T e (and-iff (ltb (owner-at n) (t .count)) (eqb (leftOf (st (suc n)) (owner-at n)) 0) .1 (lt→ltb (owner-at n) (t .count) (omega arith), eq→eqb (leftOf (st (suc n)) (owner-at n)) 0 (rw x y)))
 
-  none-noted : (i : ℕ) → i < t .count → getD (worstBy t 0) i 0 ≡ 0
+  none-noted : (i : ℕ) → getD (worstBy t 0) i 0 ≡ 0
   unfolding worstBy
-  none-noted i l = getD-same taskLimit 0 i
+  none-noted i = getD-same taskLimit 0 i
 
-  pub seen : (n : ℕ) → Clear t n → (i : ℕ) → i < t .count → Seen n i
-  seen zero c i l = record { bound = λ j f d m. (let z : servedOf S f i ≡ 0 = ap (λ (x : ℕ). servedOf S x i) (nought f m) ∙ (model-run S) .start i l in absurd (omega (arith, d .0, r .each i l .cost-pos))); attained = inl (none-noted i l) }
-    where
-      nought : (f : ℕ) → f ≤ 0 → f ≡ 0
-      nought f m = omega arith
+  pub seen : (n : ℕ) → Clear t n → (i : ℕ) → i < t .count → Noted n i
+  seen zero c i l = record { bound = λ j f d m. (let z : servedOf S f i ≡ 0 = ap (λ (x : ℕ). servedOf S x i) (le-zero m) ∙ (model-run S) .start i l in absurd (omega (arith, d .0, r .each i l .cost-pos))); attained = inl (none-noted i) }
   seen (suc n) c i l = go (notes n i l) (seen n (λ u m. c u (le-step m)) i l)
     where
       now : (f : ℕ) → f ≤ suc n → ¬ (f ≤ n) → f ≡ suc n
       now f m p = omega arith
 
-      go : Noting n i → Seen n i → Seen (suc n) i
+      go : Noting n i → Noted n i → Noted (suc n) i
       go (noting q z e) s = record {
         bound = λ j f d m. elim (decLe f n) [
           | yes p ↦ omega (arith, e, s .bound j f d p)
@@ -187,7 +183,7 @@ module _ (t : Table) (r : Ranged t) where
   -- Past the last task nothing is noted.
   none-past : (n i : ℕ) → t .count ≤ i → getD (worstBy t n) i 0 ≡ 0
   unfolding worstBy
-  none-past zero i l = getD-same taskLimit 0 i
+  none-past zero i l = none-noted i
   none-past (suc n) i l = go (finishing t n) refl (none-past n i l)
     where
       go : (b : Bool) → finishing t n ≡ b → getD (worstBy t n) i 0 ≡ 0 → getD (worstBy t (suc n)) i 0 ≡ 0
@@ -204,7 +200,7 @@ module _ (t : Table) (r : Ranged t) where
     past = λ i l. none-past (horizon t) i l;
   }
     where
-      worst : (i : ℕ) → i < t .count → Seen (horizon t) i → Worst t (tieOrder t) i (getD (worstBy t (horizon t)) i 0)
+      worst : (i : ℕ) → i < t .count → Noted (horizon t) i → Worst t (tieOrder t) i (getD (worstBy t (horizon t)) i 0)
       worst i l s = go (s .attained)
         where
           first-job : (f : ℕ) × Finishes t (tieOrder t) i 0 f × (releaseOf S i 0 < f) × (f ≤ dueOf S i 0)
@@ -214,8 +210,7 @@ module _ (t : Table) (r : Ranged t) where
           go (inr (j, f, d, e)) = worst-is S met i l (tieCycle t r) light _ j f (finishes-iff S i j f l .1 d) e (λ j f d m. s .bound j f (finishes-iff S i j f l .0 d) (omega (arith, horizon-is t r _ (tie-ranks t))))
           go (inl z) =
               let (f, d, a, b) = first-job in
-              let o : task t i .offset ≤ largest (t .count) (λ k. task t k .offset) = le-largest (t .count) (λ k. task t k .offset) i l in
-              let h : f ≤ horizon t = omega (arith, horizon-is t r _ (tie-ranks t), r .each i l .deadline-le, period-le-round S (tieCycle t r) i l) in
+              let h : f ≤ horizon t = omega (arith, horizon-is t r _ (tie-ranks t), r .each i l .deadline-le, period-le-round S (tieCycle t r) i l, tieCycle t r .starts i l) in
               absurd (omega (arith, s .bound 0 f (finishes-iff S i 0 f l .0 d) h))
 
   -- THE FIRST EMPTY SLOT by a walk: with no late deadline before the horizon the dispatcher's empty slots are the run's.

@@ -2,12 +2,12 @@
 use mathlib.Core.Path.{_≡_, refl, ap}
 use Prim.Native.Nat.{ℕ, suc, _+_, _-_, _*_, _≤_, _<_}
 use native.Mathlib.Nat.{le-refl, mul-le-mul-right, le-mul-of-pos-right, sub-add-cancel}
-use native.Mathlib.Decide.{decLt, decLe}
+use native.Mathlib.Decide.{decLe}
 use native.Mathlib.Omega.{arith}
 use Rattle.model.specs.Tasks.{task}
 use Rattle.values.specs.declared.Table.{Table}
 use Rattle.model.specs.Run.{Order, Finishes, Worst}
-use Rattle.counting.specs.Search.{strong, least-unique, greatest}
+use Rattle.counting.specs.Search.{strong, least-unique, greatest, least-le}
 use Rattle.backlog.specs.Streams.{Run}
 use Rattle.backlog.specs.Left.{DoneFirst, finish, served-mono}
 use Rattle.backlog.specs.Criterion.{Met, finishes}
@@ -35,7 +35,7 @@ module _ (S : System) (Y : Cycle S) (light : Light S Y) (s : ℕ → ℕ → ℕ
         where
           -- A finish after the horizon is of a release after one round less.
           far : horizonOf S Y < f → Y .start + Y .round < releaseOf S i j
-          far h = elim (decLe f (dueOf S i j)) [ yes p ↦ omega (arith, S .deadline-le i l, period-le-round S Y i l) | no p ↦ absurd (d .1 (dueOf S i j) (omega arith) (met i j l)) ]
+          far h = omega (arith, least-le _ f (dueOf S i j) d (met i j l), S .deadline-le i l, period-le-round S Y i l)
 
           late-number : Y .start + Y .round < releaseOf S i j → Dec (Y .times i ≤ j) → Y .times i ≤ j
           late-number h (yes p) = p
@@ -51,7 +51,7 @@ module _ (S : System) (Y : Cycle S) (light : Light S Y) (s : ℕ → ℕ → ℕ
               at (g, q, a, b) = elim (decLe (Y .start + Y .round) g) [ yes p ↦ down p | no p ↦ absurd (early p) ]
                 where
                   j-done : (u : ℕ) → costOf S i * suc (k + Y .times i) ≤ s u i → f ≤ u
-                  j-done u x = elim (decLt u f) [ yes p ↦ absurd (d .1 u p (rw e at x)) | no p ↦ omega arith ]
+                  j-done u x = least-le _ f u d (rw e at x)
 
                   down : Y .start + Y .round ≤ g → Seen j f
                   down p =

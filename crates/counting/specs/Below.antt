@@ -1,9 +1,9 @@
--- How many j have f j < x, for an f that grows; closed forms; one round later.
+-- How many j have f j < x, for an f that grows; closed forms; an f that repeats.
 use mathlib.Core.Path.{_≡_, refl}
 use mathlib.Core.Logic.{_⊎_, inl, inr, _≢_, _↔_}
 use mathlib.Core.Bool.{_&&_}
 use Prim.Native.Nat.{ℕ, zero, suc, _+_, _-_, _*_, _/_, _≤_, _<_, min}
-use native.Mathlib.Nat.{le-refl, le-div-iff-mul-le}
+use native.Mathlib.Nat.{le-refl, le-div-iff-mul-le, mul-le-mul-left, div-lt-iff-lt-mul}
 use native.Mathlib.Decide.{decLt, le-ind}
 use native.Mathlib.Omega.{arith}
 use lib.Dec.{leb, ltb}
@@ -22,7 +22,7 @@ module _ (f : ℕ → ℕ) (g : Grows f) where
   pub grows-mono : (i j : ℕ) → i ≤ j → f i ≤ f j
   grows-mono i j h = le-ind (λ (m : ℕ). f i ≤ f m) (le-refl (f i)) (λ m l ih. omega (arith, g m)) j h
 
-  pub grows-ge : (j : ℕ) → j ≤ f j
+  grows-ge : (j : ℕ) → j ≤ f j
   grows-ge zero = omega arith
   grows-ge (suc j) = omega (arith, grows-ge j, g j)
 
@@ -66,8 +66,15 @@ module _ (f : ℕ → ℕ) (g : Grows f) where
   pub below-mono : (x y : ℕ) → x ≤ y → below f x ≤ below f y
   below-mono x y h = below-most x (below f y) (λ j l. lt-below y j .1 (omega arith))
 
-  pub below-bound : (x : ℕ) → below f x ≤ x
-  below-bound x = below-most x x (λ j l. omega (arith, grows-ge j))
+  -- With c for each of them: all for j is there where f j is below x, and more than s where f is at the j that s is at.
+  pub work-le : (c x j : ℕ) → f j < x → c * suc j ≤ c * below f x
+  work-le c x j l = mul-le-mul-left c (lt-below x j .1 l)
+
+  pub work-lt : (c x s : ℕ) → 0 < c → (s < c * below f x) ↔ (f (s / c) < x)
+  work-lt c x s pos = (
+    λ h. lt-below x (s / c) .0 (div-lt-iff-lt-mul pos .1 (omega arith)),
+    λ h. omega (arith, div-lt-iff-lt-mul pos .0 (lt-below x (s / c) .1 h)),
+  )
 
   -- The first that is not below x.
   pub below-next : (x : ℕ) → x ≤ f (below f x)
@@ -97,7 +104,7 @@ pub below-below : (f g : ℕ → ℕ) → Grows f → Grows g → (x y : ℕ) �
 below-below f g p q x y h = below-most f p x (below g y) (λ j l. lt-below g q y j .1 (h j l))
 
 -- How many of the first m have x ≤ f j and g j ≤ y.
-pub count-between : (f g : ℕ → ℕ) → Grows f → Grows g → (x y m : ℕ) → count (λ j. leb x (f j) && leb (g j) y) m ≡ min (below g (suc y)) m - below f x
+count-between : (f g : ℕ → ℕ) → Grows f → Grows g → (x y m : ℕ) → count (λ j. leb x (f j) && leb (g j) y) m ≡ min (below g (suc y)) m - below f x
 count-between f g p q x y m = count-from _ (below f x) (below g (suc y)) m (λ j l. (
   λ t.
       let h = simp and-iff at t in

@@ -1,5 +1,5 @@
 -- Laws of a set of numbers as bits: `bits p n` has bit k set for each k below n that passes.
-use mathlib.Core.Path.{_≡_, refl, sym, ap, _∙_}
+use mathlib.Core.Path.{_≡_, refl, _∙_}
 use mathlib.Core.Bool.{Bool, true, false}
 use Prim.Native.Nat.{ℕ, zero, suc, _+_, _*_, _/_, _%_, _^_, _≤_, _<_}
 use native.Mathlib.Nat.{add-comm, pow-suc, le-refl, le-step}
@@ -75,10 +75,6 @@ bits-past p n m h = le-ind (λ (k : ℕ). NoneFrom p n k → bits p k ≡ bits p
     go : (k : ℕ) (b : Bool) → (T b → ⊥) → bits p k ≡ bits p n → bits p k + bit b * 2 ^ k ≡ bits p n
     go k true x e = absurd (x tt)
     go k false x e = omega arith
-
--- Numbers that do not pass add nothing to the count.
-pub count-past : (p : ℕ → Bool) (n m : ℕ) → n ≤ m → NoneFrom p n m → count p m ≡ count p n
-count-past p n m h f = sym (ones-bits p m) ∙ ap ones (bits-past p n m h f) ∙ ones-bits p n
 
 -- Two tests that agree below n have the same members.
 pub bits-eq : (p q : ℕ → Bool) (n : ℕ) → ((i : ℕ) → i < n → p i ≡ q i) → bits p n ≡ bits q n

@@ -17,6 +17,14 @@ pub and-iff : (a b : Bool) → T (a && b) ↔ (T a × T b)
 and-iff true b = (λ t. (tt, t), λ h. h .1)
 and-iff false b = (λ t. absurd t, λ h. h .0)
 
+-- One of two tests that holds is enough.
+pub or-left : (a b : Bool) → T a → T (a || b)
+or-left true b h = tt
+
+pub or-right : (a b : Bool) → T b → T (a || b)
+or-right true b h = tt
+or-right false b h = h
+
 -- A test that holds is true, and one that does not is false.
 pub is-true : (b : Bool) → T b → b ≡ true
 is-true true x = refl
@@ -66,6 +74,11 @@ bit-add false false r x f g = zero-le
 bit-le : (p q : Bool) → (T p → T q) → bit p ≤ bit q
 bit-le p q h = omega (arith, bit-add p false q (λ x y. y) h (λ x. absurd x))
 
+-- A test in front.
+pub bit-and : (c p q r : Bool) → bit p + bit q ≤ bit r → bit (c && p) + bit (c && q) ≤ bit (c && r)
+bit-and true p q r h = h
+bit-and false p q r h = omega arith
+
 -- A test that gives another is passed no more often.
 pub count-le : (p q : ℕ → Bool) (n : ℕ) → ((j : ℕ) → j < n → T (p j) → T (q j)) → count p n ≤ count q n
 unfolding count
@@ -89,6 +102,9 @@ count-from p a b (suc n) h =
       | yes x ↦ elim (decLt n b) [ yes y ↦ omega (arith, bit-yes (p n) (e .1 (x, y))) | no y ↦ omega (arith, bit-no (p n) (λ t. y (e .0 t .1))) ]
       | no x ↦ omega (arith, bit-no (p n) (λ t. x (e .0 t .0)))
     ]
+
+pub count-none : (p : ℕ → Bool) (n : ℕ) → ((j : ℕ) → j < n → T (p j) → ⊥) → count p n ≡ 0
+count-none p n h = omega (arith, count-from p 0 0 n (λ j l. (λ x. absurd (h j l x), λ (a, b). absurd (omega arith))))
 
 -- More numbers to look at, and so no fewer that pass.
 pub count-more : (p : ℕ → Bool) (a b : ℕ) → a ≤ b → count p a ≤ count p b

@@ -21,6 +21,10 @@ NoneFrom p n i = (k : ℕ) → n ≤ k → k < i → T (p k) → ⊥
 pub none-up : (p : ℕ → Bool) (n i : ℕ) → NoneFrom p n i → (T (p i) → ⊥) → NoneFrom p n (i + 1)
 none-up p n i all here k a b = below-more (λ k. n ≤ k → T (p k) → ⊥) i (λ k l m. all k m l) (λ m. here) k b a
 
+-- A fact of all below n, and of n, is a fact of all up to n.
+pub below-suc : (P : ℕ → Type 0) (n : ℕ) → ((i : ℕ) → i < n → P i) → P n → (i : ℕ) → i < suc n → P i
+below-suc P n f x i l = below-more P n f x i (omega arith)
+
 -- What the outcome k of a search among the m numbers from n on has to be.
 record IsFirst (p : ℕ → Bool) (n m k : ℕ) : Type 0 where
   from : n ≤ k
@@ -195,11 +199,10 @@ least P d (suc t) h = go (d 0) (least (λ k. P (suc k)) (λ k. d (suc k)) t h)
 pub least-iff : (P Q : ℕ → Type 0) → ((t : ℕ) → P t ↔ Q t) → (t : ℕ) → Least P t ↔ Least Q t
 least-iff P Q e t = (λ (p, f). (e t .0 p, λ u l q. f u l (e u .1 q)), λ (q, f). (e t .1 q, λ u l p. f u l (e u .0 p)))
 
+-- Where a property holds first is at most where it holds.
+pub least-le : (P : ℕ → Type 0) (t u : ℕ) → Least P t → P u → t ≤ u
+least-le P t u a h = elim (decLt u t) [ yes l ↦ absurd (a .1 u l h) | no l ↦ omega arith ]
+
 -- No property holds first at two numbers.
 pub least-unique : (P : ℕ → Type 0) (t u : ℕ) → Least P t → Least P u → t ≡ u
-least-unique P t u a b = go (decLt t u) (decLt u t)
-  where
-    go : Dec (t < u) → Dec (u < t) → t ≡ u
-    go (yes x) y = absurd (b .1 t x (a .0))
-    go (no x) (yes y) = absurd (a .1 u y (b .0))
-    go (no x) (no y) = omega arith
+least-unique P t u a b = omega (arith, least-le P t u a (b .0), least-le P u t b (a .0))

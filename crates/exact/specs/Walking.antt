@@ -6,7 +6,7 @@ use mathlib.Core.Bool.{Bool, true, false, cond}
 use Prim.Native.Nat.{ℕ, suc, _+_, _-_, _≤_, _<_, min}
 use native.Mathlib.Nat.{le-refl, le-step}
 use native.Mathlib.Numerals.{add-one}
-use native.Mathlib.Decide.{decLt, ℕ-discrete}
+use native.Mathlib.Decide.{decLt}
 use native.Mathlib.Omega.{arith}
 use borrow.Author.Tests.{lt-ltb, le-ltb}
 use lib.Dec.{T, ltb, eqb, eqb→eq}
@@ -25,7 +25,7 @@ use Rattle.model.specs.Verdict.{needed, lateStart, verdict, emptyIn, Worsts, An
 use Rattle.model.specs.Dispatcher.{State, startOf, waitOf, isLate, leftLate, ownerNow, after}
 use Rattle.model.specs.History.{stateAt, ownerAt}
 use Rattle.counting.specs.Count.{is-false, eq→eqb, decT}
-use Rattle.counting.specs.Search.{NoneFrom, first-le, first-longer, first-is, first-none, first-before, none-up}
+use Rattle.counting.specs.Search.{NoneFrom, first-le, first-longer, first-is, first-none, first-before, none-up, below-suc}
 use Rattle.wellformed.specs.Ranges.{Ranged}
 use Rattle.wellformed.specs.WellFormed.{WellFormed, well-formed}
 use Rattle.backlog.specs.Decided.{too-much-iff}
@@ -77,10 +77,7 @@ module _ (t : Table) (r : Ranged t) (n : ℕ) where
   ]
 
   clear-more : Clear t n → ((i : ℕ) → i < t .count → T (seen i) → ⊥) → Clear t (suc n)
-  clear-more c none u l h = elim (ℕ-discrete u n) [
-    | no q ↦ c u (omega arith) h
-    | yes q ↦ (let (i, m, x) = late-iff t r n c .1 (subst (λ (v : ℕ). T (lateAt t v)) q h) in none i m (subst T (sym (same-late i)) x))
-  ]
+  clear-more c none = below-suc (λ u. T (lateAt t u) → ⊥) n c (λ h. let (i, m, x) = late-iff t r n c .1 h in none i m (subst T (sym (same-late i)) x))
 
   late-found : Clear t n → (i : ℕ) × (i < t .count) × T (seen i) → T (lateAt t n)
   late-found c h = let (i, l, x) = h in late-iff t r n c .0 (i, l, subst T (same-late i) x)

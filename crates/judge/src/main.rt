@@ -1,9 +1,9 @@
 // The judge: reads a table file from standard input, and prints the report on it or the line that names its refusal.
 ghost use mathlib.Core.Path.{_≡_};
-ghost use Prim.Native.Nat.{_≤_};
+ghost use Prim.Native.Nat.{suc, _≤_};
 ghost use lib.ListN.{length, take};
 ghost use Rattle.io.specs.Counts.{Counts};
-ghost use Rattle.model.specs.Limits.{taskLimit, reportBytes};
+ghost use Rattle.model.specs.Limits.{taskLimit, reportBytes, longestFile};
 ghost use Rattle.model.specs.Report.{written, outcomeTold, refusalLine, Printed};
 ghost use Rattle.report.specs.Put.{exported};
 use libc::STDIN_FILENO;
@@ -47,10 +47,18 @@ fn judge(input: &[u8], output: &mut [u8]) -> usize
     }
 }
 
+// What is read into has room for one byte more than the longest legal file has, so that a longer one is seen to be.
+fn read_input(input: &mut [u8]) -> usize
+    requires { ⌜ length (now input) ≡ suc longestFile ⌝ }
+    ensures { λ r. ⌜ Counts r (now (input .exit)) ⌝ }
+{
+    io::read_full(STDIN_FILENO, input)
+}
+
 fn main() {
     let mut input = [0u8; INPUT_BYTES];
     let mut output = [0u8; REPORT_BYTES];
-    let read = io::read_full(STDIN_FILENO, &mut input);
+    let read = read_input(&mut input);
     let printed = judge(&input[..read], &mut output);
     io::write_all(STDOUT_FILENO, &output[..printed]);
 }

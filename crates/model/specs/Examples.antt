@@ -4,7 +4,7 @@ use mathlib.Core.List.{List, [], _∷_, _++_, map}
 use mathlib.Core.Bool.{Bool, true, false}
 use Prim.Native.Nat.{ℕ, zero, suc, _-_, _/_, _%_}
 use lib.ListN.{length, replicate}
-use Rattle.model.specs.Values.{Task, Table, Measure, Judgement, Verdict, Outcome, Empty, Admission, Given, refusal, verdictSaid}
+use Rattle.model.specs.Values.{Task, Table, Measure, Judgement, Verdict, Outcome, Empty, Admission, Given, refusal, verdictSaid, judgementSaid, admissionSaid, givenSaid, emptySaid}
 use Rattle.model.specs.Notation.{sum, largest, count, first, last, bits, fill, text, digits, decimal}
 use Rattle.model.specs.Limits.{taskLimit, longestFile}
 use Rattle.model.specs.Tasks.{taskFault, firstFaulty, round, load, horizon, measure, judgedBy, judged}
@@ -148,6 +148,19 @@ settled = refl
 -- The numbers of the verdicts, and what is told with them.
 said : map verdictSaid (Verdict.Overload ∷ Verdict.Undecided ∷ Verdict.Late 0 7 9 ∷ Verdict.Passes ∷ []) ≡ (1 ∷ []) ∷ (2 ∷ []) ∷ (3 ∷ 0 ∷ 7 ∷ 9 ∷ []) ∷ (4 ∷ []) ∷ []
 said = refl
+
+said-table : map judgementSaid (Judgement.Refused (refusal 5 1) ∷ Judgement.WellFormed (record { round = 15; load = 11; horizon = 38 }) ∷ []) ≡ (5 ∷ 1 ∷ []) ∷ (0 ∷ 15 ∷ 11 ∷ 38 ∷ []) ∷ []
+said-table = refl
+
+said-file : map admissionSaid (Admission.Refused (refusal 21 9) ∷ Admission.Admitted ∷ []) ≡ (21 ∷ 9 ∷ []) ∷ (0 ∷ []) ∷ []
+said-file = refl
+
+-- The second step on f: none, with task 1 closed late.
+said-step : map givenSaid (Given.Refused (refusal 8 16) ∷ Given.Slot (record { owner = 16; late = 2; closed = 1; lowest = 1 }) ∷ []) ≡ (8 ∷ 16 ∷ []) ∷ (0 ∷ 16 ∷ 2 ∷ 1 ∷ 1 ∷ []) ∷ []
+said-step = refl
+
+said-empty : map emptySaid (Empty.Slot 2 ∷ Empty.Nowhere ∷ []) ≡ (2 ∷ []) ∷ [] ∷ []
+said-empty = refl
 
 -- A budget equal to the needed count suffices, and one slot less does not; overload needs none.
 budgets :

@@ -47,10 +47,14 @@ run t rank u = let k = owner t rank u in cond (ltb k (t .count)) (job k (current
 unfoldable pub Finishes : Table → Order → ℕ → ℕ → ℕ → Type 0
 Finishes t rank i j = Least (λ u. task t i .cost ≤ given (run t rank) i j 0 u)
 
+-- The response of job j of task i, if it finishes at f: finish minus release.
+abbrev pub response : Table → ℕ → ℕ → ℕ → ℕ
+response t i j f = f - release (task t i) j
+
 -- The worst response of task i: some job of it has this response, and no job has a larger one, for ever.
 pub record Worst (t : Table) (rank : Order) (i w : ℕ) : Type 0 where
-  pub attained : (j : ℕ) × (f : ℕ) × Finishes t rank i j f × (f - release (task t i) j ≡ w)
-  pub bound : (j f : ℕ) → Finishes t rank i j f → f - release (task t i) j ≤ w
+  pub attained : (j : ℕ) × (f : ℕ) × Finishes t rank i j f × (response t i j f ≡ w)
+  pub bound : (j f : ℕ) → Finishes t rank i j f → response t i j f ≤ w
 
 -- The first empty slot of the run before the horizon, or the horizon.
 unfoldable pub firstEmpty : Table → Order → ℕ

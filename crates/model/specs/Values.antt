@@ -21,6 +21,11 @@ verdictSaid Verdict.Undecided = 2 ∷ []
 verdictSaid (Verdict.Late from to demand) = 3 ∷ from ∷ to ∷ demand ∷ []
 verdictSaid Verdict.Passes = 4 ∷ []
 
+-- The first empty slot of a pass: the slot, or nothing where there is none.
+abbrev pub emptySaid : Empty → List ℕ
+emptySaid (Empty.Slot u) = u ∷ []
+emptySaid Empty.Nowhere = []
+
 -- A refusal: its number and its place.
 abbrev pub refusal : ℕ → ℕ → Refusal
 refusal n p = record { number = n; place = p }

@@ -24,16 +24,17 @@ use Rattle.values.specs.declared.Answer.{Answer}
 use Rattle.values.specs.declared.Loaded.{Loaded}
 use Rattle.model.specs.Limits.{taskLimit, slotLimit, roundLimit, reportBytes, budgetBytes, taskBytes, longestFile}
 use Rattle.model.specs.Values.{refusal, refusalSaid, judgementSaid, admissionSaid, givenSaid}
-use Rattle.model.specs.Tasks.{task, round, measure, judged}
+use Rattle.model.specs.Tasks.{task, round, measure, judged, load, horizon}
 use Rattle.model.specs.Verdict.{verdict, brief, Permitted}
 use Rattle.model.specs.TableFile.{admit, formOf, loadedFrom}
 use Rattle.model.specs.Dispatcher as model
-use Rattle.model.specs.Dispatcher.{State, firstStrange, lastStrange, turn, after, stepJudged, started, stepped}
+use Rattle.model.specs.Dispatcher.{State, firstStrange, lastStrange, turn, after, stepJudged, started, stepped, isLate, ownerNow}
 use Rattle.dispatch.specs.declared.Dispatcher.{Dispatcher}
 use Rattle.dispatch.specs.declared.Started.{Started}
 use Rattle.dispatch.specs.declared.Stepped.{Stepped}
 use Rattle.dispatch.specs.State.{stateOf, startedOf, steppedOf, one-started, one-stepped}
 use Rattle.model.specs.Report.{reportOf, Exported, refused, written, outcomeTold, FileTold, Checked, refusalLine, Printed}
+use Rattle.model.specs.Notation.{count, first, bits}
 use Rattle.wellformed.specs.Ranges.{InRange, Ranged}
 use Rattle.wellformed.specs.Round.{round-pos, period-divides, round-least}
 use Rattle.wellformed.specs.WellFormed.{judged-iff}
@@ -88,6 +89,10 @@ well-formed-exactly t m = (fwd, λ (keeps, h, same). judged-iff t m .1 (ranged-o
     fwd e =
         let (r, h, same) = judged-iff t m .0 e in
         ((r .some, r .few, λ i l. let k = r .each i l in (k .period-pos, k .period-le, k .deadline-pos, k .deadline-le, k .cost-pos, k .cost-le, k .offset-le)), h, same)
+
+-- Its judge then says 0 with H, load and horizon.
+pub well-formed-said : (t : Table) (m : Measure) → judged t ≡ Judgement.WellFormed m → judgementSaid (judged t) ≡ 0 ∷ round t ∷ load t ∷ horizon t ∷ []
+well-formed-said t m e = let (r, h, same) = judged-iff t m .0 e in rw (e, same) refl
 
 -- H of a table that keeps its ranges, refused by 7 or not, is the least number above 0 that each period divides.
 pub round-is-least : (t : Table) → KeepsRanges t → (0 < round t) × ((i : ℕ) → i < t .count → task t i .period ∣ round t) × ((x : ℕ) → 0 < x → ((i : ℕ) → i < t .count → task t i .period ∣ x) → round t ≤ x)
@@ -175,7 +180,7 @@ one-print input out out′ = told-once refusalLine (λ s. s) (loadedFrom input) 
 pub some-print : (input : List ℕ) → (out : List ℕ) × Printed input out
 some-print input = told-some refusalLine (λ s. s) (loadedFrom input) (loadedFrom input .admission)
 
--- It reads one byte more than the longest legal file has, and what it prints of these is permitted of the whole input.
+-- What it prints of one byte more than the longest legal file has is permitted of the whole input.
 pub whole-input : (input out : List ℕ) → Printed (take (suc longestFile) input) out → Printed input out
 whole-input input out = subst (λ (l : Loaded). FileTold refusalLine (λ s. s) l out (l .admission)) (first-bytes input)
 
@@ -191,7 +196,15 @@ read-exactly file = (λ h. let (same, well) = admitted file h in (ap (λ (l : Lo
 pub read-as-formed : (file : List ℕ) → loadedFrom file .admission ≡ Admission.Admitted → loadedFrom file ≡ formOf file
 read-as-formed file h = admitted file h .0
 
--- What the plain writer `fileOf` writes of any budget of eight bytes and of at most 16 tasks, each number below 2^32, is read as these.
+-- A file that is read, and a start on a well-formed table, say 0.
+pub read-said : (file : List ℕ) (m : Measure) → formOf file .admission ≡ Admission.Admitted → judged (formOf file .table) ≡ Judgement.WellFormed m → admissionSaid (loadedFrom file .admission) ≡ 0 ∷ []
+read-said file m good well = ap admissionSaid (read-exactly file .1 (good, (m, well)))
+
+pub started-said : (t : Table) (m : Measure) → judged t ≡ Judgement.WellFormed m → admissionSaid (started t .admission) ≡ 0 ∷ []
+unfolding started
+started-said t m well = rw well refl
+
+-- What the plain writer `fileOf` writes of any budget of eight bytes and of at most 16 tasks, each number below 2^32, has a good form and holds these.
 pub written-is-read : (b : ℕ) (ks : List Task) → b < budgetLimit → AllFit ks → length ks ≤ taskLimit → formOf (fileOf b ks) ≡ admit b ks
 written-is-read = written-read
 
@@ -257,6 +270,12 @@ strange-last t m d done well h last = rw (well, le-ltb (firstStrange t d) (t .co
 pub taken-state : (t : Table) (m : Measure) (d : State) (done : Bool) → judged t ≡ Judgement.WellFormed m → t .count ≤ firstStrange t d → lastStrange t d ≡ false → stepped t d done ≡ record { given = Given.Slot (turn t d done); state = after t d done }
 unfolding stepped
 taken-state t m d done well h last = rw (well, le-ltb (firstStrange t d) (t .count) h, last) refl
+
+-- The answer is then 0 with the owner, the tasks closed late as a set of bits, how many, and the lowest of them or 16.
+pub taken-said : (t : Table) (m : Measure) (d : State) (done : Bool) → judged t ≡ Judgement.WellFormed m → t .count ≤ firstStrange t d → lastStrange t d ≡ false
+    → givenSaid (stepped t d done .given) ≡ 0 ∷ ownerNow t d done ∷ bits (isLate t d done) taskLimit ∷ count (isLate t d done) taskLimit ∷ first (isLate t d done) 0 taskLimit ∷ []
+unfolding turn
+taken-said t m d done well h last = rw (taken-state t m d done well h last) refl
 
 -- And it leads to one that is taken, whoever made it: once a step is not refused, none after it is. A state has 16 entries in each list.
 pub taken-next : (t : Table) (m : Measure) (d : State) (done : Bool) → judged t ≡ Judgement.WellFormed m

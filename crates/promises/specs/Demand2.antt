@@ -4,8 +4,10 @@
 use mathlib.Core.Path.{_≡_, refl, sym, ap, subst, _∙_}
 use native.Mathlib.Omega.{arith}
 use mathlib.Core.Logic.{_↔_, _⊎_, _≢_}
+use mathlib.Core.Bool.{Bool, true, false, cond}
+use mathlib.Core.List.{[], _∷_}
 use Prim.Native.Nat.{ℕ, _≤_, _<_}
-use lib.Dec.{T}
+use lib.Dec.{T, ltb}
 use lib.ListN.{getD}
 use Rattle.values.specs.declared.Table.{Table}
 use Rattle.values.specs.declared.Measure.{Measure}
@@ -13,12 +15,13 @@ use Rattle.values.specs.declared.Judgement.{Judgement}
 use Rattle.values.specs.declared.Verdict.{Verdict}
 use Rattle.values.specs.declared.Outcome.{Outcome}
 use Rattle.values.specs.declared.Answer.{Answer}
+use Rattle.values.specs.declared.Empty.{Empty}
 use Rattle.model.specs.Notation.{Least}
-use Rattle.model.specs.Values.{verdictSaid, outcomeSaid}
+use Rattle.model.specs.Values.{verdictSaid, outcomeSaid, emptySaid}
 use Rattle.model.specs.Tasks.{task, release, due, round, load, horizon, judged}
 use Rattle.model.specs.Demand.{demand, asksTooMuch, lateAt}
 use Rattle.model.specs.Schedule.{none, job, Schedule, given, Good}
-use Rattle.model.specs.Run.{tieOrder, run}
+use Rattle.model.specs.Run.{tieOrder, run, firstEmpty}
 use Rattle.model.specs.Verdict.{needed, lateStart, verdict, settledBy, emptyIn, Worsts, Answers, PermittedBy, Permitted}
 use Rattle.wellformed.specs.WellFormed.{well-formed}
 use Rattle.backlog.specs.Decided.{sufficient}
@@ -131,6 +134,14 @@ judged-passed t budget a (Judgement.WellFormed m) h o = answered t budget m a (v
 pub passed-exactly : (t : Table) (budget : ℕ) (a : Answer) → Permitted t budget a → a .outcome ≡ Outcome.Tested Verdict.Passes → (verdict t budget ≡ Verdict.Passes) × Worsts t (a .worst) × (a .empty ≡ emptyIn t)
 unfolding Permitted
 passed-exactly t budget a = judged-passed t budget a (judged t)
+
+-- It is said as that slot, if one lies before the horizon, and else as nothing.
+pub empty-said : (t : Table) (budget : ℕ) (a : Answer) → Permitted t budget a → a .outcome ≡ Outcome.Tested Verdict.Passes → let u = firstEmpty t (tieOrder t) in emptySaid (a .empty) ≡ cond (ltb u (horizon t)) (u ∷ []) []
+empty-said t budget a p o = rw (passed-exactly t budget a p o .2) (go (ltb (firstEmpty t (tieOrder t)) (horizon t)))
+  where
+    go : (b : Bool) → emptySaid (cond b (Empty.Slot (firstEmpty t (tieOrder t))) Empty.Nowhere) ≡ cond b (firstEmpty t (tieOrder t) ∷ []) []
+    go true = refl
+    go false = refl
 
 -- A worst response is at least 1 and at most the deadline.
 pub worst-by-deadline : (t : Table) (m : Measure) → judged t ≡ Judgement.WellFormed m → (budget : ℕ) (a : Answer) → Permitted t budget a → a .outcome ≡ Outcome.Tested Verdict.Passes → (i : ℕ) → i < t .count → (0 < getD (a .worst) i 0) × (getD (a .worst) i 0 ≤ task t i .deadline)

@@ -7,6 +7,7 @@ use native.Mathlib.Decide.{decLt}
 use native.Mathlib.Omega.{arith}
 use borrow.Author.Tests.{lt-ltb, le-ltb}
 use lib.ListN.{length, getD, getD-replicate}
+use lib.Dec.{T}
 use Rattle.values.specs.declared.Table.{Table}
 use Rattle.values.specs.declared.Measure.{Measure}
 use Rattle.values.specs.declared.Judgement.{Judgement}
@@ -18,13 +19,14 @@ use Rattle.model.specs.Tasks.{round, load, horizon, judged}
 use Rattle.model.specs.Run.{tieOrder, firstEmpty}
 use Rattle.model.specs.Verdict.{needed, lateStart, verdict, settledBy, emptyIn, Worsts, brief, Answers, PermittedBy, Permitted}
 use Rattle.model.specs.Report.{reportOf}
+use Rattle.model.specs.Demand.{lateAt}
 use Rattle.counting.specs.Sum.{sum-bound}
 use Rattle.wellformed.specs.Round.{share, share-le}
 use Rattle.wellformed.specs.Refused.{Tellable, JudgementTellable, judged-tellable}
 use Rattle.wellformed.specs.WellFormed.{horizonLimit, WellFormed, well-formed}
 use Rattle.wellformed.specs.Demand.{demand-le}
 use Rattle.backlog.specs.Decided.{too-much-iff}
-use Rattle.backlog.specs.Verdicts.{Late, lateVerdict, needed-le, start-asks, Case, overload, undecided, late, passed, the-case}
+use Rattle.backlog.specs.Verdicts.{lateVerdict, needed-le, start-asks, Case, overload, undecided, late, passed, the-case}
 use Rattle.backlog.specs.Answers.{met-of-passed, answers-say}
 use Rattle.backlog.specs.TableSystem.{tie-ranks, tieSystem}
 use Rattle.backlog.specs.Worst.{worst-range}
@@ -45,7 +47,7 @@ module _ (t : Table) (m : Measure) (well : WellFormed t m) where
         mul-le-mul {m₁ = round t} {n₂ = taskLimit} {m₂ = horizonLimit} (r .few) (omega (arith, well .offset-le 0 (r .some), well .horizon-le)),
       )
 
-  late-wide : Late t (needed t) → VerdictWide (lateVerdict t (needed t))
+  late-wide : T (lateAt t (needed t)) → VerdictWide (lateVerdict t (needed t))
   late-wide h =
       let n = needed-le t in
       let (a, b) = too-much-iff t (lateStart t (needed t)) (needed t) .0 (start-asks t (needed t) h) in

@@ -34,13 +34,13 @@ module _ (t : Table) (r : Ranged t) (done : ℕ → Bool) where
   wait-small : (n i : ℕ) → getD (stateAt t done n .wait) i 0 < wordLimit
   wait-small n i = elim (decLt i (t .count)) [
     | yes l ↦ omega (arith, known t (stateAt t done n) (sound t r done n .belongs) i l .wait-le, r .each i l .offset-le, r .each i l .period-le)
-    | no l ↦ omega (arith, past-none t r done n i (omega arith) .0)
+    | no l ↦ omega (arith, past-none t done n i (omega arith) .0)
   ]
 
   left-small : (n i : ℕ) → getD (stateAt t done n .left) i 0 < wordLimit
   left-small n i = elim (decLt i (t .count)) [
     | yes l ↦ omega (arith, known t (stateAt t done n) (sound t r done n .belongs) i l .left-le, r .each i l .cost-le, r .each i l .deadline-le, r .each i l .period-le)
-    | no l ↦ omega (arith, past-none t r done n i (omega arith) .1)
+    | no l ↦ omega (arith, past-none t done n i (omega arith) .1)
   ]
 
   last-small : (n : ℕ) → stateAt t done n .last < wordLimit

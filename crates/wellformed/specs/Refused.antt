@@ -24,7 +24,7 @@ abbrev pub JudgementTellable : Judgement → Type 0
 JudgementTellable (Judgement.Refused r) = Tellable r
 JudgementTellable (Judgement.WellFormed m) = Unit
 
--- The fault of the first faulty task is one.
+-- The number of the first faulty task's fault is above 0.
 fault-pos : (t : Table) → firstFaulty t < t .count → 0 < taskFault (task t (firstFaulty t))
 unfolding firstFaulty
 fault-pos t l = pos-of-ne-zero (λ e. unmarked _ e (first-passes (faulty t) 0 (t .count) (omega arith)))
