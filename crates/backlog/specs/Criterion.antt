@@ -22,11 +22,11 @@ pub record Dues (J : Jobs) : Type 0 where
   pub rel-due : (i j : ℕ) → i < J .n → J .rel i j < due i j
   pub due-grows : (i : ℕ) → i < J .n → Grows (due i)
 
--- Each job is due before the next of its stream is released.
+-- Each job is due by the time the next of its stream is released.
 abbrev pub Constrained : (J : Jobs) → Dues J → Type 0
 Constrained J D = (i j : ℕ) → i < J .n → D .due i j ≤ J .rel i (suc j)
 
--- The work of the jobs that are released at or after t1 and due at or before t2.
+-- The jobs that are released at or after t1 and due at or before t2, and their work.
 abbrev pub inInterval : (J : Jobs) → Dues J → ℕ → ℕ → ℕ → ℕ
 inInterval J D t1 t2 i = count (λ j. leb t1 (J .rel i j) && leb (D .due i j) t2) t2
 
@@ -74,20 +74,8 @@ module _ (J : Jobs) (D : Dues J) where
           omega (arith, count-inside (J .rel i) (D .due i) (J .rel-grows i l) (D .due-grows i l) (λ j. D .rel-due i j l) t1 t2, cls-le i t2 l, le-cls i t2 l) in
           rw (e, mul-sub) (omega arith)
 
-module _ (J : Jobs) (D : Dues J) (s : ℕ → ℕ → ℕ) (R : Run J s) where
-  left-of-over : (t : ℕ) → Over J D t → 0 < left J s (D .cut t) t
-  left-of-over t (u, l, h) =
-      let k = D .cut t in
-      let a : arrivals J k t ≡ total J D t = sum-eq (J .n) _ _ (λ i l. omega (arith, work-released J D i t l)) in
-      omega (arith, sum-backlog (arrive J k) u t (omega arith), left-is J s R k t, arrived J k t, arrived J k u, demand-is J D u t)
-
-  over-of-left : (t : ℕ) → 0 < left J s (D .cut t) t → Over J D t
-  over-of-left t h =
-      let k = D .cut t in
-      let (u, b) = busy-from (arrive J k) t (omega (arith, left-is J s R k t)) in
-      let a : arrivals J k t ≤ total J D t = sum-le (J .n) _ _ (λ i l. omega arith) in
-      (u, b .early, omega (arith, b .exact, left-is J s R k t, arrived J k t, arrived J k u, demand-is J D u t))
-
+module _ (J : Jobs) (D : Dues J) (s : ℕ → ℕ → ℕ) where
+  -- Something is late exactly if work is left up to the cut, whatever was served.
   pub late-of-left : (t : ℕ) → 0 < left J s (D .cut t) t → Late J D s t
   unfolding left
   late-of-left t h =
@@ -103,11 +91,25 @@ module _ (J : Jobs) (D : Dues J) (s : ℕ → ℕ → ℕ) (R : Run J s) where
     where
       go : (left J s (D .cut t) t ≡ 0) ⊎ (0 < left J s (D .cut t) t) → 0 < left J s (D .cut t) t
       go (inr p) = p
-      go (inl e) = absurd (omega (arith, done-of-none-left J s R (D .cut t) t i j l (D .cut-law i j t l .1 d) (omega (arith, D .rel-due i j l)) e))
+      go (inl e) = absurd (omega (arith, done-of-none-left J s (D .cut t) t i j l (D .cut-law i j t l .1 d) (omega (arith, D .rel-due i j l)) e))
+
+module _ (J : Jobs) (D : Dues J) (s : ℕ → ℕ → ℕ) (R : Run J s) where
+  left-of-over : (t : ℕ) → Over J D t → 0 < left J s (D .cut t) t
+  left-of-over t (u, l, h) =
+      let k = D .cut t in
+      let a : arrivals J k t ≡ total J D t = sum-eq (J .n) _ _ (λ i l. omega (arith, work-released J D i t l)) in
+      omega (arith, sum-backlog (arrive J k) u t (omega arith), left-is J s R k t, arrived J k t, arrived J k u, demand-is J D u t)
+
+  over-of-left : (t : ℕ) → 0 < left J s (D .cut t) t → Over J D t
+  over-of-left t h =
+      let k = D .cut t in
+      let (u, b) = busy-from (arrive J k) t (omega (arith, left-is J s R k t)) in
+      let a : arrivals J k t ≤ total J D t = sum-le (J .n) _ _ (λ i l. omega arith) in
+      (u, b .early, omega (arith, b .exact, left-is J s R k t, arrived J k t, arrived J k u, demand-is J D u t))
 
   -- At each instant: some job due by t is not done at t, exactly if some interval that ends at t asks too much.
   pub late-iff-over : (t : ℕ) → Late J D s t ↔ Over J D t
-  late-iff-over t = (λ h. over-of-left t (left-of-late t h), λ h. late-of-left t (left-of-over t h))
+  late-iff-over t = (λ h. over-of-left t (left-of-late J D s t h), λ h. late-of-left J D s t (left-of-over t h))
 
   -- The run meets every deadline exactly if no interval asks too much.
   pub criterion :

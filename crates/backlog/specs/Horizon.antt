@@ -20,7 +20,7 @@ module _ (S : System) (Y : Cycle S) (light : Light S Y) (s : ℕ → ℕ → ℕ
   late-down : (t : ℕ) → Y .start + Y .round ≤ t → LateBy (t + Y .round) → LateBy t
   late-down t h p =
       let e : (dues S) .cut (t + Y .round) ≡ (dues S) .cut t + size S * Y .round = omega arith in
-      late-of-left (jobs S) (dues S) s R t (omega (arith, left-down S Y s R light ((dues S) .cut t) t h, left-of-late (jobs S) (dues S) s R (t + Y .round) p, ap (λ (x : ℕ). left (jobs S) s x (t + Y .round)) e))
+      late-of-left (jobs S) (dues S) s t (omega (arith, left-down S Y s R light ((dues S) .cut t) t h, left-of-late (jobs S) (dues S) s (t + Y .round) p, ap (λ (x : ℕ). left (jobs S) s x (t + Y .round)) e))
 
   late-soon : (t : ℕ) → LateBy t → (u : ℕ) × (u ≤ horizonOf S Y) × LateBy u
   late-soon = strong {P = λ t. LateBy t → (u : ℕ) × (u ≤ horizonOf S Y) × LateBy u} step

@@ -16,6 +16,22 @@ use Rattle.backlog.specs.Streams.{Jobs, released, work, keyAt, SlotOf, R
 merge : (w r r' s : ℕ) → s ≤ r → r ≤ r' → min w r' - min s w ≡ (min w r - min s w) + (min w r' - min w r)
 merge w r r' s h k = omega arith
 
+module _ (J : Jobs) (s : ℕ → ℕ → ℕ) where
+  left-start : (κ : ℕ) → left J s κ 0 ≡ 0
+  unfolding left
+  left-start κ = sum-zero (J .n) _ (λ i l. rw (below-none (J .rel i)) (omega arith))
+
+  -- With no work left up to a key, every released job up to that key is done.
+  pub done-of-none-left : (κ t i j : ℕ) → i < J .n → J .key i j ≤ κ → J .rel i j < t → left J s κ t ≡ 0 → J .cost i * suc j ≤ s t i
+  unfolding left
+  done-of-none-left κ t i j l k r e =
+      omega (
+        arith,
+        sum-member (J .n) (leftOf J κ t (s t)) i l,
+        work-le (J .key i) (J .key-grows i l) (J .cost i) (suc κ) j (omega arith),
+        work-le (J .rel i) (J .rel-grows i l) (J .cost i) t j r,
+      )
+
 module _ (J : Jobs) (s : ℕ → ℕ → ℕ) (R : Run J s) where
   -- No more is served than is released.
   pub served-le : (t i : ℕ) → i < J .n → s t i ≤ released J t i
@@ -69,26 +85,11 @@ module _ (J : Jobs) (s : ℕ → ℕ → ℕ) (R : Run J s) where
               let w : work J κ k ≤ s t k = elim (decLt (s t k) (work J κ k)) [ yes h ↦ absurd (p (in-class J κ k (d .bound) (s t k) .0 h)) | no h ↦ omega arith ] in
               none-due (λ i l. over p i l (decLt _ _) (decLt _ _)) (λ i l. same w i l (ℕ-discrete i k))
 
-  left-start : (κ : ℕ) → left J s κ 0 ≡ 0
-  unfolding left
-  left-start κ = sum-zero (J .n) _ (λ i l. rw (below-none (J .rel i)) (omega arith))
-
   -- THE KEY LEMMA: the class work that is left is the backlog of the class arrivals. It depends on the releases alone.
   pub left-is : (κ t : ℕ) → left J s κ t ≡ backlog (arrive J κ) t
   unfolding backlog
-  left-is κ zero = left-start κ
+  left-is κ zero = left-start J s κ
   left-is κ (suc t) = rw (← left-is κ t) (left-step κ t)
-
-  -- With no work left up to a key, every released job up to that key is done.
-  pub done-of-none-left : (κ t i j : ℕ) → i < J .n → J .key i j ≤ κ → J .rel i j < t → left J s κ t ≡ 0 → J .cost i * suc j ≤ s t i
-  unfolding left
-  done-of-none-left κ t i j l k r e =
-      omega (
-        arith,
-        sum-member (J .n) (leftOf J κ t (s t)) i l,
-        work-le (J .key i) (J .key-grows i l) (J .cost i) (suc κ) j (omega arith),
-        work-le (J .rel i) (J .rel-grows i l) (J .cost i) t j r,
-      )
 
   -- And in the slot that finishes a job, no work is left up to its key.
   none-left-of-done : (t i j : ℕ) → i < J .n → s t i < J .cost i * suc j → J .cost i * suc j ≤ s (suc t) i → left J s (J .key i j) (suc t) ≡ 0
@@ -143,7 +144,7 @@ module _ (J : Jobs) (s : ℕ → ℕ → ℕ) (R : Run J s) (i j : ℕ) (l : i <
   NoneLeft t = (J .rel i j < t) × (left J s (J .key i j) t ≡ 0)
 
   done-of-left : (t : ℕ) → NoneLeft t → Done t
-  done-of-left t (r, e) = done-of-none-left J s R (J .key i j) t i j l (le-refl _) r e
+  done-of-left t (r, e) = done-of-none-left J s (J .key i j) t i j l (le-refl _) r e
 
   left-of-first : (t : ℕ) → Least Done t → NoneLeft t
   left-of-first zero (d, f) = absurd (omega (arith, R .start i l, mul-pos (J .cost-pos i l) (zero-lt-suc j)))

@@ -1,4 +1,4 @@
--- ONE QUEUE: work arrives in each slot, and each slot takes one unit away. A backlog began in a busy period, in which exactly that much arrived.
+-- ONE QUEUE: work arrives in each slot, and each slot takes one unit away. A backlog began in a busy period, in which it arrived, and one unit more for each slot.
 use mathlib.Core.Path.{_≡_}
 use mathlib.Core.Logic.{_⊎_, inl, inr}
 use Prim.Native.Nat.{ℕ, zero, suc, _+_, _-_, _≤_, _<_}
@@ -21,7 +21,7 @@ sum-backlog a s (suc t) h = go (le-suc-iff .0 h) (sum-backlog a s t)
     go (inl l) ih = omega (arith, ih l)
     go (inr e) ih = rw e (omega arith)
 
--- A backlog at t began at some s with none, and in every slot from there to t there was one: from s to t exactly that much arrived.
+-- A backlog at t began at some s with none, and in every slot from there to t there was one: from s to t it arrived, and one unit more for each slot.
 pub record Busy (a : ℕ → ℕ) (t s : ℕ) : Type 0 where
   pub early : s < t
   pub empty : backlog a s ≡ 0

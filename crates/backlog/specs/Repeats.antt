@@ -1,4 +1,4 @@
--- THE STATE REPEATS: from one round after the start on, every job is as far as its twin a round later will be.
+-- THE STATE REPEATS: without overload, from one round after the start on, every job is as far as its twin a round later will be.
 use mathlib.Core.Path.{_≡_, refl, sym, ap, _∙_}
 use mathlib.Core.Logic.{_≢_, _↔_}
 use Prim.Native.Nat.{ℕ, zero, suc, _+_, _-_, _*_, _≤_, _<_, min}
@@ -51,19 +51,19 @@ module _ (J : Jobs) (s : ℕ → ℕ → ℕ) where
   rest-done : (t i j : ℕ) → i < J .n → (restOf J s t i j ≡ 0) ↔ (J .cost i * suc j ≤ s t i)
   rest-done t i j l = (λ e. omega (arith, J .cost-pos i l), λ h. omega arith)
 
-module _ (S : System) (Y : Cycle S) (light : Light S Y) (s : ℕ → ℕ → ℕ) (R : Run (jobs S) s) where
-  key-pos : (i j : ℕ) → i < size S → 0 < keyOf S i j
-  key-pos i j l = omega (arith, mul-pos (due-pos i j l) (some-task S l))
-    where
-      due-pos : (i j : ℕ) → i < size S → 0 < dueOf S i j
-      due-pos i j l = omega (arith, S .deadline-pos i l)
+key-pos : (S : System) (i j : ℕ) → i < size S → 0 < keyOf S i j
+key-pos S i j l = omega (arith, mul-pos (due-pos i j l) (some-task S l))
+  where
+    due-pos : (i j : ℕ) → i < size S → 0 < dueOf S i j
+    due-pos i j l = omega (arith, S .deadline-pos i l)
 
+module _ (S : System) (Y : Cycle S) (light : Light S Y) (s : ℕ → ℕ → ℕ) (R : Run (jobs S) s) where
   -- What is left of a job, from one round after the start on, is left of its twin a round later.
   pub repeats : (t i j : ℕ) → i < size S → Y .start + Y .round ≤ t → releaseOf S i j < t → restOf (jobs S) s t i j ≡ restOf (jobs S) s (t + Y .round) i (j + Y .times i)
   repeats t i j l h r = go (keyOf S i j) refl
     where
       go : (k : ℕ) → keyOf S i j ≡ k → restOf (jobs S) s t i j ≡ restOf (jobs S) s (t + Y .round) i (j + Y .times i)
-      go zero e = absurd (omega (arith, key-pos i j l))
+      go zero e = absurd (omega (arith, key-pos S i j l))
       go (suc κ) e =
           let f : suc (κ + size S * Y .round) ≡ keyOf S i (j + Y .times i) = omega (arith, key-later S Y i l j) in
           let k : left (jobs S) s (keyOf S i (j + Y .times i)) (t + Y .round) ≡ left (jobs S) s (keyOf S i j + size S * Y .round) (t + Y .round) = ap (λ (x : ℕ). left (jobs S) s x (t + Y .round)) (key-later S Y i l j) in

@@ -3,7 +3,7 @@ use mathlib.Core.Path.{_≡_, refl, sym, ap, _∙_}
 use mathlib.Core.Logic.{_⊎_, inl, inr, _≢_, _↔_}
 use mathlib.Core.Bool.{false, _&&_}
 use Prim.Native.Nat.{ℕ, zero, suc, _+_, _-_, _*_, _/_, _≤_, _<_, min}
-use native.Mathlib.Nat.{div-mul-le-self, lt-mul-div-succ, div-lt-iff-lt-mul, mul-comm, mul-le-mul-right, mul-le-mul-left}
+use native.Mathlib.Nat.{lt-mul-div-succ, div-lt-iff-lt-mul, mul-le-mul-right, mul-le-mul-left, mul-div-le}
 use native.Mathlib.Decide.{ℕ-discrete, decLt}
 use native.Mathlib.Omega.{arith}
 use borrow.Author.Tests.{lt-ltb, le-ltb, eq-eqb, ne-eqb}
@@ -24,7 +24,7 @@ more : (c s j : ℕ) → 0 < c → min c (s + 1 - c * j) ≡ min c (s - c * j) +
 more c s j pos = go (ℕ-discrete (s / c) j)
   where
     low : c * (s / c) ≤ s
-    low = omega (arith, div-mul-le-self s c, mul-comm c (s / c))
+    low = mul-div-le s c
 
     high : s < c * suc (s / c)
     high = omega (arith, lt-mul-div-succ s pos)

@@ -1,4 +1,4 @@
--- ONE ROUND LATER as much is left, up to a key that is a round later: no less ever, and no more from one round after the start on.
+-- ONE ROUND LATER as much is left, up to a key that is a round later: no less ever, and without overload no more from one round after the start on.
 use mathlib.Core.Path.{_≡_, sym, ap, subst}
 use mathlib.Core.Logic.{_⊎_, inl, inr}
 use Prim.Native.Nat.{ℕ, suc, _+_, _-_, _*_, _≤_, _<_, min}
@@ -7,7 +7,7 @@ use native.Mathlib.Decide.{decLe}
 use native.Mathlib.Omega.{arith}
 use Rattle.model.specs.Notation.{sum}
 use Rattle.counting.specs.Sum.{sum-add, sum-le-add}
-use Rattle.counting.specs.Below.{below, below-mono, below-later, below-later-le, below-later-or}
+use Rattle.counting.specs.Below.{below, below-later, below-later-le, below-later-or}
 use Rattle.backlog.specs.Queue.{sum-backlog, busy-from, Busy}
 use Rattle.backlog.specs.Streams.{Jobs, Run, released, work, left, arrive, released-mono, arrivals, arrived}
 use Rattle.backlog.specs.Left.{left-is}
@@ -34,20 +34,20 @@ abbrev pub Light : (S : System) → Cycle S → Type 0
 Light S Y = loadOf S Y ≤ Y .round
 
 -- For one task: w the class work and w' that of the later class, r and r' what is released, u and u' what was earlier, m the work of a round.
-up : (w w' m r r' u u' : ℕ) → (w ≡ 0) ⊎ (w' ≡ w + m) → w' ≤ w + m → w ≤ w' → (r ≡ 0) ⊎ (r' ≡ r + m) → u ≤ r → u' ≤ u + m → u' ≤ r' → min w r + min w' u' ≤ min w' r' + min w u
-up w w' m r r' u u' a b c d e f g = go a d
+up : (w w' m r r' u u' : ℕ) → (w ≡ 0) ⊎ (w' ≡ w + m) → (r ≡ 0) ⊎ (r' ≡ r + m) → u' ≤ u + m → u' ≤ r' → min w r + min w' u' ≤ min w' r' + min w u
+up w w' m r r' u u' a d f g = go a d
   where
     go : (w ≡ 0) ⊎ (w' ≡ w + m) → (r ≡ 0) ⊎ (r' ≡ r + m) → min w r + min w' u' ≤ min w' r' + min w u
     go (inl x) y = omega arith
     go (inr x) (inl y) = omega arith
     go (inr x) (inr y) = omega arith
 
-down : (w w' m r r' u u' : ℕ) → (w ≡ 0) ⊎ (w' ≡ w + m) → w' ≤ w + m → r' ≡ r + m → u' ≡ u + m → u ≤ r → min w' r' + min w u ≤ min w r + min w' u'
-down w w' m r r' u u' (inl x) b c d e = omega arith
-down w w' m r r' u u' (inr x) b c d e = omega arith
+down : (w w' m r r' u u' : ℕ) → (w ≡ 0) ⊎ (w' ≡ w + m) → w' ≤ w + m → r' ≡ r + m → u' ≡ u + m → min w' r' + min w u ≤ min w r + min w' u'
+down w w' m r r' u u' (inl x) b c d = omega arith
+down w w' m r r' u u' (inr x) b c d = omega arith
 
-across : (w w' m r r' u : ℕ) → w' ≤ w + m → w ≤ w' → r' ≤ r + m → u ≤ r → min w' r' + min w u ≤ (min w r + min w' u) + m
-across w w' m r r' u a b c d = omega arith
+across : (w w' m r r' u : ℕ) → w' ≤ w + m → r' ≤ r + m → u ≤ r → min w' r' + min w u ≤ (min w r + min w' u) + m
+across w w' m r r' u a c d = omega arith
 
 -- None, or m more one round later: so the work of them too.
 scaled : (c m : ℕ) {a b : ℕ} → (a ≡ 0) ⊎ (b ≡ a + m) → (c * a ≡ 0) ⊎ (c * b ≡ c * a + c * m)
@@ -71,9 +71,6 @@ module _ (S : System) (Y : Cycle S) where
   pub key-later : (i : ℕ) → i < size S → (j : ℕ) → keyOf S i (j + Y .times i) ≡ keyOf S i j + size S * Y .round
   key-later i l j = omega (arith, ap (λ (x : ℕ). size S * x) (Y .common i l))
 
-  class-mono : (i κ : ℕ) → i < size S → work J κ i ≤ work J (κ + size S * Y .round) i
-  class-mono i κ l = mul-le-mul-left (costOf S i) (below-mono (keyOf S i) (J .key-grows i l) (suc κ) (suc (κ + size S * Y .round)) (omega arith))
-
   class-later-le : (i κ : ℕ) → i < size S → work J (κ + size S * Y .round) i ≤ work J κ i + costOf S i * Y .times i
   class-later-le i κ l = omega (arith, mul-le-mul-left (costOf S i) (subst (λ (x : ℕ). below (keyOf S i) x ≤ below (keyOf S i) (suc κ) + Y .times i) (suc-add κ (size S * Y .round)) (below-later-le (keyOf S i) (J .key-grows i l) (Y .times i) (size S * Y .round) (key-later i l) (suc κ))))
 
@@ -91,14 +88,14 @@ module _ (S : System) (Y : Cycle S) where
   rel-later i t l = scaled (costOf S i) (Y .times i) (below-later-or (releaseOf S i) (J .rel-grows i l) (Y .times i) (Y .round) (release-later i l) t)
 
   arr-up : (κ t u : ℕ) → u ≤ t → arrivals J κ t + arrivals J (κ + size S * Y .round) (u + Y .round) ≤ arrivals J (κ + size S * Y .round) (t + Y .round) + arrivals J κ u
-  arr-up κ t u h = sum-le-add (size S) _ _ _ _ (λ i l. up _ _ _ _ _ _ _ (class-later i κ l) (class-later-le i κ l) (class-mono i κ l) (rel-later i t l) (released-mono J i l u t h) (rel-later-le i u l) (released-mono J i l (u + Y .round) (t + Y .round) (omega arith)))
+  arr-up κ t u h = sum-le-add (size S) _ _ _ _ (λ i l. up _ _ _ _ _ _ _ (class-later i κ l) (rel-later i t l) (rel-later-le i u l) (released-mono J i l (u + Y .round) (t + Y .round) (omega arith)))
 
   arr-down : (κ t u : ℕ) → u ≤ t → Y .start ≤ u → arrivals J (κ + size S * Y .round) (t + Y .round) + arrivals J κ u ≤ arrivals J κ t + arrivals J (κ + size S * Y .round) (u + Y .round)
-  arr-down κ t u h f = sum-le-add (size S) _ _ _ _ (λ i l. down _ _ _ _ _ _ _ (class-later i κ l) (class-later-le i κ l) (rel-later-from i t l (omega (arith, Y .starts i l))) (rel-later-from i u l (omega (arith, Y .starts i l))) (released-mono J i l u t h))
+  arr-down κ t u h f = sum-le-add (size S) _ _ _ _ (λ i l. down _ _ _ _ _ _ _ (class-later i κ l) (class-later-le i κ l) (rel-later-from i t l (omega (arith, Y .starts i l))) (rel-later-from i u l (omega (arith, Y .starts i l))))
 
   arr-across : Light S Y → (κ t u : ℕ) → u ≤ t → arrivals J (κ + size S * Y .round) (t + Y .round) + arrivals J κ u ≤ (arrivals J κ t + arrivals J (κ + size S * Y .round) u) + Y .round
   unfolding loadOf
-  arr-across light κ t u h = omega (arith, light, sum-add (size S) (λ i. min (work J κ i) (released J t i)) (λ i. min (work J (κ + size S * Y .round) i) (released J u i)), sum-le-add (size S) _ _ _ _ (λ i l. across _ _ _ _ _ _ (class-later-le i κ l) (class-mono i κ l) (rel-later-le i t l) (released-mono J i l u t h)))
+  arr-across light κ t u h = omega (arith, light, sum-add (size S) (λ i. min (work J κ i) (released J t i)) (λ i. min (work J (κ + size S * Y .round) i) (released J u i)), sum-le-add (size S) _ _ _ _ (λ i l. across _ _ _ _ _ _ (class-later-le i κ l) (rel-later-le i t l) (released-mono J i l u t h)))
 
 -- The backlog of a busy period is at most that of another interval, if no more arrives in it, but for the slots that it is longer.
 compare : (J : Jobs) (s : ℕ → ℕ → ℕ) → Run J s → (κ κ' t t' u u' : ℕ) → Busy (arrive J κ) t u → u' ≤ t'

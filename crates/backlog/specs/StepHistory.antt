@@ -94,7 +94,7 @@ module _ (t : Table) (r : Ranged t) (done : ℕ → Bool) where
       kept n i l none (inl (k, f)) = absurd (none k (f .now))
       kept n i l none (inr k) = elim (k .left) [
         | inl e ↦ inl (e .0)
-        | inr e ↦ inr (e .0, elim (e .1) [ inl x ↦ inl x | inr x ↦ inr (let (p, (j, e, b)) = late-is t r done n i (sound t r done n) l x in (j, e)) ])
+        | inr e ↦ inr (e .0, elim (e .1) [ inl x ↦ inl x | inr x ↦ inr (let (p, (j, e, b)) = late-is t r done n i (sound t r done n) x in (j, e)) ])
       ]
 
       spent : (n i : ℕ) → i < t .count → Dec (ownerAt t done n ≡ i) → ready n i ≡ open' (suc n) i + gave n i
@@ -208,7 +208,7 @@ module _ (t : Table) (r : Ranged t) (done : ℕ → Bool) where
     none-closed : (n i : ℕ) → T (isLate t (stateAt t done n) (done n) i) → ⊥
     none-closed n i h =
         let l : i < t .count = ltb→lt i (t .count) (and-iff (ltb i (t .count)) _ .0 h .0) in
-        let (p, (j, e, b)) = late-is t r done n i (sound t r done n) l h in
+        let (p, (j, e, b)) = late-is t r done n i (sound t r done n) h in
         omega (arith, nothing-left i j l, ap (λ (m : ℕ). open' m i) e)
 
     -- EVERY JOB IN TIME: by its worst response each job had its whole cost, or was reported done.

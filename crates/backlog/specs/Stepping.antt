@@ -1,4 +1,4 @@
--- The dispatcher's states from a start on: a wait tells the next release, an open job is the last releasedBy S and not past its deadline, and no step is refused.
+-- The dispatcher's states from a start on: a wait tells the next release, an open job is the last released and not past its deadline, and no step is refused.
 use mathlib.Core.Path.{_≡_, ap, _∙_}
 use mathlib.Core.Logic.{_⊎_, inl, inr, _≢_}
 use mathlib.Core.Bool.{Bool, cond}
@@ -63,9 +63,9 @@ module _ (t : Table) (r : Ranged t) (done : ℕ → Bool) where
           inr (record { none = none; passed = c; waited = omega arith; wait = rw (ne-eqb (waitOf (before n) i) 0 w); left = rw (ne-eqb (waitOf (before n) i) 0 w) (kept-or-closed t (before n) (done n) i) })
 
   -- A job closed as late is at its deadline, and has slots left.
-  pub late-is : (n i : ℕ) → Sound n → i < t .count → T (isLate t (before n) (done n) i) → (0 < leftOf (before n) i) × ((j : ℕ) × (dueOf S i j ≡ n) × (releasedBy S i n ≡ suc j))
-  late-is n i s l h =
-      let (m, p, w) = closed-late-iff t (before n) (done n) i .0 h in
+  pub late-is : (n i : ℕ) → Sound n → T (isLate t (before n) (done n) i) → (0 < leftOf (before n) i) × ((j : ℕ) × (dueOf S i j ≡ n) × (releasedBy S i n ≡ suc j))
+  late-is n i s h =
+      let (l, p, w) = closed-late-iff t (before n) (done n) i .0 h in
       let some : 0 < leftOf (before n) i = omega (arith, left-done-le t (before n) (done n) i) in
       let (j, b, d) = s .current i l some in
       (some, (j, omega (arith, s .next i l, ap (releaseOf S i) b, r .each i l .deadline-le), b))

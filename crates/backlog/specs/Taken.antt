@@ -126,6 +126,16 @@ module _ (t : Table) where
   pub owner-one : (d : State) (done : Bool) → t .count ≤ taskLimit → (ownerNow t d done ≡ taskLimit) ⊎ (ownerNow t d done < t .count)
   owner-one d done few = elim (chosen d done few) [ inl c ↦ inl (c .none) | inr c ↦ inr (c .bound) ]
 
+  -- No job has more slots left than its cost.
+  pub released-le : (d : State) (done : Bool) → Belongs d → (i : ℕ) → i < t .count → leftReleased t d done i ≤ task t i .cost
+  released-le d done belongs i l = go (eqb (waitOf d i) 0) (isLate t d done i) (done && eqb (d .last) i)
+    where
+      go : (a b c : Bool) → cond a (task t i .cost) (cond b 0 (cond c 0 (leftOf d i))) ≤ task t i .cost
+      go true b c = omega arith
+      go false true c = omega arith
+      go false false true = omega arith
+      go false false false = known d belongs i l .left-le
+
   -- At the start no job is open.
   pub left-start : (i : ℕ) → leftOf (startOf t) i ≡ 0
   unfolding startOf
@@ -148,16 +158,6 @@ module _ (t : Table) where
     }
 
     module _ (d : State) (done : Bool) (b : Belongs d) where
-      -- No job has more slots left than its cost.
-      pub released-le : (i : ℕ) → i < t .count → leftReleased t d done i ≤ task t i .cost
-      released-le i l = go (eqb (waitOf d i) 0) (isLate t d done i) (done && eqb (d .last) i)
-        where
-          go : (a b c : Bool) → cond a (task t i .cost) (cond b 0 (cond c 0 (leftOf d i))) ≤ task t i .cost
-          go true b c = omega arith
-          go false true c = omega arith
-          go false false true = omega arith
-          go false false false = known d b i l .left-le
-
       pub wait-after : (i : ℕ) → i < t .count → waitOf (after t d done) i ≡ waitReleased t d done i - 1
       unfolding after
       wait-after i l = fill-passed (t .count) (λ i. waitReleased t d done i - 1) (d .wait) i 0 l (omega (arith, b .waits, r .few))
@@ -170,7 +170,7 @@ module _ (t : Table) where
       ordinary-after i l = go (ℕ-discrete (waitOf d i) 0)
         where
           left-le : leftOf (after t d done) i ≤ task t i .cost
-          left-le = omega (arith, left-after i l, released-le i l)
+          left-le = omega (arith, left-after i l, released-le d done b i l)
 
           go : Dec (waitOf d i ≡ 0) → Ordinary (after t d done) i
           go (yes e) =

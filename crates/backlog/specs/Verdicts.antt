@@ -132,7 +132,7 @@ module _ (t : Table) where
       go v n (late g b l) e = let z : _≡_ {A = ℕ} 0 1 = cc in absurd (omega arith)
       go v n (passed g b l) e = let z : _≡_ {A = ℕ} 0 1 = cc in absurd (omega arith)
 
-  -- A LONGER BUDGET alters no verdict but undecided, and no settled count.
+  -- A LONGER BUDGET alters no verdict but undecided, nor the settled count of another.
   pub longer : (budget more : ℕ) → budget ≤ more → verdict t budget ≢ Verdict.Undecided → (verdict t more ≡ verdict t budget) × (settledBy t more ≡ settledBy t budget)
   longer budget more l h = go (verdict t budget) (settledBy t budget) (the-case budget) h
     where

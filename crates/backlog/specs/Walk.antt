@@ -54,10 +54,10 @@ module _ (t : Table) (r : Ranged t) where
   -- A job closed as late means a late deadline.
   late-missed : (n : ℕ) → Agrees n → (i : ℕ) → i < t .count → T (isLate t (st n) false i) → T (lateAt t n)
   late-missed n a i l h =
-      let (p, (j, e, b)) = late-is t r quiet n i (sound t r quiet n) l h in
+      let (p, (j, e, b)) = late-is t r quiet n i (sound t r quiet n) h in
       missed-iff S n .0 (i, j, l, omega arith, undone-iff S i j n l .1 (omega (arith, a i l, ap (λ (y : ℕ). task t i .cost * y) b)))
 
-  -- So it is after the releases of slot n.
+  -- Agreement before slot n gives it after the releases of slot n.
   pub ready-agrees : (n : ℕ) → Agrees n → (T (lateAt t n) → ⊥) → (i : ℕ) → i < t .count → ready n i + servedOf S n i ≡ task t i .cost * releasedBy S i (suc n)
   ready-agrees n a never i l = go (finds t r quiet n i (sound t r quiet n) l)
     where
@@ -87,7 +87,7 @@ module _ (t : Table) (r : Ranged t) where
       → dueOf S i (servedOf S n i / task t i .cost) ≡ n + (waitReleased t (st n) false i - (task t i .period - task t i .deadline))
   at-job n a never i l p =
       let (j, b, e, d) = ready-is t r quiet n i (sound t r quiet n) l p in
-      let q : servedOf S n i / task t i .cost ≡ j = div-eq-of-lt-le (task t i .cost) (omega (arith, ready-agrees n a never i l, released-le t r (st n) false (sound t r quiet n .belongs) i l, ap (λ (y : ℕ). task t i .cost * y) b)) (omega (arith, ready-agrees n a never i l, ap (λ (y : ℕ). task t i .cost * y) b)) in
+      let q : servedOf S n i / task t i .cost ≡ j = div-eq-of-lt-le (task t i .cost) (omega (arith, ready-agrees n a never i l, released-le t (st n) false (sound t r quiet n .belongs) i l, ap (λ (y : ℕ). task t i .cost * y) b)) (omega (arith, ready-agrees n a never i l, ap (λ (y : ℕ). task t i .cost * y) b)) in
       ap (dueOf S i) q ∙ e
 
   -- The dispatcher gives the slot to the task that the run gives it to.

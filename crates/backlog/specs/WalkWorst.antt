@@ -90,7 +90,7 @@ module _ (t : Table) (r : Ranged t) where
         job = j;
         early = omega (arith, lt-below (releaseOf S k) ((jobs S) .rel-grows k l) (suc n) j .0 (omega arith));
         waits = ready-agrees t r n a (c n (le-refl (suc n))) k l ∙ ap (λ (y : ℕ). task t k .cost * y) b;
-        most = released-le t r (st n) false (sound t r quiet n .belongs) k l;
+        most = released-le t (st n) false (sound t r quiet n .belongs) k l;
         some = p;
         one = rw o at (owner-served S n (omega arith));
         left = agrees t r (suc n) c k l ∙ ap (λ (y : ℕ). task t k .cost * y) b;

@@ -70,26 +70,20 @@ bit-add false true true x f g = omega arith
 bit-add false true false x f g = absurd (g tt)
 bit-add false false r x f g = zero-le
 
--- A test that gives another counts no more.
-bit-le : (p q : Bool) → (T p → T q) → bit p ≤ bit q
-bit-le p q h = omega (arith, bit-add p false q (λ x y. y) h (λ x. absurd x))
-
 -- A test in front.
 pub bit-and : (c p q r : Bool) → bit p + bit q ≤ bit r → bit (c && p) + bit (c && q) ≤ bit (c && r)
 bit-and true p q r h = h
 bit-and false p q r h = omega arith
-
--- A test that gives another is passed no more often.
-pub count-le : (p q : ℕ → Bool) (n : ℕ) → ((j : ℕ) → j < n → T (p j) → T (q j)) → count p n ≤ count q n
-unfolding count
-count-le p q zero h = zero-le
-count-le p q (suc n) h = omega (arith, bit-le (p n) (q n) (h n (omega arith)), count-le p q n (λ j l. h j (omega arith)))
 
 -- Two tests that together count no more than a third.
 pub count-add : (p q r : ℕ → Bool) (n : ℕ) → ((j : ℕ) → j < n → bit (p j) + bit (q j) ≤ bit (r j)) → count p n + count q n ≤ count r n
 unfolding count
 count-add p q r zero h = omega arith
 count-add p q r (suc n) h = omega (arith, h n (omega arith), count-add p q r n (λ j l. h j (omega arith)))
+
+-- A test that gives another is passed no more often.
+pub count-le : (p q : ℕ → Bool) (n : ℕ) → ((j : ℕ) → j < n → T (p j) → T (q j)) → count p n ≤ count q n
+count-le p q n h = omega (arith, count-add p (λ j. false) q n (λ j l. bit-add (p j) false (q j) (λ x y. y) (h j l) (λ x. absurd x)))
 
 -- A test that the numbers from a up to b pass, and no others: below n it is passed min b n - a times.
 pub count-from : (p : ℕ → Bool) (a b n : ℕ) → ((j : ℕ) → j < n → T (p j) ↔ ((a ≤ j) × (j < b))) → count p n ≡ min b n - a
@@ -111,14 +105,12 @@ pub count-more : (p : ℕ → Bool) (a b : ℕ) → a ≤ b → count p a ≤ co
 unfolding count
 count-more p a b h = le-ind (λ (m : ℕ). count p a ≤ count p m) (omega arith) (λ m l ih. omega arith) b h
 
--- No more numbers pass than are looked at, and if all pass just as many.
-pub count-bound : (p : ℕ → Bool) (n : ℕ) → count p n ≤ n
-unfolding count
-count-bound p zero = zero-le
-count-bound p (suc n) = omega (arith, count-bound p n, bit-le (p n) true (λ t. tt))
-
+-- If all pass, as many pass as are looked at, and never more.
 pub count-all : (p : ℕ → Bool) (n : ℕ) → ((j : ℕ) → j < n → T (p j)) → count p n ≡ n
 count-all p n h = omega (arith, count-from p 0 n n (λ j l. (λ x. (zero-le, l), λ x. h j l)))
+
+pub count-bound : (p : ℕ → Bool) (n : ℕ) → count p n ≤ n
+count-bound p n = omega (arith, count-le p (λ j. true) n (λ j l x. tt), count-all (λ j. true) n (λ j l. tt))
 
 -- Some number below n passes; every one does.
 pub some-iff : (p : ℕ → Bool) (n : ℕ) → T (some p n) ↔ ((k : ℕ) × (k < n) × T (p k))

@@ -4,7 +4,6 @@ use mathlib.Core.Logic.{_↔_, _⊎_, inl, inr}
 use mathlib.Core.Bool.{Bool, _&&_}
 use Prim.Native.Nat.{ℕ, zero, suc, _+_, _*_, _/_, _%_, _^_, _≤_, _<_, _∣_}
 use native.Mathlib.Omega.{arith}
-use native.Mathlib.Decide.{ℕ-discrete}
 use native.Mathlib.Numerals.{add-one}
 use native.Mathlib.Nat.{
   dvd-refl,
@@ -41,7 +40,7 @@ use native.Mathlib.Nat.{
 use lib.Dec.{T, ltb, eqb, ltb→lt, lt→ltb, eqb→eq}
 use Rattle.model.specs.Notation.{every, first}
 use Rattle.counting.specs.Count.{and-iff, every-iff}
-use Rattle.counting.specs.Search.{first-unique}
+use Rattle.counting.specs.Search.{first-unique, below-suc}
 
 -- g divides a and b, and every number that divides both divides g.
 pub record IsGcd (a b g : ℕ) : Type 0 where
@@ -152,7 +151,7 @@ lcmAll-iff (suc n) f x = go (lcm-iff (lcmAll n f) (f n) x) (lcmAll-iff n f x)
   where
     go : (lcm (lcmAll n f) (f n) ∣ x) ↔ ((lcmAll n f ∣ x) × (f n ∣ x)) → (lcmAll n f ∣ x) ↔ ((i : ℕ) → i < n → f i ∣ x) → (lcm (lcmAll n f) (f n) ∣ x) ↔ ((i : ℕ) → i < suc n → f i ∣ x)
     go s r = (
-      λ h i l. elim (ℕ-discrete i n) [ yes e ↦ rw e (s .0 h .1) | no e ↦ r .0 (s .0 h .0) i (omega arith) ],
+      λ h. below-suc (λ i. f i ∣ x) n (r .0 (s .0 h .0)) (s .0 h .1),
       λ h. s .1 (r .1 (λ i l. h i (le-step l)), h n (le-refl (suc n))),
     )
 
@@ -182,8 +181,8 @@ product (suc n) f = product n f * f n
 -- Each of the numbers divides their product.
 divides-product : (n : ℕ) (f : ℕ → ℕ) (i : ℕ) → i < n → f i ∣ product n f
 unfolding product
-divides-product zero f i l = absurd (omega arith)
-divides-product (suc n) f i l = elim (ℕ-discrete i n) [ yes e ↦ rw e (dvd-mul-left (f n) (product n f)) | no e ↦ dvd-mul-right-of-dvd (f i) (divides-product n f i (omega arith)) (f n) ]
+divides-product zero f = λ i l. absurd (omega arith)
+divides-product (suc n) f = below-suc (λ i. f i ∣ product (suc n) f) n (λ i l. dvd-mul-right-of-dvd (f i) (divides-product n f i l) (f n)) (dvd-mul-left (f n) (product n f))
 
 -- The least common multiple divides the product.
 lcmAll-product : (n : ℕ) (f : ℕ → ℕ) → lcmAll n f ∣ product n f

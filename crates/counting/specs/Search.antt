@@ -104,7 +104,7 @@ first-shift p n (suc m) = go (p (suc n)) (first-shift p (suc n) m)
     go true e = refl
     go false e = e
 
--- What the last number below n that passes has to be; 0, if none passes.
+-- What the last number below n that passes has to be.
 record IsLast (p : ℕ → Bool) (n k : ℕ) : Type 0 where
   upto : k ≤ n - 1
   behind : NoneFrom p (suc k) n
@@ -148,8 +148,8 @@ last-is p n k a t none = go (decLt (last p n) k) (decLt k (last p n))
 -- Every value is at most the largest.
 pub le-largest : (n : ℕ) (f : ℕ → ℕ) (i : ℕ) → i < n → f i ≤ largest n f
 unfolding largest
-le-largest zero f i l = absurd (omega arith)
-le-largest (suc n) f i l = elim (ℕ-discrete i n) [ yes e ↦ rw e (omega arith) | no e ↦ omega (arith, le-largest n f i (omega arith)) ]
+le-largest zero f = λ i l. absurd (omega arith)
+le-largest (suc n) f = below-suc (λ i. f i ≤ largest (suc n) f) n (λ i l. omega (arith, le-largest n f i l)) (omega arith)
 
 -- A bound of every value is one of the largest.
 pub largest-le : (n : ℕ) (f : ℕ → ℕ) (b : ℕ) → ((i : ℕ) → i < n → f i ≤ b) → largest n f ≤ b

@@ -7,6 +7,7 @@ use native.Mathlib.Decide.{ℕ-discrete}
 use native.Mathlib.Numerals.{add-one}
 use native.Mathlib.Omega.{arith}
 use Rattle.model.specs.Notation.{sum}
+use borrow.Author.Count.{below-more}
 
 -- Equal terms, equal sums.
 pub sum-eq : (n : ℕ) (f g : ℕ → ℕ) → ((i : ℕ) → i < n → f i ≡ g i) → sum n f ≡ sum n g
@@ -40,11 +41,7 @@ sum-mul (suc n) k f = omega (arith, sum-mul n k f)
 pub sum-member : (n : ℕ) (f : ℕ → ℕ) (i : ℕ) → i < n → f i ≤ sum n f
 unfolding sum
 sum-member zero f i l = absurd (omega arith)
-sum-member (suc n) f i l = go (ℕ-discrete i n) (sum-member n f i)
-  where
-    go : Dec (i ≡ n) → (i < n → f i ≤ sum n f) → f i ≤ sum (suc n) f
-    go (yes e) ih = rw e (omega arith)
-    go (no e) ih = omega (arith, ih (omega arith))
+sum-member (suc n) f i l = below-more (λ i. f i ≤ sum (suc n) f) n (λ i l. omega (arith, sum-member n f i l)) (omega arith) i (omega arith)
 
 -- A positive sum has a positive term.
 pub sum-pos : (n : ℕ) (f : ℕ → ℕ) → 0 < sum n f → (i : ℕ) × (i < n) × (0 < f i)

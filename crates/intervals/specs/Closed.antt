@@ -26,5 +26,5 @@ module _ (k : Task) (r : InRange k) where
         arith,
         jobs-inside from to,
         below-period (k .offset) (k .period) (r .period-pos) from,
-        upto-period (k .offset) (k .period) (r .period-pos) (k .deadline) to (r .deadline-le) (r .deadline-pos),
+        upto-period (k .offset) (k .period) (r .period-pos) (k .deadline) to,
       )

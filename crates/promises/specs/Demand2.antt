@@ -75,7 +75,7 @@ settled-case t budget v n (passed g b l) = (λ e. apart (cc), λ e. apart (cc), 
 pub settled-exactly : (t : Table) (budget : ℕ) → (verdict t budget ≡ Verdict.Overload → settledBy t budget ≡ 0) × (verdict t budget ≡ Verdict.Undecided → settledBy t budget ≡ budget) × (verdict t budget ≡ Verdict.Passes → settledBy t budget ≡ horizon t)
 settled-exactly t budget = settled-case t budget (verdict t budget) (settledBy t budget) (the-case t budget)
 
--- A longer budget alters no other verdict, and no settled count.
+-- A longer budget alters no other verdict, nor the settled count of one.
 pub longer-alters-nothing : (t : Table) (budget more : ℕ) → budget ≤ more → verdict t budget ≢ Verdict.Undecided → (verdict t more ≡ verdict t budget) × (settledBy t more ≡ settledBy t budget)
 longer-alters-nothing = longer
 
