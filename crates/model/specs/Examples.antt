@@ -4,7 +4,7 @@ use mathlib.Core.List.{List, [], _∷_, _++_, map}
 use mathlib.Core.Bool.{Bool, true, false}
 use Prim.Native.Nat.{ℕ, zero, suc, _-_, _/_, _%_}
 use lib.ListN.{length, replicate}
-use Rattle.model.specs.Values.{Task, Table, Measure, Judgement, Verdict, Outcome, Empty, Admission, Given, refusal, verdictSaid, judgementSaid, admissionSaid, givenSaid, emptySaid}
+use Rattle.model.specs.Values.{Task, Table, Measure, Judgement, Verdict, Outcome, Empty, Admission, Given, refusal, verdictSaid, judgementSaid, admissionSaid, givenSaid, emptySaid, outcomeSaid}
 use Rattle.model.specs.Notation.{sum, largest, count, first, last, bits, fill, text, digits, decimal}
 use Rattle.model.specs.Limits.{taskLimit, longestFile}
 use Rattle.model.specs.Tasks.{taskFault, firstFaulty, round, load, horizon, measure, judgedBy, judged}
@@ -148,6 +148,9 @@ settled = refl
 -- The numbers of the verdicts, and what is told with them.
 said : map verdictSaid (Verdict.Overload ∷ Verdict.Undecided ∷ Verdict.Late 0 7 9 ∷ Verdict.Passes ∷ []) ≡ (1 ∷ []) ∷ (2 ∷ []) ∷ (3 ∷ 0 ∷ 7 ∷ 9 ∷ []) ∷ (4 ∷ []) ∷ []
 said = refl
+
+said-test : map outcomeSaid (Outcome.Refused (refusal 5 1) ∷ Outcome.Tested (Verdict.Late 0 7 9) ∷ []) ≡ (5 ∷ 1 ∷ []) ∷ (3 ∷ 0 ∷ 7 ∷ 9 ∷ []) ∷ []
+said-test = refl
 
 said-table : map judgementSaid (Judgement.Refused (refusal 5 1) ∷ Judgement.WellFormed (record { round = 15; load = 11; horizon = 38 }) ∷ []) ≡ (5 ∷ 1 ∷ []) ∷ (0 ∷ 15 ∷ 11 ∷ 38 ∷ []) ∷ []
 said-table = refl

@@ -23,7 +23,7 @@ use Rattle.values.specs.declared.Given.{Given}
 use Rattle.values.specs.declared.Answer.{Answer}
 use Rattle.values.specs.declared.Loaded.{Loaded}
 use Rattle.model.specs.Limits.{taskLimit, slotLimit, roundLimit, reportBytes, budgetBytes, taskBytes, longestFile}
-use Rattle.model.specs.Values.{refusal, refusalSaid, judgementSaid, admissionSaid, givenSaid}
+use Rattle.model.specs.Values.{refusal, refusalSaid, judgementSaid, admissionSaid, givenSaid, outcomeSaid}
 use Rattle.model.specs.Tasks.{task, round, measure, judged, load, horizon}
 use Rattle.model.specs.Verdict.{verdict, brief, Permitted}
 use Rattle.model.specs.TableFile.{admit, formOf, loadedFrom}
@@ -257,6 +257,9 @@ pub refused-answer : (t : Table) (budget : ℕ) (r : Refusal) (a : Answer) → j
 unfolding Permitted
 refused-answer t budget r a e p = rw e at p
 
+pub refused-answer-said : (t : Table) (budget : ℕ) (r : Refusal) (a : Answer) → judged t ≡ Judgement.Refused r → Permitted t budget a → outcomeSaid (a .outcome) ≡ refusalSaid r
+refused-answer-said t budget r a e p = ap (λ (x : Answer). outcomeSaid (x .outcome)) (refused-answer t budget r a e p)
+
 -- A state that does not belong to the table is refused by 8 with the first such task, or with 16 for the last-run number.
 pub strange-state : (t : Table) (m : Measure) (d : State) (done : Bool) → judged t ≡ Judgement.WellFormed m → firstStrange t d < t .count → givenSaid (stepped t d done .given) ≡ 8 ∷ firstStrange t d ∷ []
 unfolding stepped
@@ -277,7 +280,7 @@ pub taken-said : (t : Table) (m : Measure) (d : State) (done : Bool) → judged 
 unfolding turn
 taken-said t m d done well h last = rw (taken-state t m d done well h last) refl
 
--- And it leads to one that is taken, whoever made it: once a step is not refused, none after it is. A state has 16 entries in each list.
+-- A state that is taken leads to one that is taken, whoever made it: once a step is not refused, none after it is. A state has 16 entries in each list.
 pub taken-next : (t : Table) (m : Measure) (d : State) (done : Bool) → judged t ≡ Judgement.WellFormed m
     → length (d .wait) ≡ taskLimit → length (d .left) ≡ taskLimit → t .count ≤ firstStrange t d → lastStrange t d ≡ false
     → let next = after t d done in (length (next .wait) ≡ taskLimit) × (length (next .left) ≡ taskLimit) × (t .count ≤ firstStrange t next) × (lastStrange t next ≡ false)
