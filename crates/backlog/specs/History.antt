@@ -78,10 +78,10 @@ module _ (J : Jobs) (D : Dues J) (told : ℕ → ℕ → Type 0) (open' ready ga
     none-late i j l = not-open J open' dispatches s R i j (D .due i j) l (met i j l) (current i j (D .due i j) l (D .rel-due i j l) (constrained i j l))
 
     -- After the worst response of its stream a job has nothing left.
-    after-worst : (i w : ℕ) → i < J .n → ((j f : ℕ) → DoneFirst J s i j f → f - J .rel i j ≤ w) → (j t : ℕ) → J .rel i j + w ≤ t → t ≤ J .rel i (suc j) → J .rel i j < t → open' t i ≡ 0
-    after-worst i w l worst j t a b c =
+    after-worst : (i w : ℕ) → i < J .n → ((j f : ℕ) → DoneFirst J s i j f → f - J .rel i j ≤ w) → (j t : ℕ) → J .rel i j + w ≤ t → t ≤ J .rel i (suc j) → open' t i ≡ 0
+    after-worst i w l worst j t a b =
         let (g, q, h, e) = finishes J D s R met i j l in
-        not-open J open' dispatches s R i j t l (omega (arith, q .0, served-mono J s R i l g t (omega (arith, worst j g q)))) (current i j t l c b)
+        not-open J open' dispatches s R i j t l (omega (arith, q .0, served-mono J s R i l g t (omega (arith, worst j g q)))) (current i j t l (omega (arith, worst j g q)) b)
 
     -- As long as a job is not reported, what it was given and what is left make its cost.
     pub account : (i j d : ℕ) → i < J .n → J .rel i j + d < J .rel i (suc j) → ((u : ℕ) × (0 < u) × (u ≤ d) × told (J .rel i j + u) i) ⊎ (givenTo i (J .rel i j) (suc d) + open' (J .rel i j + suc d) i ≡ J .cost i)
@@ -110,7 +110,7 @@ module _ (J : Jobs) (D : Dues J) (told : ℕ → ℕ → Type 0) (open' ready ga
         go (suc d) e = at (account i j d l (omega arith))
           where
             nothing : open' (J .rel i j + suc d) i ≡ 0
-            nothing = after-worst i w l worst j (J .rel i j + suc d) (omega arith) (omega arith) (omega arith)
+            nothing = after-worst i w l worst j (J .rel i j + suc d) (omega arith) (omega arith)
 
             at : ((u : ℕ) × (0 < u) × (u ≤ d) × told (J .rel i j + u) i) ⊎ (givenTo i (J .rel i j) (suc d) + open' (J .rel i j + suc d) i ≡ J .cost i) → ((u : ℕ) × (0 < u) × (u < suc d) × told (J .rel i j + u) i) ⊎ (givenTo i (J .rel i j) (suc d) ≡ J .cost i)
             at (inl (u, a, b, c)) = inl (u, a, omega arith, c)

@@ -8,9 +8,9 @@ use native.Mathlib.Omega.{arith}
 use Rattle.model.specs.Notation.{sum, Least}
 use Rattle.counting.specs.Search.{least}
 use Rattle.counting.specs.Sum.{sum-eq, sum-add, sum-zero, sum-by, sum-member}
-use Rattle.counting.specs.Below.{lt-below, below-after, below-none, work-le}
+use Rattle.counting.specs.Below.{lt-below, below-none, work-le}
 use Rattle.backlog.specs.Queue.{backlog}
-use Rattle.backlog.specs.Streams.{Jobs, released, work, keyAt, SlotOf, Run, Serves, leftOf, left, arriveOf, arrive, released-mono, in-class}
+use Rattle.backlog.specs.Streams.{Jobs, released, work, keyAt, SlotOf, Run, Serves, leftOf, left, arriveOf, arrive, released-mono, in-class, work-at}
 
 -- Of w class work with s served: what is left once r' is released is what was left at r, and what came between.
 merge : (w r r' s : ℕ) → s ≤ r → r ≤ r' → min w r' - min s w ≡ (min w r - min s w) + (min w r' - min w r)
@@ -110,11 +110,8 @@ module _ (J : Jobs) (s : ℕ → ℕ → ℕ) (R : Run J s) where
               now : s t i / J .cost i ≡ j
               now = div-eq-of-lt-le (J .cost i) (omega (arith, c .one, J .cost-pos i l)) (omega arith)
 
-              full : work J (J .key i j) i ≡ J .cost i * suc j
-              full = rw (below-after (J .key i) (J .key-grows i l) j)
-
               each : (m : ℕ) → m < J .n → Dec (m ≡ i) → Dec (s t m < released J (suc t) m) → Dec (s t m < work J (J .key i j) m) → leftOf J (J .key i j) (suc t) (s (suc t)) m ≡ 0
-              each m q (yes f) x y = rw f (omega (arith, full))
+              each m q (yes f) x y = rw f (omega (arith, work-at J i j l))
               each m q (no f) (yes x) (yes y) =
                   let v : J .key i j ≡ keyAt J m (s t m) = omega (arith, ap (J .key i) now, c .least m q x, in-class J (J .key i j) m q (s t m) .0 y) in
                   absurd (f (sym (J .key-apart i j m (s t m / J .cost m) l q v)))

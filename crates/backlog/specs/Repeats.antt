@@ -5,8 +5,8 @@ use Prim.Native.Nat.{ℕ, zero, suc, _+_, _-_, _*_, _≤_, _<_, min}
 use native.Mathlib.Nat.{mul-pos, min-eq-left}
 use native.Mathlib.Omega.{arith}
 use Rattle.counting.specs.Sum.{sum-by}
-use Rattle.counting.specs.Below.{below, below-at, below-after, below-same, work-le}
-use Rattle.backlog.specs.Streams.{Jobs, Run, released, work, left, leftOf}
+use Rattle.counting.specs.Below.{below, below-at, below-same, work-le}
+use Rattle.backlog.specs.Streams.{Jobs, Run, released, work, left, leftOf, work-at}
 use Rattle.backlog.specs.System.{System, size, costOf, releaseOf, dueOf, keyOf, jobs, some-task}
 use Rattle.backlog.specs.Shift.{Cycle, Light, release-later, key-later, left-up, left-down}
 
@@ -27,16 +27,13 @@ module _ (J : Jobs) (s : ℕ → ℕ → ℕ) where
   unfolding left
   job-left t i j κ l e r = sum-by (J .n) (leftOf J (J .key i j) t (s t)) (leftOf J κ t (s t)) i (restOf J s t i j) l own other
     where
-      here : work J (J .key i j) i ≡ J .cost i * suc j
-      here = ap (λ (x : ℕ). J .cost i * x) (below-after (J .key i) (J .key-grows i l) j)
-
       before : below (J .key i) (suc κ) ≡ j
       before = rw e (below-at (J .key i) (J .key-grows i l) j)
 
       own : leftOf J (J .key i j) t (s t) i ≡ leftOf J κ t (s t) i + restOf J s t i j
       own =
           let w : work J κ i ≡ J .cost i * j = ap (λ (x : ℕ). J .cost i * x) before in
-          rw (here, w) (part (J .cost i) (J .cost i * j) (J .cost i * suc j) (released J t i) (s t i) (omega arith) (work-le (J .rel i) (J .rel-grows i l) (J .cost i) t j r))
+          rw (work-at J i j l, w) (part (J .cost i) (J .cost i * j) (J .cost i * suc j) (released J t i) (s t i) (omega arith) (work-le (J .rel i) (J .rel-grows i l) (J .cost i) t j r))
 
       other : (k : ℕ) → k < J .n → k ≢ i → leftOf J (J .key i j) t (s t) k ≡ leftOf J κ t (s t) k
       other k q d = rw same

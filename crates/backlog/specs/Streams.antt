@@ -5,7 +5,7 @@ use Prim.Native.Nat.{ℕ, suc, _+_, _-_, _*_, _/_, _≤_, _<_, min, zero}
 use native.Mathlib.Nat.{mul-le-mul-left}
 use native.Mathlib.Omega.{arith}
 use Rattle.model.specs.Notation.{sum}
-use Rattle.counting.specs.Below.{Grows, below, below-mono, work-lt, below-none}
+use Rattle.counting.specs.Below.{Grows, below, below-mono, work-lt, below-none, below-after}
 use Rattle.counting.specs.Sum.{sum-eq, sum-add, sum-zero, sum-none}
 
 -- n streams of jobs. Job j of stream i costs `cost i` slots, is released at `rel i j` and has the key `key i j`; a smaller key goes first.
@@ -70,6 +70,10 @@ arrivals J κ t = sum (J .n) (λ i. min (work J κ i) (released J t i))
 module _ (J : Jobs) where
   pub released-mono : (i : ℕ) → i < J .n → (t u : ℕ) → t ≤ u → released J t i ≤ released J u i
   released-mono i l t u h = mul-le-mul-left (J .cost i) (below-mono (J .rel i) (J .rel-grows i l) t u h)
+
+  -- The class of a job's key has the work of its stream up to that job.
+  pub work-at : (i j : ℕ) → i < J .n → work J (J .key i j) i ≡ J .cost i * suc j
+  work-at i j l = ap (λ (x : ℕ). J .cost i * x) (below-after (J .key i) (J .key-grows i l) j)
 
   -- The job that a stream is at is in the class exactly if some class work of the stream is not served.
   pub in-class : (κ i : ℕ) → i < J .n → (s : ℕ) → (s < work J κ i) ↔ (keyAt J i s ≤ κ)

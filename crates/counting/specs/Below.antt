@@ -63,33 +63,38 @@ module _ (f : ℕ → ℕ) (g : Grows f) where
   below-unique : (x k : ℕ) → ((j : ℕ) → (j < k) ↔ (f j < x)) → below f x ≡ k
   below-unique x k h = omega (arith, below-most x k (λ j. h j .1), below-least x k (λ j. h j .0))
 
+-- What is passed by f at x is passed by g at y.
+pub below-below : (f g : ℕ → ℕ) → Grows f → Grows g → (x y : ℕ) → ((j : ℕ) → f j < x → g j < y) → below f x ≤ below g y
+below-below f g p q x y h = below-most f p x (below g y) (λ j l. lt-below g q y j .1 (h j l))
+
+module _ (f : ℕ → ℕ) (g : Grows f) where
   pub below-mono : (x y : ℕ) → x ≤ y → below f x ≤ below f y
-  below-mono x y h = below-most x (below f y) (λ j l. lt-below y j .1 (omega arith))
+  below-mono x y h = below-below f f g g x y (λ j l. omega arith)
 
   -- With c for each of them: all for j is there where f j is below x, and more than s where f is at the j that s is at.
   pub work-le : (c x j : ℕ) → f j < x → c * suc j ≤ c * below f x
-  work-le c x j l = mul-le-mul-left c (lt-below x j .1 l)
+  work-le c x j l = mul-le-mul-left c (lt-below f g x j .1 l)
 
   pub work-lt : (c x s : ℕ) → 0 < c → (s < c * below f x) ↔ (f (s / c) < x)
   work-lt c x s pos = (
-    λ h. lt-below x (s / c) .0 (div-lt-iff-lt-mul pos .1 (omega arith)),
-    λ h. omega (arith, div-lt-iff-lt-mul pos .0 (lt-below x (s / c) .1 h)),
+    λ h. lt-below f g x (s / c) .0 (div-lt-iff-lt-mul pos .1 (omega arith)),
+    λ h. omega (arith, div-lt-iff-lt-mul pos .0 (lt-below f g x (s / c) .1 h)),
   )
 
   -- The first that is not below x.
   pub below-next : (x : ℕ) → x ≤ f (below f x)
-  below-next x = elim (decLt (f (below f x)) x) [ yes p ↦ absurd (omega (arith, lt-below x (below f x) .1 p)) | no p ↦ omega arith ]
+  below-next x = elim (decLt (f (below f x)) x) [ yes p ↦ absurd (omega (arith, lt-below f g x (below f x) .1 p)) | no p ↦ omega arith ]
 
   -- With no value from x up to y, as many lie below the one as below the other.
   pub below-same : (x y : ℕ) → x ≤ y → ((j : ℕ) → f j < y → f j < x) → below f x ≡ below f y
-  below-same x y h none = omega (arith, below-mono x y h, below-most y (below f x) (λ j l. lt-below x j .1 (none j l)))
+  below-same x y h none = omega (arith, below-mono x y h, below-below f f g g y x none)
 
   -- At its own value f has passed the j before; after it, and up to the next, j too.
   pub below-at : (j : ℕ) → below f (f j) ≡ j
-  below-at j = below-unique (f j) j (λ k. (λ l. omega (arith, g k, grows-mono (suc k) j l), grows-lt k j))
+  below-at j = below-unique f g (f j) j (λ k. (λ l. omega (arith, g k, grows-mono f g (suc k) j l), grows-lt f g k j))
 
   pub below-is : (x j : ℕ) → f j < x → x ≤ f (suc j) → below f x ≡ suc j
-  below-is x j a b = below-unique x (suc j) (λ k. (λ l. omega (arith, grows-mono k j (omega arith)), λ l. grows-lt k (suc j) (omega arith)))
+  below-is x j a b = below-unique f g x (suc j) (λ k. (λ l. omega (arith, grows-mono f g k j (omega arith)), λ l. grows-lt f g k (suc j) (omega arith)))
 
   pub below-after : (j : ℕ) → below f (suc (f j)) ≡ suc j
   below-after j = below-is (suc (f j)) j (omega arith) (g j)
@@ -98,10 +103,6 @@ module _ (f : ℕ → ℕ) (g : Grows f) where
 pub below-none : (f : ℕ → ℕ) → below f 0 ≡ 0
 unfolding below count
 below-none f = refl
-
--- What is passed by f at x is passed by g at y.
-pub below-below : (f g : ℕ → ℕ) → Grows f → Grows g → (x y : ℕ) → ((j : ℕ) → f j < x → g j < y) → below f x ≤ below g y
-below-below f g p q x y h = below-most f p x (below g y) (λ j l. lt-below g q y j .1 (h j l))
 
 -- How many of the first m have x ≤ f j and g j ≤ y.
 count-between : (f g : ℕ → ℕ) → Grows f → Grows g → (x y m : ℕ) → count (λ j. leb x (f j) && leb (g j) y) m ≡ min (below g (suc y)) m - below f x
