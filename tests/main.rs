@@ -8,6 +8,7 @@ mod document;
 mod files;
 mod inputs;
 mod judge;
+mod papers;
 mod randoms;
 mod reference;
 mod runs;
@@ -54,6 +55,9 @@ fn main() -> ExitCode {
     whole::needs(&mut bench);
     whole::example_host(&mut bench);
     whole::recipe(&mut bench);
+    papers::headlines(&mut bench);
+    papers::promises(&mut bench);
+    papers::edits(&mut bench);
     judge::inputs_by_hand(&mut bench);
     judge::inputs_at_random(&mut bench, &mut rng);
     ExitCode::from(!bench.end() as u8)

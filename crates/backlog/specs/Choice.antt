@@ -1,4 +1,4 @@
--- What the model's choice finds: the open task that comes before the others, or that none is open.
+-- THE CHOICE (`choose-is`): the model's choice is the open task that comes before the others, or none is open.
 use mathlib.Core.Path.{_≡_, refl, sym, subst, _∙_}
 use mathlib.Core.Logic.{_⊎_, inl, inr, _≢_}
 use mathlib.Core.Bool.{Bool, true, false, cond, _&&_, _||_}
@@ -32,7 +32,8 @@ pub record Somebody (open? : ℕ → Bool) (deadline : ℕ → ℕ) (rank : Orde
 abbrev pub Chosen : (ℕ → Bool) → (ℕ → ℕ) → Order → ℕ → ℕ → Type 0
 Chosen open? deadline rank n c = Nobody open? n c ⊎ Somebody open? deadline rank n c
 
-module _ (open? : ℕ → Bool) (deadline : ℕ → ℕ) (rank : Order) where
+module _ (deadline : ℕ → ℕ) (rank : Order) where
+  -- To come no later goes on.
   no-later : (i k : ℕ) → NoLater deadline rank i k → (m : ℕ) → NoLater deadline rank k m → NoLater deadline rank i m
   no-later i k (inl a) m (inl b) = inl (omega arith)
   no-later i k (inl a) m (inr b) = inl (omega (arith, b .0))
@@ -47,6 +48,7 @@ module _ (open? : ℕ → Bool) (deadline : ℕ → ℕ) (rank : Order) where
   before i k false true false a b c = (λ t. absurd t, λ h. inr (sym (eqb-true _ _ b), ltb-false _ _ c))
   before i k false false r a b c = (λ t. absurd t, λ h. let e : deadline k ≤ deadline i = ltb-false _ _ a in let f : deadline i ≢ deadline k = eqb-false _ _ b in inl (omega arith))
 
+module _ (open? : ℕ → Bool) (deadline : ℕ → ℕ) (rank : Order) where
   -- One more task to choose from.
   more : (n best : ℕ) → n < taskLimit → (o e p : Bool) → open? n ≡ o → eqb best taskLimit ≡ e → precedes deadline rank n best ≡ p
       → Chosen open? deadline rank n best → Chosen open? deadline rank (suc n) (cond (o && (e || p)) n best)
@@ -56,10 +58,10 @@ module _ (open? : ℕ → Bool) (deadline : ℕ → ℕ) (rank : Order) where
   more n best l true true p x y z (inr c) = let q : best ≡ taskLimit = eqb-true _ _ y in absurd (omega (arith, c .bound))
   more n best l true false p x y z (inl c) = absurd (eqb-false _ _ y (c .none))
   more n best l true false true x y z (inr c) =
-      let first : NoLater deadline rank n best = before n best _ _ _ refl refl refl .0 (subst T (sym z) tt) in
-      inr (record { bound = le-refl (suc n); opened = rw x tt; ahead = below-suc (λ i. T (open? i) → NoLater deadline rank n i) n (λ i m t. no-later n best first i (c .ahead i m t)) (λ t. inr (refl, le-refl _)) })
+      let first : NoLater deadline rank n best = before deadline rank n best _ _ _ refl refl refl .0 (subst T (sym z) tt) in
+      inr (record { bound = le-refl (suc n); opened = rw x tt; ahead = below-suc (λ i. T (open? i) → NoLater deadline rank n i) n (λ i m t. no-later deadline rank n best first i (c .ahead i m t)) (λ t. inr (refl, le-refl _)) })
   more n best l true false false x y z (inr c) =
-      let first : NoLater deadline rank best n = before n best _ _ _ refl refl refl .1 (λ t. subst T z t) in
+      let first : NoLater deadline rank best n = before deadline rank n best _ _ _ refl refl refl .1 (λ t. subst T z t) in
       inr (record { bound = omega (arith, c .bound); opened = c .opened; ahead = below-suc (λ i. T (open? i) → NoLater deadline rank best i) n (c .ahead) (λ t. first) })
 
   pub choose-is : (n : ℕ) → n ≤ taskLimit → Chosen open? deadline rank n (choose open? deadline rank n)

@@ -1,4 +1,4 @@
--- THE PERMITTED ANSWER, COMPUTED: by a walk to the horizon. So the answers of given tables are found by computing.
+-- THE PERMITTED ANSWER, COMPUTED (`computed`): by a walk to the horizon. So the answers of given tables are found by computing.
 use mathlib.Core.Path.{_≡_, refl}
 use Prim.Native.Nat.{ℕ}
 use Rattle.values.specs.declared.Table.{Table}
@@ -11,10 +11,11 @@ use Rattle.model.specs.Tasks.{horizon, judged}
 use Rattle.model.specs.Verdict.{verdict, settledBy, emptyIn, brief, Answers, PermittedBy, Permitted}
 use Rattle.wellformed.specs.WellFormed.{well-formed}
 use Rattle.wellformed.specs.Ranges.{Ranged}
-use Rattle.backlog.specs.Decided.{never-iff}
-use Rattle.backlog.specs.Answers.{never-of-passed, light-of-passed, met-of-passed}
-use Rattle.backlog.specs.WalkWorst.{worstBy, walk-worsts}
 use Rattle.backlog.specs.TableSystem.{tie-ranks}
+use Rattle.backlog.specs.TooMuch.{never-iff}
+use Rattle.backlog.specs.Passes.{never-of-passed}
+use Rattle.backlog.specs.PassedWorst.{light-of-passed, met-of-passed}
+use Rattle.backlog.specs.WalkWorst.{worstBy, walk-worsts}
 
 -- The answer by its verdict, and by the judgement of the table.
 abbrev pub answerBy : Table → ℕ → Measure → Verdict → Answer

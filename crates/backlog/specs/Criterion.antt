@@ -1,4 +1,4 @@
--- THE CRITERION: at each instant the run has missed a deadline exactly if some interval that ends there asks too much.
+-- THE CRITERION (`late-iff-over`): at each instant the run has missed a deadline exactly if some interval that ends there asks too much.
 use mathlib.Core.Path.{_≡_, refl, sym, ap, _∙_}
 use mathlib.Core.Logic.{_⊎_, inl, inr, _↔_}
 use mathlib.Core.Bool.{_&&_}
@@ -12,7 +12,8 @@ use Rattle.counting.specs.Sum.{sum-eq, sum-le, sum-add, sum-pos}
 use Rattle.counting.specs.Below.{Grows, below, lt-below, below-below, count-inside}
 use Rattle.backlog.specs.Queue.{sum-backlog, busy-from}
 use Rattle.backlog.specs.Streams.{Jobs, released, work, Run, left, leftOf, arrive, arrivals, arrived}
-use Rattle.backlog.specs.Left.{left-is, done-of-none-left, served-mono, DoneFirst, first-done}
+use Rattle.backlog.specs.Left.{left-is, done-of-none-left, served-mono}
+use Rattle.backlog.specs.Finish.{DoneFirst, first-done}
 
 -- Deadlines that the key order goes by: the cut of t takes just the jobs that are due by t.
 pub record Dues (J : Jobs) : Type 0 where

@@ -1,4 +1,4 @@
--- DOMINATION: a dispatcher that is told of early ends never has more left, in any class, than the run at full cost.
+-- DOMINATION (`held-le-left`): a dispatcher that is told of early ends never has more left, in any class, than the run at full cost.
 use mathlib.Core.Path.{_≡_, refl, sym, ap, subst, _∙_}
 use mathlib.Core.Logic.{_⊎_, inl, inr, _≢_}
 use Prim.Native.Nat.{ℕ, suc, _+_, _-_, _*_, _≤_, _<_}
@@ -10,7 +10,8 @@ use Rattle.counting.specs.Sum.{sum-le, sum-add, sum-zero, sum-by, sum-member}
 use Rattle.counting.specs.Below.{below, lt-below, below-mono, below-after, grows-lt, below-same, below-next, work-le}
 use Rattle.backlog.specs.Queue.{backlog, backlog-bounds}
 use Rattle.backlog.specs.Streams.{Jobs, Run, released, work, left, arrive, arriveOf}
-use Rattle.backlog.specs.Left.{left-is, first-done}
+use Rattle.backlog.specs.Left.{left-is}
+use Rattle.backlog.specs.Finish.{first-done}
 
 -- A number where something is so, and else 0.
 abbrev pub if-so : {P : Type 0} → Dec P → ℕ → ℕ

@@ -1,4 +1,4 @@
--- No theorem here is empty: what they ask for is met by tables of document 01.
+-- NO THEOREM HERE IS EMPTY: what they ask for is met by tables of document 01.
 use mathlib.Core.Path.{_≡_, refl}
 use mathlib.Core.Logic.{inr, _⊎_}
 use mathlib.Core.List.{_∷_}
@@ -11,11 +11,12 @@ use Rattle.model.specs.Notation.{sum, largest, count, first, last, fill, Least}
 use Rattle.values.specs.declared.Verdict.{Verdict}
 use Rattle.values.specs.declared.Given.{Given}
 use Rattle.values.specs.declared.Answer.{Answer}
+use Rattle.values.specs.declared.Outcome.{Outcome}
 use Rattle.model.specs.Limits.{taskLimit}
 use Rattle.model.specs.Tasks.{task, release, due, taskFault, firstFaulty, round, load, horizon, judged}
 use Rattle.model.specs.Demand.{jobsIn, demand, lateAt, asksTooMuch}
 use Rattle.model.specs.Run.{tieOrder, choose, firstEmpty, run}
-use Rattle.model.specs.Verdict.{needed, lateStart, verdict, Worsts, Permitted}
+use Rattle.model.specs.Verdict.{needed, lateStart, verdict, settledBy, Worsts, Permitted}
 use Rattle.model.specs.Dispatcher.{State, Stepped, firstStrange, startOf, isLate, ownerNow, after, turn, stepped}
 use Rattle.model.specs.History.{stateAt, ownerAt, had, Finished}
 use Rattle.model.specs.Examples.{table-b, table-c, table-d, table-g, table-i}
@@ -24,21 +25,36 @@ use Rattle.wellformed.specs.Ranges.{Ranged}
 use Rattle.wellformed.specs.WellFormed.{well-formed}
 use Rattle.backlog.specs.Streams.{released}
 use Rattle.backlog.specs.Criterion.{Met}
+use Rattle.backlog.specs.NoneLate.{none-late}
+use Rattle.backlog.specs.RunHistory.{run-history}
 use Rattle.backlog.specs.System.{System, dueOf, jobs, dues, constrained, Ranks, JobNoLater}
 use Rattle.backlog.specs.ModelRun.{servedOf, model-run}
+use Rattle.backlog.specs.RunRule.{Waiting, run-rule}
 use Rattle.backlog.specs.Shift.{Light}
-use Rattle.backlog.specs.History.{none-late}
-use Rattle.backlog.specs.RunHistory.{run-history}
 use Rattle.backlog.specs.TableSystem.{tie-ranks, tieSystem, tieCycle, systemOf}
-use Rattle.backlog.specs.Decided.{Feasible, Missed, first-missed, late-soon, overload-late, feasible-iff, never-iff}
-use Rattle.backlog.specs.Verdicts.{none-before, longer, undecided-iff, overload-iff, needed-is, start-asks}
-use Rattle.backlog.specs.Answers.{passes-iff, overload-infeasible, late-infeasible, light-of-passed, met-of-passed, worst-of, permitted-unique}
+use Rattle.backlog.specs.TooMuch.{never-iff}
+use Rattle.backlog.specs.EveryInstant.{Missed, first-missed}
+use Rattle.backlog.specs.Feasible.{Feasible, feasible-iff}
+use Rattle.backlog.specs.Horizon.{late-soon}
+use Rattle.backlog.specs.Overload.{overload-late}
+use Rattle.backlog.specs.Needed.{none-before, needed-is}
+use Rattle.backlog.specs.LateStart.{start-asks, start-largest, start-is}
+use Rattle.backlog.specs.Verdicts.{undecided-iff, overload-iff}
+use Rattle.backlog.specs.Longer.{longer}
+use Rattle.backlog.specs.Passes.{passes-iff, overload-infeasible, late-infeasible}
+use Rattle.backlog.specs.PassedWorst.{light-of-passed, met-of-passed, worst-of}
+use Rattle.backlog.specs.Unique.{permitted-unique, answers-say}
 use Rattle.backlog.specs.Taken.{Belongs, belongs-after}
 use Rattle.backlog.specs.Stepping.{never-refused, owned-ready}
-use Rattle.backlog.specs.StepHistory.{never-more, none-after, in-time, none-waits, none-told}
-use Rattle.backlog.specs.Walk.{quiet, Clear, late-iff}
-use Rattle.backlog.specs.WalkWorst.{worstBy, walk-worsts, walk-empty}
-use Rattle.backlog.specs.RunSchedule.{Waiting, run-rule}
+use Rattle.backlog.specs.NeverMore.{never-more}
+use Rattle.backlog.specs.NoneAfter.{none-after}
+use Rattle.backlog.specs.NoneTold.{none-told}
+use Rattle.backlog.specs.InTime.{in-time}
+use Rattle.backlog.specs.NoneWaits.{none-waits}
+use Rattle.backlog.specs.Walk.{quiet, Clear}
+use Rattle.backlog.specs.WalkLate.{late-iff}
+use Rattle.backlog.specs.WalkWorst.{worstBy, walk-worsts}
+use Rattle.backlog.specs.WalkEmpty.{walk-empty}
 use Rattle.backlog.specs.Computed.{answerOf, computed}
 
 -- Table b keeps its ranges and passes, so some schedule of it is good.
@@ -116,6 +132,15 @@ d-needed = needed-is table-d 7 (lit≤ tt) (d-late .1) (λ h. d-late .0)
 
 d-asks : T (asksTooMuch table-d (lateStart table-d 7) 7)
 d-asks = start-asks table-d 7 (d-late .0)
+
+-- No start above 0 does, so that is where the interval starts.
+d-largest : (from : ℕ) → 0 < from → T (asksTooMuch table-d from 7) → ⊥
+unfolding lateStart last demand jobsIn sum count
+d-largest = start-largest table-d 7
+
+d-start : lateStart table-d 7 ≡ 0
+unfolding demand jobsIn sum count
+d-start = start-is table-d 7 0 tt d-largest
 
 -- So a walk sees a job at its deadline there.
 d-seen : (i : ℕ) × (i < 2) × T (isLate table-d (stateAt table-d quiet 7) false i)
@@ -206,3 +231,7 @@ b-undecided = undecided-iff table-b 37 .0 refl
 -- One answer is permitted to table b with this budget: the computed one.
 b-one : (a : Answer) → Permitted table-b 38 a → a ≡ answerOf table-b 38
 b-one a p = permitted-unique table-b 38 a (answerOf table-b 38) p (computed table-b 38)
+
+b-says : (a : Answer) → Permitted table-b 38 a → (a .outcome ≡ Outcome.Tested Verdict.Passes) × (a .settled ≡ 38) × (a .measure ≡ record { round = 15; load = 11; horizon = 38 })
+unfolding Permitted judged firstFaulty taskFault verdict settledBy needed lateStart lateAt first last round load horizon largest sum count demand jobsIn
+b-says a = answers-say table-b 38 _ a Verdict.Passes

@@ -1,14 +1,13 @@
--- The work that is left of the jobs up to a key is one queue, and tells when each job is done.
+-- THE KEY LEMMA (`left-is`): the work that is left of the jobs up to a key is the backlog of one queue. It depends on the releases alone.
 use mathlib.Core.Path.{_≡_, sym, ap, subst, _∙_}
-use mathlib.Core.Logic.{inl, inr, _↔_}
+use mathlib.Core.Logic.{inl, inr}
 use Prim.Native.Nat.{ℕ, zero, suc, _+_, _-_, _*_, _/_, _≤_, _<_, min}
-use native.Mathlib.Nat.{le-refl, mul-pos, zero-lt-suc, lt-of-mul-lt-mul-left, div-eq-of-lt-le, lt-of-not-le}
+use native.Mathlib.Nat.{le-refl, div-eq-of-lt-le}
 use native.Mathlib.Decide.{ℕ-discrete, decLt, decLe, le-ind}
 use native.Mathlib.Omega.{arith}
-use Rattle.model.specs.Notation.{sum, Least}
-use Rattle.counting.specs.Search.{least}
+use Rattle.model.specs.Notation.{sum}
 use Rattle.counting.specs.Sum.{sum-eq, sum-add, sum-zero, sum-by, sum-member}
-use Rattle.counting.specs.Below.{lt-below, below-none, work-le}
+use Rattle.counting.specs.Below.{below-none, work-le}
 use Rattle.backlog.specs.Queue.{backlog}
 use Rattle.backlog.specs.Streams.{Jobs, released, work, keyAt, SlotOf, Run, Serves, leftOf, left, arriveOf, arrive, released-mono, in-class, work-at}
 
@@ -85,14 +84,14 @@ module _ (J : Jobs) (s : ℕ → ℕ → ℕ) (R : Run J s) where
               let w : work J κ k ≤ s t k = elim (decLt (s t k) (work J κ k)) [ yes h ↦ absurd (p (in-class J κ k (d .bound) (s t k) .0 h)) | no h ↦ omega arith ] in
               none-due (λ i l. over p i l (decLt _ _) (decLt _ _)) (λ i l. same w i l (ℕ-discrete i k))
 
-  -- THE KEY LEMMA: the class work that is left is the backlog of the class arrivals. It depends on the releases alone.
+  -- The class work that is left is the backlog of the class arrivals.
   pub left-is : (κ t : ℕ) → left J s κ t ≡ backlog (arrive J κ) t
   unfolding backlog
   left-is κ zero = left-start J s κ
   left-is κ (suc t) = rw (← left-is κ t) (left-step κ t)
 
   -- And in the slot that finishes a job, no work is left up to its key.
-  none-left-of-done : (t i j : ℕ) → i < J .n → s t i < J .cost i * suc j → J .cost i * suc j ≤ s (suc t) i → left J s (J .key i j) (suc t) ≡ 0
+  pub none-left-of-done : (t i j : ℕ) → i < J .n → s t i < J .cost i * suc j → J .cost i * suc j ≤ s (suc t) i → left J s (J .key i j) (suc t) ≡ 0
   unfolding left
   none-left-of-done t i j l a b = go (R .slot t)
     where
@@ -127,36 +126,3 @@ module _ (J : Jobs) (s : ℕ → ℕ → ℕ) (R : Run J s) where
 
   pub served-mono : (i : ℕ) → i < J .n → (t u : ℕ) → t ≤ u → s t i ≤ s u i
   served-mono i l t u h = le-ind (λ (x : ℕ). s t i ≤ s x i) (le-refl (s t i)) (λ m k ih. omega (arith, served-up i l m)) u h
-
--- Job j of stream i is done at t, and not before.
-abbrev pub DoneFirst : Jobs → (ℕ → ℕ → ℕ) → ℕ → ℕ → ℕ → Type 0
-DoneFirst J s i j = Least (λ t. J .cost i * suc j ≤ s t i)
-
-module _ (J : Jobs) (s : ℕ → ℕ → ℕ) (R : Run J s) (i j : ℕ) (l : i < J .n) where
-  -- It is done; no work up to its key is left after its release.
-  abbrev Done : ℕ → Type 0
-  Done t = J .cost i * suc j ≤ s t i
-
-  abbrev NoneLeft : ℕ → Type 0
-  NoneLeft t = (J .rel i j < t) × (left J s (J .key i j) t ≡ 0)
-
-  done-of-left : (t : ℕ) → NoneLeft t → Done t
-  done-of-left t (r, e) = done-of-none-left J s (J .key i j) t i j l (le-refl _) r e
-
-  left-of-first : (t : ℕ) → Least Done t → NoneLeft t
-  left-of-first zero (d, f) = absurd (omega (arith, R .start i l, mul-pos (J .cost-pos i l) (zero-lt-suc j)))
-  left-of-first (suc t) (d, f) = (lt-below (J .rel i) (J .rel-grows i l) (suc t) j .0 (lt-of-mul-lt-mul-left (J .cost i) (omega (arith, served-le J s R (suc t) i l, J .cost-pos i l))), none-left-of-done J s R t i j l (lt-of-not-le (f t (le-refl _))) d)
-
-  -- What is done by t was done first at some f up to t, after its release, and with no work left up to its key.
-  pub first-done : (t : ℕ) → Done t → (f : ℕ) × (f ≤ t) × DoneFirst J s i j f × NoneLeft f
-  first-done t d = let (f, h, q) = least Done (λ t. decLe _ _) t d in (f, h, q, left-of-first f q)
-
-  -- FINISH: a job is done first when, first after its release, no work up to its key is left.
-  pub finish : (t : ℕ) → Least Done t ↔ Least NoneLeft t
-  finish t = (fwd, bwd)
-    where
-      fwd : Least Done t → Least NoneLeft t
-      fwd (d, f) = (left-of-first t (d, f), λ u a c. f u a (done-of-left u c))
-
-      bwd : Least NoneLeft t → Least Done t
-      bwd (c, f) = (done-of-left t c, λ u a d. let (v, b, e, n) = first-done u d in f v (omega arith) n)

@@ -1,30 +1,55 @@
--- Any streams of jobs: the backlog of a class, the criterion, domination.
+-- Any streams of jobs: the backlog of a class, and the criterion.
 pub mod Queue
 pub mod Streams
 pub mod Left
+pub mod Finish
 pub mod Criterion
+-- Dispatchers of any streams that are told of early ends.
 pub mod Domination
 pub mod History
+pub mod AtMost
+pub mod NoneLate
+pub mod OnTime
 pub mod RunHistory
 -- A table, its run, and one round later.
 pub mod Choice
 pub mod System
 pub mod ModelRun
 pub mod RunSchedule
+pub mod RunRule
 pub mod Shift
 pub mod Repeats
 pub mod Worst
-pub mod Horizon
--- The model's own words.
+-- What the test decides, in the model's words.
 pub mod TableSystem
+pub mod TooMuch
 pub mod Necessary
-pub mod Decided
+pub mod EveryInstant
+pub mod Sufficient
+pub mod Feasible
+pub mod Horizon
+pub mod Overload
+pub mod Needed
+pub mod LateStart
 pub mod Verdicts
-pub mod Answers
+pub mod Longer
+pub mod Passes
+pub mod PassedWorst
+pub mod Unique
+-- What the dispatcher does, in the model's words.
 pub mod Taken
 pub mod Stepping
 pub mod StepHistory
+pub mod Had
+pub mod NeverMore
+pub mod NoneAfter
+pub mod NoneTold
+pub mod InTime
+pub mod NoneWaits
+-- A walk to the horizon finds the answer.
 pub mod Walk
+pub mod WalkLate
 pub mod WalkWorst
+pub mod WalkEmpty
 pub mod Computed
 pub mod Instances

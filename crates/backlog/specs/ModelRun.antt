@@ -1,4 +1,4 @@
--- The model's run is a run of its streams.
+-- THE MODEL'S RUN (`model-run`) is a run of its streams.
 use mathlib.Core.Path.{_≡_, refl}
 use mathlib.Core.Logic.{inl, inr, _≢_, _↔_}
 use Prim.Native.Nat.{ℕ, zero, suc, _+_, _/_, _<_}

@@ -1,4 +1,4 @@
--- NECESSARY: a good schedule leaves no interval that asks too much. Of any table whatever.
+-- NECESSARY (`necessary`): a good schedule leaves no interval that asks too much. Of any table whatever.
 use mathlib.Core.Bool.{Bool, true, false, _&&_}
 use Prim.Native.Nat.{ℕ, zero, suc, _+_, _-_, _*_, _≤_, _<_}
 use native.Mathlib.Omega.{arith}

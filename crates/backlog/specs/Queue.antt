@@ -1,4 +1,4 @@
--- ONE QUEUE: work arrives in each slot, and each slot takes one unit away. A backlog began in a busy period, in which it arrived, and one unit more for each slot.
+-- ONE QUEUE (`busy-from`): a backlog began in a busy period, in which it arrived, and one unit more for each slot.
 use mathlib.Core.Path.{_≡_}
 use mathlib.Core.Logic.{_⊎_, inl, inr}
 use Prim.Native.Nat.{ℕ, zero, suc, _+_, _-_, _≤_, _<_}

@@ -1,4 +1,4 @@
--- THE STATE REPEATS: without overload, from one round after the start on, every job is as far as its twin a round later will be.
+-- THE STATE REPEATS (`repeats-done`): without overload, from one round after the start on, every job is as far as its twin a round later will be.
 use mathlib.Core.Path.{_≡_, refl, sym, ap, _∙_}
 use mathlib.Core.Logic.{_≢_, _↔_}
 use Prim.Native.Nat.{ℕ, zero, suc, _+_, _-_, _*_, _≤_, _<_, min}

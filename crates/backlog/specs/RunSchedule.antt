@@ -1,9 +1,9 @@
--- The run as a schedule: each slot goes to the released, unfinished job that comes first, and each job finishes as the counts say.
+-- THE RUN AS A SCHEDULE (`finishes-iff`): each job finishes as the counts of served slots say.
 use mathlib.Core.Path.{_≡_, refl, sym, ap, _∙_}
-use mathlib.Core.Logic.{_⊎_, inl, inr, _≢_, _↔_}
+use mathlib.Core.Logic.{inl, inr, _≢_, _↔_}
 use mathlib.Core.Bool.{false, _&&_}
 use Prim.Native.Nat.{ℕ, zero, suc, _+_, _-_, _*_, _/_, _≤_, _<_, min}
-use native.Mathlib.Nat.{lt-mul-div-succ, div-lt-iff-lt-mul, mul-le-mul-right, mul-le-mul-left, mul-div-le}
+use native.Mathlib.Nat.{lt-mul-div-succ, mul-le-mul-left, mul-div-le}
 use native.Mathlib.Decide.{ℕ-discrete, decLt}
 use native.Mathlib.Omega.{arith}
 use borrow.Author.Tests.{lt-ltb, le-ltb, eq-eqb, ne-eqb}
@@ -13,11 +13,11 @@ use Rattle.model.specs.Schedule.{Slot, none, job, belongs, given, Good}
 use Rattle.model.specs.Run.{owner, run, Finishes}
 use Rattle.counting.specs.Count.{tests, and-iff, count-le}
 use Rattle.counting.specs.Search.{least-iff}
-use Rattle.backlog.specs.Choice.{NoLater, Chosen}
-use Rattle.backlog.specs.System.{System, size, costOf, periodOf, releaseOf, dueOf, period-pos, JobNoLater, jobs, dues}
-use Rattle.backlog.specs.ModelRun.{servedOf, chosen, owner-served, others-served, model-run}
-use Rattle.backlog.specs.Left.{DoneFirst}
+use Rattle.backlog.specs.Finish.{DoneFirst}
 use Rattle.backlog.specs.Criterion.{Met}
+use Rattle.backlog.specs.Choice.{Chosen}
+use Rattle.backlog.specs.System.{System, size, costOf, releaseOf, dueOf, jobs, dues}
+use Rattle.backlog.specs.ModelRun.{servedOf, chosen, owner-served, others-served, model-run}
 
 -- One slot more for the task: one more for the job it is at, and for no other.
 more : (c s j : ℕ) → 0 < c → min c (s + 1 - c * j) ≡ min c (s - c * j) + bit (eqb (s / c) j)
@@ -38,22 +38,22 @@ more c s j pos = go (ℕ-discrete (s / c) j)
         apart (no l) = let m : suc j ≤ s / c = omega arith in omega (arith, low, mul-le-mul-left c m)
 
 module _ (S : System) where
-  abbrev runOwner : ℕ → ℕ
+  abbrev pub runOwner : ℕ → ℕ
   runOwner u = owner (S .table) (S .rank) u
 
-  abbrev runAt : ℕ → Slot
+  abbrev pub runAt : ℕ → Slot
   runAt u = run (S .table) (S .rank) u
 
   -- The job that task i is at in slot u.
-  abbrev at : ℕ → ℕ → ℕ
+  abbrev pub at : ℕ → ℕ → ℕ
   at u i = servedOf S u i / costOf S i
 
   -- The slot of an owner, and of none.
-  run-job : (u : ℕ) → runOwner u < size S → runAt u ≡ job (runOwner u) (at u (runOwner u))
+  pub run-job : (u : ℕ) → runOwner u < size S → runAt u ≡ job (runOwner u) (at u (runOwner u))
   unfolding run
   run-job u l = rw (lt-ltb (runOwner u) (size S) l)
 
-  run-none : (u : ℕ) → size S ≤ runOwner u → runAt u ≡ none
+  pub run-none : (u : ℕ) → size S ≤ runOwner u → runAt u ≡ none
   unfolding run
   run-none u l = rw (le-ltb (runOwner u) (size S) l)
 
@@ -104,7 +104,7 @@ module _ (S : System) where
   pub undone-iff : (i j u : ℕ) → i < size S → (given (run (S .table) (S .rank)) i j 0 u < costOf S i) ↔ (servedOf S u i < costOf S i * suc j)
   undone-iff i j u l = (λ h. omega (arith, job-given i j u l), λ h. omega (arith, job-given i j u l, S .cost-pos i l))
 
-  -- FINISH, by the counts.
+  -- So it finishes when its task has first had them.
   pub finishes-iff : (i j f : ℕ) → i < size S → Finishes (S .table) (S .rank) i j f ↔ DoneFirst (jobs S) (servedOf S) i j f
   unfolding Finishes
   finishes-iff i j f l = least-iff _ _ (λ u. done-iff i j u l) f
@@ -113,42 +113,3 @@ module _ (S : System) where
   pub run-good : Met (jobs S) (dues S) (servedOf S) → Good (S .table) (run (S .table) (S .rank))
   unfolding Good
   run-good h i j l = omega (arith, given-released i j (dueOf S i j) l, done-iff i j (dueOf S i j) l .1 (h i j l))
-
-  -- Job j of task i is released and unfinished in slot u.
-  abbrev pub Waiting : ℕ → ℕ → ℕ → Type 0
-  Waiting u i j = (i < size S) × (releaseOf S i j ≤ u) × (given (run (S .table) (S .rank)) i j 0 u < costOf S i)
-
-  -- THE RUN'S RULE, in document 01's words: the slot goes to the waiting job with the earliest deadline, ties by the order; to none only if none waits.
-  pub run-rule : (u : ℕ) →
-      ((runAt u ≡ none) × ((i j : ℕ) → Waiting u i j → ⊥))
-      ⊎ ((i : ℕ) × (j : ℕ) × (runAt u ≡ job i j) × Waiting u i j × ((k m : ℕ) → Waiting u k m → JobNoLater S i j k m))
-  run-rule u = go (chosen S u)
-    where
-      before : (i j : ℕ) → Waiting u i j → at u i ≤ j
-      before i j (l, r, g) =
-          let d : at u i < suc j = div-lt-iff-lt-mul (S .cost-pos i l) .1 (omega (arith, undone-iff i j u l .0 g)) in
-          omega arith
-
-      ready : (i j : ℕ) → Waiting u i j → T (leb (releaseOf S i (at u i)) u)
-      ready i j w = omega (tests, w .1, mul-le-mul-right (periodOf S i) (before i j w))
-
-      later : (i j k m : ℕ) → NoLater (λ k. dueOf S k (at u k)) (S .rank) i k → at u i ≡ j → Waiting u k m → JobNoLater S i j k m
-      later i j k m (inl a) e w = inl (omega (arith, ap (dueOf S i) e, mul-le-mul-right (periodOf S k) (before k m w)))
-      later i j k m (inr (a, r)) e w = elim (ℕ-discrete (at u k) m) [
-        | yes q ↦ inr (omega (arith, ap (dueOf S i) e, ap (dueOf S k) q), r)
-        | no q ↦ let n : suc (at u k) ≤ m = omega (arith, before k m w) in inl (omega (arith, ap (dueOf S i) e, mul-le-mul-right (periodOf S k) n, period-pos S k (w .0)))
-      ]
-
-      go : Chosen (λ k. leb (releaseOf S k (at u k)) u) (λ k. dueOf S k (at u k)) (S .rank) (size S) (runOwner u)
-          → ((runAt u ≡ none) × ((i j : ℕ) → Waiting u i j → ⊥)) ⊎ ((i : ℕ) × (j : ℕ) × (runAt u ≡ job i j) × Waiting u i j × ((k m : ℕ) → Waiting u k m → JobNoLater S i j k m))
-      go (inl c) = inl (run-none u (omega (arith, c .none, S .size-le)), λ i j w. c .shut i (w .0) (ready i j w))
-      go (inr c) = inr (
-        runOwner u,
-        at u (runOwner u),
-        run-job u (c .bound),
-        (c .bound, omega (tests, c .opened), undone-iff (runOwner u) (at u (runOwner u)) u (c .bound) .1 unfinished),
-        λ k m w. later (runOwner u) (at u (runOwner u)) k m (c .ahead k (w .0) (ready k m w)) refl w,
-      )
-        where
-          unfinished : servedOf S u (runOwner u) < costOf S (runOwner u) * suc (at u (runOwner u))
-          unfinished = omega (arith, lt-mul-div-succ (servedOf S u (runOwner u)) (S .cost-pos (runOwner u) (c .bound)))

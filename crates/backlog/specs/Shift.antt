@@ -1,4 +1,4 @@
--- ONE ROUND LATER as much is left, up to a key that is a round later: no less ever, and without overload no more from one round after the start on.
+-- ONE ROUND LATER (`left-down`) as much is left, up to a key that is a round later: no less ever, and without overload no more from one round after the start on.
 use mathlib.Core.Path.{_≡_, sym, ap, subst}
 use mathlib.Core.Logic.{_⊎_, inl, inr}
 use Prim.Native.Nat.{ℕ, suc, _+_, _-_, _*_, _≤_, _<_, min}

@@ -1,4 +1,4 @@
--- The dispatcher's states from a start on: a wait tells the next release, an open job is the last released and not past its deadline, and no step is refused.
+-- NO STEP IS REFUSED (`never-refused`) from a start on: a wait tells the next release, and an open job is the last released and not past its deadline.
 use mathlib.Core.Path.{_≡_, ap, _∙_}
 use mathlib.Core.Logic.{_⊎_, inl, inr, _≢_}
 use mathlib.Core.Bool.{Bool, cond}
@@ -18,8 +18,8 @@ use Rattle.model.specs.History.{stateAt, ownerAt}
 use Rattle.counting.specs.Fill.{fill-ahead, getD-same}
 use Rattle.counting.specs.Below.{lt-below, below-none}
 use Rattle.wellformed.specs.Ranges.{Ranged}
-use Rattle.backlog.specs.System.{System, releaseOf, dueOf, jobs, releasedBy}
 use Rattle.backlog.specs.Domination.{Releases, releases}
+use Rattle.backlog.specs.System.{System, releaseOf, dueOf, jobs, releasedBy}
 use Rattle.backlog.specs.TableSystem.{tieSystem}
 use Rattle.backlog.specs.Taken.{Belongs, KeptOrClosed, closed-late-iff, left-done-le, kept-or-closed, owner-ready, wait-start, left-start, belongs-start, wait-after, left-after, belongs-after, kept-open}
 
@@ -120,7 +120,7 @@ module _ (t : Table) (r : Ranged t) (done : ℕ → Bool) where
       let first : releaseOf S i j < suc n = lt-below (releaseOf S i) ((jobs S) .rel-grows i l) (suc n) j .0 (omega arith) in
       (j, omega arith, early)
 
-  -- NO STEP IS REFUSED, and each gives the next state.
+  -- So no step is refused, and each gives the next state.
   pub never-refused : (m : Measure) → judged t ≡ Judgement.WellFormed m → (n : ℕ) → stepped t (before n) (done n) ≡ record { given = Given.Slot (turn t (before n) (done n)); state = before (suc n) }
   unfolding stepped stateAt
   never-refused m e n = let b = sound n .belongs in rw (e, le-ltb (firstStrange t (before n)) (t .count) (b .each), b .ran)

@@ -1,4 +1,4 @@
--- A table within its ranges, with an order of its tasks, as streams of jobs.
+-- A TABLE IS STREAMS OF JOBS (`demand-streams`): one within its ranges, with an order of its tasks, makes streams with the model's demand.
 use mathlib.Core.Path.{_≡_, refl, sym, ap, _∙_}
 use mathlib.Core.Logic.{inl, inr, _↔_}
 use Prim.Native.Nat.{ℕ, suc, _+_, _-_, _*_, _%_, _≤_, _<_}

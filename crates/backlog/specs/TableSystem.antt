@@ -1,4 +1,4 @@
--- A table that keeps its ranges, with any order of its tasks, is a system, and its H and largest offset make its cycle.
+-- A TABLE IS A SYSTEM (`systemOf`) if it keeps its ranges, with any order of its tasks; its H and largest offset make its cycle.
 use mathlib.Core.Path.{_≡_, refl}
 use Prim.Native.Nat.{_/_}
 use native.Mathlib.Nat.{div-mul-cancel}

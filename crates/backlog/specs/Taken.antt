@@ -1,4 +1,4 @@
--- ONCE TAKEN, NEVER REFUSED: what a step makes of a state that belongs to its table, whoever made it, and that the successor belongs to it too.
+-- ONCE TAKEN, NEVER REFUSED (`belongs-after`): what a step makes of a state that belongs to its table, whoever made it, belongs to it too.
 use mathlib.Core.Path.{_≡_, refl, subst, _∙_}
 use mathlib.Core.Logic.{_⊎_, inl, inr, _≢_, _↔_}
 use mathlib.Core.Bool.{Bool, true, false, cond, _&&_, _||_}
@@ -193,7 +193,7 @@ module _ (t : Table) where
                 open-to = λ p. let (q, x) = was p in omega (arith, wait-after i l, w, o .open-to q);
               }
 
-      -- ONCE TAKEN, NEVER REFUSED: the successor belongs to the table.
+      -- The successor belongs to the table.
       pub belongs-after : Belongs (after t d done)
       unfolding after
       belongs-after = record {

@@ -1,8 +1,8 @@
--- THE WALK: with no done reports and no late deadline before, the dispatcher does as the run does, and sees the first late deadline.
+-- THE WALK (`agrees`): with no done reports and no late deadline before, what the dispatcher has left and what the run has served make all that was released.
 use mathlib.Core.Path.{_≡_, sym, ap, _∙_}
-use mathlib.Core.Logic.{_⊎_, inl, inr, _↔_}
+use mathlib.Core.Logic.{_⊎_, inl, inr}
 use mathlib.Core.Bool.{Bool, false, cond}
-use Prim.Native.Nat.{ℕ, zero, suc, _+_, _-_, _*_, _/_, _≤_, _<_}
+use Prim.Native.Nat.{ℕ, zero, suc, _+_, _-_, _*_, _/_, _<_}
 use native.Mathlib.Nat.{le-refl, le-step, div-eq-of-lt-le}
 use native.Mathlib.Decide.{ℕ-discrete, decLt}
 use native.Mathlib.Omega.{arith}
@@ -11,23 +11,21 @@ use lib.Dec.{T, ltb, eqb, ltb→lt, lt→ltb}
 use Rattle.values.specs.declared.Table.{Table}
 use Rattle.model.specs.Tasks.{task}
 use Rattle.model.specs.Demand.{lateAt}
-use Rattle.model.specs.Schedule.{given}
-use Rattle.model.specs.Run.{tieOrder, owner, run}
-use Rattle.model.specs.Dispatcher.{State, waitOf, leftOf, isLate, waitReleased, leftReleased}
+use Rattle.model.specs.Run.{tieOrder, owner}
+use Rattle.model.specs.Dispatcher.{State, waitOf, leftOf, isLate, waitReleased}
 use Rattle.model.specs.History.{stateAt, ownerAt}
-use Rattle.counting.specs.Below.{below-none, below-is}
+use Rattle.counting.specs.Below.{below-none}
 use Rattle.wellformed.specs.Ranges.{Ranged}
-use Rattle.backlog.specs.Left.{served-mono}
-use Rattle.backlog.specs.System.{System, releaseOf, dueOf, jobs, releasedBy}
 use Rattle.backlog.specs.Choice.{NoLater, chosen-same}
+use Rattle.backlog.specs.System.{System, releaseOf, dueOf, releasedBy}
 use Rattle.backlog.specs.ModelRun.{servedOf, ready-iff, model-run, owner-served, others-served}
 use Rattle.backlog.specs.ModelRun as run-of
 use Rattle.backlog.specs.RunSchedule.{undone-iff}
 use Rattle.backlog.specs.TableSystem.{tieSystem}
-use Rattle.backlog.specs.Decided.{Missed, missed-iff}
-use Rattle.backlog.specs.StepHistory.{step-history}
+use Rattle.backlog.specs.EveryInstant.{missed-iff}
 use Rattle.backlog.specs.Taken.{closed-late-iff, chosen, owner-ready, released-le}
 use Rattle.backlog.specs.Stepping.{Fresh, Kept, finds, late-is, ready-is, left-next, sound}
+use Rattle.backlog.specs.StepHistory.{first-open, ready}
 
 -- No done report, ever.
 abbrev pub quiet : ℕ → Bool
@@ -44,33 +42,30 @@ module _ (t : Table) (r : Ranged t) where
   abbrev st : ℕ → State
   st n = stateAt t quiet n
 
-  abbrev pub ready : ℕ → ℕ → ℕ
-  ready n i = leftReleased t (st n) false i
-
   -- What is left in the dispatcher and what the run has served make all that was released.
   abbrev pub Agrees : ℕ → Type 0
   Agrees n = (i : ℕ) → i < t .count → leftOf (st n) i + servedOf S n i ≡ task t i .cost * releasedBy S i n
 
   -- A job closed as late means a late deadline.
-  late-missed : (n : ℕ) → Agrees n → (i : ℕ) → i < t .count → T (isLate t (st n) false i) → T (lateAt t n)
+  pub late-missed : (n : ℕ) → Agrees n → (i : ℕ) → i < t .count → T (isLate t (st n) false i) → T (lateAt t n)
   late-missed n a i l h =
       let (p, (j, e, b)) = late-is t r quiet n i (sound t r quiet n) h in
       missed-iff S n .0 (i, j, l, omega arith, undone-iff S i j n l .1 (omega (arith, a i l, ap (λ (y : ℕ). task t i .cost * y) b)))
 
   -- Agreement before slot n gives it after the releases of slot n.
-  pub ready-agrees : (n : ℕ) → Agrees n → (T (lateAt t n) → ⊥) → (i : ℕ) → i < t .count → ready n i + servedOf S n i ≡ task t i .cost * releasedBy S i (suc n)
+  pub ready-agrees : (n : ℕ) → Agrees n → (T (lateAt t n) → ⊥) → (i : ℕ) → i < t .count → ready t quiet n i + servedOf S n i ≡ task t i .cost * releasedBy S i (suc n)
   ready-agrees n a never i l = go (finds t r quiet n i (sound t r quiet n) l)
     where
-      kept : Kept t r quiet n i → ready n i + servedOf S n i ≡ task t i .cost * releasedBy S i (suc n)
+      kept : Kept t r quiet n i → ready t quiet n i + servedOf S n i ≡ task t i .cost * releasedBy S i (suc n)
       kept k = elim (k .left) [
         | inl e ↦ omega (arith, e .0, a i l, ap (λ (y : ℕ). task t i .cost * y) (k .passed))
         | inr e ↦ elim (e .1) [ inl x ↦ absurd x | inr x ↦ absurd (never (late-missed n a i l x)) ]
       ]
 
-      fresh : (j : ℕ) → Fresh t r quiet n i j → ready n i + servedOf S n i ≡ task t i .cost * releasedBy S i (suc n)
+      fresh : (j : ℕ) → Fresh t r quiet n i j → ready t quiet n i + servedOf S n i ≡ task t i .cost * releasedBy S i (suc n)
       fresh j f = at (decLt 0 (leftOf (st n) i))
         where
-          at : Dec (0 < leftOf (st n) i) → ready n i + servedOf S n i ≡ task t i .cost * releasedBy S i (suc n)
+          at : Dec (0 < leftOf (st n) i) → ready t quiet n i + servedOf S n i ≡ task t i .cost * releasedBy S i (suc n)
           at (no p) = omega (arith, f .left, a i l, ap (λ (y : ℕ). task t i .cost * y) (f .earlier), ap (λ (y : ℕ). task t i .cost * y) (f .passed))
           at (yes p) =
               let (k, b, d) = sound t r quiet n .current i l p in
@@ -78,12 +73,12 @@ module _ (t : Table) (r : Ranged t) where
               let w : waitOf (st n) i + n ≡ releaseOf S i (suc k) = sound t r quiet n .next i l ∙ ap (releaseOf S i) b in
               absurd (never (late-missed n a i l (closed-late-iff t (st n) false i .1 (l, p, omega (arith, r .each i l .deadline-le)))))
 
-      go : ((j : ℕ) × Fresh t r quiet n i j) ⊎ Kept t r quiet n i → ready n i + servedOf S n i ≡ task t i .cost * releasedBy S i (suc n)
+      go : ((j : ℕ) × Fresh t r quiet n i j) ⊎ Kept t r quiet n i → ready t quiet n i + servedOf S n i ≡ task t i .cost * releasedBy S i (suc n)
       go (inl (j, f)) = fresh j f
       go (inr k) = kept k
 
   -- A task that may be served is at its last released job, with the deadline that its wait says.
-  at-job : (n : ℕ) → Agrees n → (T (lateAt t n) → ⊥) → (i : ℕ) → i < t .count → 0 < ready n i
+  at-job : (n : ℕ) → Agrees n → (T (lateAt t n) → ⊥) → (i : ℕ) → i < t .count → 0 < ready t quiet n i
       → dueOf S i (servedOf S n i / task t i .cost) ≡ n + (waitReleased t (st n) false i - (task t i .period - task t i .deadline))
   at-job n a never i l p =
       let (j, b, e, d) = ready-is t r quiet n i (sound t r quiet n) l p in
@@ -93,11 +88,11 @@ module _ (t : Table) (r : Ranged t) where
   -- The dispatcher gives the slot to the task that the run gives it to.
   pub owner-agrees : (n : ℕ) → Agrees n → (T (lateAt t n) → ⊥) → ownerAt t quiet n ≡ owner t (tieOrder t) n
   owner-agrees n a never =
-      chosen-same (λ i. ltb 0 (ready n i)) _ (λ i. waitReleased t (st n) false i - (task t i .period - task t i .deadline)) (λ i. dueOf S i (servedOf S n i / task t i .cost)) (tieOrder t) (t .count) (ownerAt t quiet n) (owner t (tieOrder t) n)
+      chosen-same (λ i. ltb 0 (ready t quiet n i)) _ (λ i. waitReleased t (st n) false i - (task t i .period - task t i .deadline)) (λ i. dueOf S i (servedOf S n i / task t i .cost)) (tieOrder t) (t .count) (ownerAt t quiet n) (owner t (tieOrder t) n)
       (S .ranks .apart)
-      (λ i l p. ready-iff S i n (servedOf S n i) l .1 (omega (arith, ready-agrees n a never i l, ltb→lt 0 (ready n i) p)))
-      (λ i l p. lt→ltb 0 (ready n i) (omega (arith, ready-agrees n a never i l, ready-iff S i n (servedOf S n i) l .0 p)))
-      (λ i k l m p q x. alike i k (at-job n a never i l (ltb→lt 0 (ready n i) p)) (at-job n a never k m (ltb→lt 0 (ready n k) q)) x)
+      (λ i l p. ready-iff S i n (servedOf S n i) l .1 (omega (arith, ready-agrees n a never i l, ltb→lt 0 (ready t quiet n i) p)))
+      (λ i l p. lt→ltb 0 (ready t quiet n i) (omega (arith, ready-agrees n a never i l, ready-iff S i n (servedOf S n i) l .0 p)))
+      (λ i k l m p q x. alike i k (at-job n a never i l (ltb→lt 0 (ready t quiet n i) p)) (at-job n a never k m (ltb→lt 0 (ready t quiet n k) q)) x)
       (chosen t (st n) false (r .few))
       (run-of.chosen S n)
     where
@@ -108,48 +103,21 @@ module _ (t : Table) (r : Ranged t) where
       alike i k e f (inl x) = inl (omega arith)
       alike i k e f (inr (x, o)) = inr (omega arith, o)
 
-  -- AGREEMENT, as long as no deadline is late.
+  -- Agreement, as long as no deadline is late.
   pub agrees : (n : ℕ) → Clear t n → Agrees n
-  agrees zero c i l = rw (below-none (releaseOf S i)) (omega (arith, step-history t r quiet .start i l, (model-run S) .start i l))
+  agrees zero c i l = rw (below-none (releaseOf S i)) (omega (arith, first-open t quiet i, (model-run S) .start i l))
   agrees (suc n) c i l = step (agrees n (λ u m. c u (le-step m))) (c n (le-refl (suc n)))
     where
       step : Agrees n → (T (lateAt t n) → ⊥) → leftOf (st (suc n)) i + servedOf S (suc n) i ≡ task t i .cost * releasedBy S i (suc n)
       step a never = at (ℕ-discrete (ownerAt t quiet n) i) (owner-agrees n a never)
         where
-          left-now : leftOf (st (suc n)) i ≡ ready n i - cond (eqb (ownerAt t quiet n) i) 1 0
+          left-now : leftOf (st (suc n)) i ≡ ready t quiet n i - cond (eqb (ownerAt t quiet n) i) 1 0
           left-now = left-next t r quiet n i (sound t r quiet n) l
 
           at : Dec (ownerAt t quiet n ≡ i) → ownerAt t quiet n ≡ owner t (tieOrder t) n → leftOf (st (suc n)) i + servedOf S (suc n) i ≡ task t i .cost * releasedBy S i (suc n)
           at (no e) q = rw (left-now, ne-eqb (ownerAt t quiet n) i e, others-served S n i (λ x. e (q ∙ sym x))) (omega (arith, ready-agrees n a never i l))
           at (yes e) q =
               let o : owner t (tieOrder t) n ≡ i = sym q ∙ e in
-              let p : 0 < ready n i = owner-ready t (st n) false (r .few) i l e in
+              let p : 0 < ready t quiet n i = owner-ready t (st n) false (r .few) i l e in
               let one : servedOf S (suc n) i ≡ servedOf S n i + 1 = rw o at (owner-served S n (omega arith)) in
               rw (left-now, eq-eqb (ownerAt t quiet n) i e, one) (omega (arith, ready-agrees n a never i l))
-
-  -- THE FIRST LATE DEADLINE: with none before n, some open job is at its deadline at n exactly if n is late.
-  pub late-iff : (n : ℕ) → Clear t n → ((i : ℕ) × (i < t .count) × T (isLate t (st n) false i)) ↔ T (lateAt t n)
-  late-iff n c = (λ (i, l, h). late-missed n (agrees n c) i l h, λ h. seen (missed-iff S n .1 h))
-    where
-      seen : Missed S n → (i : ℕ) × (i < t .count) × T (isLate t (st n) false i)
-      seen (i, j, l, d, g) = (i, l, closed-late-iff t (st n) false i .1 (l, some, at-end))
-        where
-          served-less : servedOf S n i < task t i .cost * suc j
-          served-less = undone-iff S i j n l .0 g
-
-          behind : (u : ℕ) → u ≤ n → given (run t (tieOrder t)) i j 0 u < task t i .cost
-          behind u m = undone-iff S i j u l .1 (omega (arith, served-mono (jobs S) (servedOf S) (model-run S) i l u n m, served-less))
-
-          -- Its deadline is n: missed before, it would have been late before.
-          now : dueOf S i j ≡ n
-          now = elim (decLt (dueOf S i j) n) [ yes p ↦ absurd (c (dueOf S i j) p (missed-iff S (dueOf S i j) .0 (i, j, l, le-refl _, behind (dueOf S i j) d))) | no p ↦ omega arith ]
-
-          -- So it is the last one released.
-          last : releasedBy S i n ≡ suc j
-          last = below-is (releaseOf S i) ((jobs S) .rel-grows i l) n j (omega (arith, now, r .each i l .deadline-pos)) (omega (arith, now, r .each i l .deadline-le))
-
-          some : 0 < leftOf (st n) i
-          some = omega (arith, agrees n c i l, served-less, ap (λ (y : ℕ). task t i .cost * y) last)
-
-          at-end : waitOf (st n) i ≡ task t i .period - task t i .deadline
-          at-end = omega (arith, sound t r quiet n .next i l, ap (releaseOf S i) last, now, r .each i l .deadline-le)

@@ -1,4 +1,4 @@
--- What a walk sees: the largest responses of the jobs that finish, and the first empty slot. Up to the horizon these are the model's.
+-- WORST RESPONSES BY A WALK (`walk-worsts`): the largest responses that a walk to the horizon sees are the worst for ever.
 use mathlib.Core.Path.{_≡_, refl, sym, ap, subst, _∙_}
 use mathlib.Core.Logic.{_⊎_, inl, inr}
 use mathlib.Core.List.{List}
@@ -12,19 +12,18 @@ use lib.ListN.{getD, length, set, replicate, length-replicate, length-set}
 use lib.Seq.{getD-set-same, getD-set-other}
 use lib.Arith.{le-zero}
 use Rattle.values.specs.declared.Table.{Table}
-use Rattle.model.specs.Notation.{first}
 use Rattle.model.specs.Limits.{taskLimit}
 use Rattle.model.specs.Tasks.{task, horizon}
-use Rattle.model.specs.Run.{tieOrder, owner, Finishes, Worst, firstEmpty}
+use Rattle.model.specs.Run.{tieOrder, owner, Finishes, Worst}
 use Rattle.model.specs.Verdict.{Worsts}
 use Rattle.model.specs.Dispatcher.{State, waitOf, leftOf}
 use Rattle.model.specs.History.{stateAt, ownerAt}
 use Rattle.counting.specs.Count.{and-iff, eq→eqb}
-use Rattle.counting.specs.Search.{first-eq}
 use Rattle.counting.specs.Fill.{getD-same}
 use Rattle.counting.specs.Below.{lt-below}
 use Rattle.wellformed.specs.Ranges.{Ranged}
-use Rattle.backlog.specs.Left.{DoneFirst, served-mono}
+use Rattle.backlog.specs.Left.{served-mono}
+use Rattle.backlog.specs.Finish.{DoneFirst}
 use Rattle.backlog.specs.Criterion.{Met}
 use Rattle.backlog.specs.System.{System, releaseOf, dueOf, jobs, dues}
 use Rattle.backlog.specs.ModelRun.{servedOf, model-run, owner-served, others-served}
@@ -34,7 +33,8 @@ use Rattle.backlog.specs.Worst.{ends, worst-is}
 use Rattle.backlog.specs.TableSystem.{tie-ranks, horizon-is, tieSystem, tieCycle}
 use Rattle.backlog.specs.Taken.{owner-ready, released-le}
 use Rattle.backlog.specs.Stepping.{ready-is, sound}
-use Rattle.backlog.specs.Walk.{quiet, Clear, Agrees, ready, agrees, ready-agrees, owner-agrees}
+use Rattle.backlog.specs.StepHistory.{ready}
+use Rattle.backlog.specs.Walk.{quiet, Clear, Agrees, agrees, ready-agrees, owner-agrees}
 
 -- Slot n finishes the job that it is given to.
 abbrev pub finishing : Table → ℕ → Bool
@@ -59,6 +59,23 @@ worst-length t (suc n) = go (finishing t n) (worst-length t n)
     go true e = simp length-set e
     go false e = e
 
+module _ (t : Table) where
+  none-noted : (i : ℕ) → getD (worstBy t 0) i 0 ≡ 0
+  unfolding worstBy
+  none-noted i = getD-same taskLimit 0 i
+
+  -- Past the last task nothing is noted.
+  none-past : (n i : ℕ) → t .count ≤ i → getD (worstBy t n) i 0 ≡ 0
+  unfolding worstBy
+  none-past zero i l = none-noted i
+  none-past (suc n) i l = go (finishing t n) refl (none-past n i l)
+    where
+      go : (b : Bool) → finishing t n ≡ b → getD (worstBy t n) i 0 ≡ 0 → getD (worstBy t (suc n)) i 0 ≡ 0
+      go true e z =
+          let k : ownerAt t quiet n < t .count = ltb→lt _ _ (and-iff (ltb (ownerAt t quiet n) (t .count)) _ .0 (subst T (sym e) tt) .0) in
+          rw e (getD-set-other (worstBy t n) (ownerAt t quiet n) i _ 0 (λ x. absurd (omega arith)) ∙ z)
+      go false e z = rw e z
+
 module _ (t : Table) (r : Ranged t) where
   abbrev S : System
   S = tieSystem t r
@@ -73,9 +90,9 @@ module _ (t : Table) (r : Ranged t) where
   record Served (n k : ℕ) : Type 0 where
     job : ℕ
     early : releaseOf S k job ≤ n
-    waits : ready t r n k + servedOf S n k ≡ task t k .cost * suc job
-    most : ready t r n k ≤ task t k .cost
-    some : 0 < ready t r n k
+    waits : ready t quiet n k + servedOf S n k ≡ task t k .cost * suc job
+    most : ready t quiet n k ≤ task t k .cost
+    some : 0 < ready t quiet n k
     one : servedOf S (suc n) k ≡ servedOf S n k + 1
     left : leftOf (st (suc n)) k + servedOf S (suc n) k ≡ task t k .cost * suc job
     wait : waitOf (st (suc n)) k + suc n ≡ releaseOf S k (suc job)
@@ -83,7 +100,7 @@ module _ (t : Table) (r : Ranged t) where
   serves : (n : ℕ) → Clear t (suc n) → (k : ℕ) → owner-at n ≡ k → k < t .count → Served n k
   serves n c k e l =
       let a : Agrees t r n = agrees t r n (λ u m. c u (le-step m)) in
-      let p : 0 < ready t r n k = owner-ready t (st n) false (r .few) k l e in
+      let p : 0 < ready t quiet n k = owner-ready t (st n) false (r .few) k l e in
       let (j, b, d, f) = ready-is t r quiet n k (sound t r quiet n) l p in
       let o : owner t (tieOrder t) n ≡ k = sym (owner-agrees t r n a (c n (le-refl (suc n)))) ∙ e in
       record {
@@ -119,7 +136,7 @@ module _ (t : Table) (r : Ranged t) where
           let q : v .job ≡ j = same (v .job) (v .waits) (v .most) (v .some) (v .one) in
           (e, omega (arith, ap (λ (y : ℕ). task t i .cost * suc y) q), omega (arith, v .wait, v .early, ap (releaseOf S i) q))
         where
-          same : (m : ℕ) → ready t r n i + servedOf S n i ≡ task t i .cost * suc m → ready t r n i ≤ task t i .cost → 0 < ready t r n i → servedOf S (suc n) i ≡ servedOf S n i + 1 → m ≡ j
+          same : (m : ℕ) → ready t quiet n i + servedOf S n i ≡ task t i .cost * suc m → ready t quiet n i ≤ task t i .cost → 0 < ready t quiet n i → servedOf S (suc n) i ≡ servedOf S n i + 1 → m ≡ j
           same m w x y z = elim (decLt m j) [
             | yes p ↦ absurd (omega (arith, mul-le-mul-left (task t i .cost) p))
             | no p ↦ elim (decLt j m) [ yes q ↦ absurd (omega (arith, not-before, mul-le-mul-left (task t i .cost) q)) | no q ↦ omega arith ]
@@ -150,12 +167,8 @@ module _ (t : Table) (r : Ranged t) where
           left-open : owner-at n ≡ i → leftOf (st (suc n)) i ≡ 0 → ⊥
           left-open x y = subst T e (and-iff (ltb (owner-at n) (t .count)) (eqb (leftOf (st (suc n)) (owner-at n)) 0) .1 (lt→ltb (owner-at n) (t .count) (omega arith), eq→eqb (leftOf (st (suc n)) (owner-at n)) 0 (rw x y)))
 
-  none-noted : (i : ℕ) → getD (worstBy t 0) i 0 ≡ 0
-  unfolding worstBy
-  none-noted i = getD-same taskLimit 0 i
-
   pub seen : (n : ℕ) → Clear t n → (i : ℕ) → i < t .count → Noted n i
-  seen zero c i l = record { bound = λ j f d m. (let z : servedOf S f i ≡ 0 = ap (λ (x : ℕ). servedOf S x i) (le-zero m) ∙ (model-run S) .start i l in absurd (omega (arith, d .0, r .each i l .cost-pos))); attained = inl (none-noted i) }
+  seen zero c i l = record { bound = λ j f d m. (let z : servedOf S f i ≡ 0 = ap (λ (x : ℕ). servedOf S x i) (le-zero m) ∙ (model-run S) .start i l in absurd (omega (arith, d .0, r .each i l .cost-pos))); attained = inl (none-noted t i) }
   seen (suc n) c i l = go (notes n i l) (seen n (λ u m. c u (le-step m)) i l)
     where
       now : (f : ℕ) → f ≤ suc n → ¬ (f ≤ n) → f ≡ suc n
@@ -180,24 +193,11 @@ module _ (t : Table) (r : Ranged t) where
         attained = elim (s .attained) [ inl x ↦ inl (e ∙ x) | inr x ↦ inr (x .0, x .1, x .2, x .3 ∙ sym e) ];
       }
 
-  -- Past the last task nothing is noted.
-  none-past : (n i : ℕ) → t .count ≤ i → getD (worstBy t n) i 0 ≡ 0
-  unfolding worstBy
-  none-past zero i l = none-noted i
-  none-past (suc n) i l = go (finishing t n) refl (none-past n i l)
-    where
-      go : (b : Bool) → finishing t n ≡ b → getD (worstBy t n) i 0 ≡ 0 → getD (worstBy t (suc n)) i 0 ≡ 0
-      go true e z =
-          let k : owner-at n < t .count = ltb→lt _ _ (and-iff (ltb (owner-at n) (t .count)) _ .0 (subst T (sym e) tt) .0) in
-          rw e (getD-set-other (worstBy t n) (owner-at n) i _ 0 (λ x. absurd (omega arith)) ∙ z)
-      go false e z = rw e z
-
-  -- WORST RESPONSES by a walk to the horizon.
   pub walk-worsts : Light S (tieCycle t r) → Met (jobs S) (dues S) (servedOf S) → Clear t (horizon t) → Worsts t (worstBy t (horizon t))
   walk-worsts light met c = record {
     size = worst-length t (horizon t);
     worst = λ i l. worst i l (seen (horizon t) c i l);
-    past = λ i l. none-past (horizon t) i l;
+    past = λ i l. none-past t (horizon t) i l;
   }
     where
       worst : (i : ℕ) → i < t .count → Noted (horizon t) i → Worst t (tieOrder t) i (getD (worstBy t (horizon t)) i 0)
@@ -212,8 +212,3 @@ module _ (t : Table) (r : Ranged t) where
               let (f, d, a, b) = first-job in
               let h : f ≤ horizon t = omega (arith, horizon-is t r _ (tie-ranks t), r .each i l .deadline-le, period-le-round S (tieCycle t r) i l, tieCycle t r .starts i l) in
               absurd (omega (arith, s .bound 0 f (finishes-iff S i 0 f l .0 d) h))
-
-  -- THE FIRST EMPTY SLOT by a walk: with no late deadline before the horizon the dispatcher's empty slots are the run's.
-  pub walk-empty : Clear t (horizon t) → first (λ u. eqb (owner-at u) taskLimit) 0 (horizon t) ≡ firstEmpty t (tieOrder t)
-  unfolding firstEmpty
-  walk-empty c = first-eq _ _ 0 (horizon t) (λ u a b. ap (λ (k : ℕ). eqb k taskLimit) (owner-agrees t r u (agrees t r u (λ v m. c v (omega arith))) (c u (omega arith))))

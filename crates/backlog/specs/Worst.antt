@@ -1,4 +1,4 @@
--- WORST RESPONSES: the largest response among the jobs finished by the horizon is the worst for ever.
+-- WORST RESPONSES (`worst-is`): the largest response among the jobs finished by the horizon is the worst for ever.
 use mathlib.Core.Path.{_≡_, refl, ap}
 use Prim.Native.Nat.{ℕ, suc, _+_, _-_, _*_, _≤_, _<_}
 use native.Mathlib.Nat.{le-refl, mul-le-mul-right, le-mul-of-pos-right, sub-add-cancel}
@@ -9,7 +9,8 @@ use Rattle.values.specs.declared.Table.{Table}
 use Rattle.model.specs.Run.{Order, Finishes, Worst}
 use Rattle.counting.specs.Search.{strong, least-unique, greatest, least-le}
 use Rattle.backlog.specs.Streams.{Run}
-use Rattle.backlog.specs.Left.{DoneFirst, finish, served-mono}
+use Rattle.backlog.specs.Left.{served-mono}
+use Rattle.backlog.specs.Finish.{DoneFirst, finish}
 use Rattle.backlog.specs.Criterion.{Met, finishes}
 use Rattle.backlog.specs.System.{System, size, costOf, periodOf, releaseOf, dueOf, jobs, dues, period-pos}
 use Rattle.backlog.specs.ModelRun.{servedOf, model-run}
@@ -72,25 +73,26 @@ module _ (S : System) (Y : Cycle S) (light : Light S Y) (s : ℕ → ℕ → ℕ
   pub worst-for-ever : (w : ℕ) → ((j f : ℕ) → DoneFirst (jobs S) s i j f → f ≤ horizonOf S Y → f - releaseOf S i j ≤ w) → (j f : ℕ) → DoneFirst (jobs S) s i j f → f - releaseOf S i j ≤ w
   worst-for-ever w h j f d = let (k, g, q, a, b) = worst-seen j f d in omega (arith, h k g q a)
 
+-- A job finishes once.
+ends-once : (t : Table) (rank : Order) (i j f g : ℕ) → Finishes t rank i j f → Finishes t rank i j g → f ≡ g
+unfolding Finishes
+ends-once t rank i j f g a b = least-unique _ f g a b
+
 -- The same in the model's words, of its run.
 module _ (S : System) (met : Met (jobs S) (dues S) (servedOf S)) (i : ℕ) (l : i < size S) where
   abbrev Ends : ℕ → ℕ → Type 0
   Ends j f = Finishes (S .table) (S .rank) i j f
 
-  -- Every job finishes once, after its release and by its deadline.
+  -- Every job finishes, after its release and by its deadline.
   pub ends : (j : ℕ) → (f : ℕ) × Ends j f × (releaseOf S i j < f) × (f ≤ dueOf S i j)
   ends j = let (f, d, a, b) = finishes (jobs S) (dues S) (servedOf S) (model-run S) met i j l in (f, finishes-iff S i j f l .1 d, a, b)
-
-  ends-once : (j f g : ℕ) → Ends j f → Ends j g → f ≡ g
-  unfolding Finishes
-  ends-once j f g a b = least-unique _ f g a b
 
   -- A worst response is at least 1 and at most the deadline.
   pub worst-range : (w : ℕ) → Worst (S .table) (S .rank) i w → (0 < w) × (w ≤ task (S .table) i .deadline)
   worst-range w v =
       let (j, f, d, e) = v .attained in
       let (g, q, a, b) = ends j in
-      let c : f ≡ g = ends-once j f g d q in
+      let c : f ≡ g = ends-once _ _ i j f g d q in
       (omega arith, omega arith)
 
   module _ (Y : Cycle S) (light : Light S Y) where
@@ -113,7 +115,7 @@ module _ (S : System) (met : Met (jobs S) (dues S) (servedOf S)) (i : ℕ) (l : 
 
         seen : (k : ℕ) → ((j : ℕ) → j ≤ horizonOf S Y → response j ≤ response k) → (j f : ℕ) → Ends j f → f ≤ horizonOf S Y → f - releaseOf S i j ≤ response k
         seen k h j f d g =
-            let e : f ≡ ends j .0 = ends-once j f (ends j .0) d (ends j .1) in
+            let e : f ≡ ends j .0 = ends-once _ _ i j f (ends j .0) d (ends j .1) in
             omega (arith, h j (omega (arith, ends j .2, le-mul-of-pos-right j (period-pos S i l))), ap (λ (x : ℕ). x - releaseOf S i j) e)
 
 -- Two worst responses of one task are equal.

@@ -28,12 +28,16 @@ use Rattle.counting.specs.Count.{is-false, eq→eqb, decT}
 use Rattle.counting.specs.Search.{NoneFrom, first-le, first-longer, first-is, first-none, first-before, none-up, below-suc}
 use Rattle.wellformed.specs.Ranges.{Ranged}
 use Rattle.wellformed.specs.WellFormed.{WellFormed, well-formed}
-use Rattle.backlog.specs.Decided.{too-much-iff}
-use Rattle.backlog.specs.Verdicts.{needed-is, needed-le, none-late, start-is, is-undecided, is-late, is-passed}
-use Rattle.backlog.specs.Answers.{light-of-passed, met-of-passed}
+use Rattle.backlog.specs.TooMuch.{too-much-iff}
+use Rattle.backlog.specs.Needed.{needed-is, needed-le, none-late}
+use Rattle.backlog.specs.LateStart.{start-is}
+use Rattle.backlog.specs.Verdicts.{is-undecided, is-late, is-passed}
+use Rattle.backlog.specs.PassedWorst.{light-of-passed, met-of-passed}
 use Rattle.backlog.specs.Taken.{owner-one}
-use Rattle.backlog.specs.Walk.{quiet, Clear, late-iff}
-use Rattle.backlog.specs.WalkWorst.{worstBy, walk-worsts, walk-empty}
+use Rattle.backlog.specs.Walk.{quiet, Clear}
+use Rattle.backlog.specs.WalkLate.{late-iff}
+use Rattle.backlog.specs.WalkWorst.{worstBy, walk-worsts}
+use Rattle.backlog.specs.WalkEmpty.{walk-empty}
 use Rattle.backlog.specs.TableSystem.{tie-ranks}
 use Rattle.slots.specs.Slot as slot
 use Rattle.slots.specs.Columns.{columnsOf}

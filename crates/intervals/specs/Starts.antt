@@ -17,7 +17,7 @@ use Rattle.counting.specs.Below.{below-same, below-below}
 use Rattle.counting.specs.Sum.{sum-le, sum-add, sum-mul, sum-zero, sum-bound}
 use Rattle.wellformed.specs.Ranges.{InRange, Ranged}
 use Rattle.wellformed.specs.Round.{share}
-use Rattle.backlog.specs.Decided.{too-much-iff}
+use Rattle.backlog.specs.TooMuch.{too-much-iff}
 use Rattle.intervals.specs.Closed.{releases, dues, jobs-inside}
 use Rattle.intervals.specs.Light.{new-le, shares-le}
 

@@ -38,7 +38,7 @@ use Rattle.model.specs.Notation.{count, first, bits}
 use Rattle.wellformed.specs.Ranges.{InRange, Ranged}
 use Rattle.wellformed.specs.Round.{round-pos, period-divides, round-least}
 use Rattle.wellformed.specs.WellFormed.{judged-iff}
-use Rattle.backlog.specs.Answers.{permitted-unique}
+use Rattle.backlog.specs.Unique.{permitted-unique}
 use Rattle.backlog.specs.Computed.{answerOf, computed}
 use Rattle.backlog.specs.Taken.{belongs-after}
 use Rattle.tablefile.specs.declared.Record.{Record}

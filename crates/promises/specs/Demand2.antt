@@ -24,12 +24,17 @@ use Rattle.model.specs.Schedule.{none, job, Schedule, given, Good}
 use Rattle.model.specs.Run.{tieOrder, run, firstEmpty}
 use Rattle.model.specs.Verdict.{needed, lateStart, verdict, settledBy, emptyIn, Worsts, Answers, PermittedBy, Permitted}
 use Rattle.wellformed.specs.WellFormed.{well-formed}
-use Rattle.backlog.specs.Decided.{sufficient}
-use Rattle.backlog.specs.Verdicts.{Case, overload, undecided, late, passed, the-case, needed-le, needed-is, none-before, none-late, is-late, start-asks, start-largest, undecided-iff, longer, overload-iff, late-needed}
-use Rattle.backlog.specs.RunSchedule.{run-rule}
+use Rattle.backlog.specs.Sufficient.{sufficient}
+use Rattle.backlog.specs.Needed.{needed-le, needed-is, none-before, none-late}
+use Rattle.backlog.specs.LateStart.{start-asks, start-largest}
+use Rattle.backlog.specs.Verdicts.{is-overload, is-undecided, is-late, is-passed, overload-iff, undecided-iff, late-needed, passes-needed-iff}
+use Rattle.backlog.specs.Longer.{longer}
+use Rattle.backlog.specs.RunRule.{run-rule}
 use Rattle.backlog.specs.Worst.{worst-range}
 use Rattle.backlog.specs.TableSystem.{tie-ranks, tieSystem}
-use Rattle.backlog.specs.Answers.{never-of-passed, met-of-passed, passes-iff, overload-infeasible, late-infeasible, permitted-unique, answers-say}
+use Rattle.backlog.specs.Passes.{never-of-passed, passes-iff, overload-infeasible, late-infeasible}
+use Rattle.backlog.specs.PassedWorst.{met-of-passed}
+use Rattle.backlog.specs.Unique.{permitted-unique, answers-say}
 
 module _ (t : Table) (m : Measure) (well : judged t ≡ Judgement.WellFormed m) where
   -- With a budget that reaches the horizon it passes exactly if some schedule is good.
@@ -49,10 +54,6 @@ module _ (t : Table) (m : Measure) (well : judged t ≡ Judgement.WellFormed m) 
       let r = well-formed t m well .ranged in
       sufficient (tieSystem t r) (never-of-passed t r budget e .1)
 
--- What follows from 0 being 1.
-apart : {A : Type 0} → _≡_ {A = ℕ} 0 1 → A
-apart e = absurd (omega arith)
-
 -- Overload is said exactly if the load is above 1, whatever the budget.
 pub overload-exactly : (t : Table) (budget : ℕ) → (verdict t budget ≡ Verdict.Overload) ↔ (round t < load t)
 overload-exactly = overload-iff
@@ -66,14 +67,12 @@ pub needed-within : (t : Table) → needed t ≤ horizon t
 needed-within = needed-le
 
 -- Settled: nothing on overload, the budget where undecided, the horizon where it passes; `late-exactly` says it of a late one.
-settled-case : (t : Table) (budget : ℕ) (v : Verdict) (n : ℕ) → Case t budget v n → (v ≡ Verdict.Overload → n ≡ 0) × (v ≡ Verdict.Undecided → n ≡ budget) × (v ≡ Verdict.Passes → n ≡ horizon t)
-settled-case t budget v n (overload g) = (λ e. refl, λ e. apart (cc), λ e. apart (cc))
-settled-case t budget v n (undecided g b) = (λ e. apart (cc), λ e. refl, λ e. apart (cc))
-settled-case t budget v n (late g b l) = (λ e. apart (cc), λ e. apart (cc), λ e. apart (cc))
-settled-case t budget v n (passed g b l) = (λ e. apart (cc), λ e. apart (cc), λ e. none-late t l .0)
-
 pub settled-exactly : (t : Table) (budget : ℕ) → (verdict t budget ≡ Verdict.Overload → settledBy t budget ≡ 0) × (verdict t budget ≡ Verdict.Undecided → settledBy t budget ≡ budget) × (verdict t budget ≡ Verdict.Passes → settledBy t budget ≡ horizon t)
-settled-exactly t budget = settled-case t budget (verdict t budget) (settledBy t budget) (the-case t budget)
+settled-exactly t budget = (
+  λ e. is-overload t budget (overload-iff t budget .0 e) .1,
+  λ e. let (light, short) = undecided-iff t budget .0 e in is-undecided t budget light short .1,
+  λ e. let (light, enough, quiet) = passes-needed-iff t budget .0 e in is-passed t budget light enough quiet .1 ∙ none-late t quiet .0,
+)
 
 -- A longer budget alters no other verdict, nor the settled count of one.
 pub longer-alters-nothing : (t : Table) (budget more : ℕ) → budget ≤ more → verdict t budget ≢ Verdict.Undecided → (verdict t more ≡ verdict t budget) × (settledBy t more ≡ settledBy t budget)

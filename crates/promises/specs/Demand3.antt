@@ -19,7 +19,11 @@ use Rattle.model.specs.Dispatcher.{Started, Stepped, started, turn, stepped}
 use Rattle.model.specs.History.{stateAt, ownerAt, had, Finished}
 use Rattle.wellformed.specs.WellFormed.{well-formed}
 use Rattle.backlog.specs.Stepping as stepping
-use Rattle.backlog.specs.StepHistory as history
+use Rattle.backlog.specs.NeverMore.{never-more}
+use Rattle.backlog.specs.NoneAfter as after
+use Rattle.backlog.specs.NoneTold.{none-told}
+use Rattle.backlog.specs.InTime.{in-time}
+use Rattle.backlog.specs.NoneWaits.{none-waits}
 use Rattle.promises.specs.Demand2.{passed-exactly}
 
 -- A history: a start on a well-formed table, and steps with any done reports. `stateAt t done n` is the state after n steps.
@@ -34,7 +38,7 @@ module _ (t : Table) (m : Measure) (well : judged t ≡ Judgement.WellFormed m) 
 
   -- No job gets more slots than its cost. Of any well-formed table.
   pub none-too-much : (i j n : ℕ) → i < t .count → n ≤ release (task t i) (suc j) → had t done i (release (task t i) j) n ≤ task t i .cost
-  none-too-much = history.never-more t (well-formed t m well .ranged) done
+  none-too-much = never-more t (well-formed t m well .ranged) done
 
   -- A slot goes to a released job only, and before its deadline. Of any well-formed table.
   pub none-early : (n i : ℕ) → i < t .count → ownerAt t done n ≡ i → (j : ℕ) × (release (task t i) j ≤ n) × (n < due (task t i) j)
@@ -42,7 +46,7 @@ module _ (t : Table) (m : Measure) (well : judged t ≡ Judgement.WellFormed m) 
 
   -- No slot goes to a job that is finished: one that had its whole cost, or was reported done. Of any well-formed table.
   pub none-after : (n i j : ℕ) → i < t .count → release (task t i) j ≤ n → n < release (task t i) (suc j) → Finished t done i j n → ownerAt t done n ≡ i → ⊥
-  none-after = history.none-after t (well-formed t m well .ranged) done
+  none-after = after.none-after t (well-formed t m well .ranged) done
 
   -- On a table that the test passed, with the worst responses that it reported:
   module _ (budget : ℕ) (a : Answer) (answer : Permitted t budget a) (pass : a .outcome ≡ Outcome.Tested Verdict.Passes) where
@@ -50,12 +54,12 @@ module _ (t : Table) (m : Measure) (well : judged t ≡ Judgement.WellFormed m) 
     pub all-in-time : (i j : ℕ) → i < t .count → Finished t done i j (release (task t i) j + getD (a .worst) i 0)
     all-in-time i j l =
         let (v, w, e) = passed-exactly t budget a answer pass in
-        history.in-time t (well-formed t m well .ranged) done budget v i (getD (a .worst) i 0) l (w .worst i l) j
+        in-time t (well-formed t m well .ranged) done budget v i (getD (a .worst) i 0) l (w .worst i l) j
 
     -- no job is closed late: every step says that none was;
     pub none-cut-off : (n : ℕ) → (turn t (stateAt t done n) (done n) .late ≡ 0) × (turn t (stateAt t done n) (done n) .closed ≡ 0) × (turn t (stateAt t done n) (done n) .lowest ≡ taskLimit)
-    none-cut-off = history.none-told t (well-formed t m well .ranged) done budget (passed-exactly t budget a answer pass .0)
+    none-cut-off = none-told t (well-formed t m well .ranged) done budget (passed-exactly t budget a answer pass .0)
 
     -- no slot goes to none while a released job is unfinished.
     pub none-idle : (n : ℕ) → ownerAt t done n ≡ taskLimit → (i j : ℕ) → i < t .count → release (task t i) j ≤ n → Finished t done i j n
-    none-idle = history.none-waits t (well-formed t m well .ranged) done budget (passed-exactly t budget a answer pass .0)
+    none-idle = none-waits t (well-formed t m well .ranged) done budget (passed-exactly t budget a answer pass .0)

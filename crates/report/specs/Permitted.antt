@@ -25,9 +25,12 @@ use Rattle.wellformed.specs.Round.{share, share-le}
 use Rattle.wellformed.specs.Refused.{Tellable, JudgementTellable, judged-tellable}
 use Rattle.wellformed.specs.WellFormed.{horizonLimit, WellFormed, well-formed}
 use Rattle.wellformed.specs.Demand.{demand-le}
-use Rattle.backlog.specs.Decided.{too-much-iff}
-use Rattle.backlog.specs.Verdicts.{lateVerdict, needed-le, start-asks, Case, overload, undecided, late, passed, the-case}
-use Rattle.backlog.specs.Answers.{met-of-passed, answers-say}
+use Rattle.backlog.specs.TooMuch.{too-much-iff}
+use Rattle.backlog.specs.Needed.{needed-le}
+use Rattle.backlog.specs.LateStart.{start-asks}
+use Rattle.backlog.specs.Verdicts.{lateVerdict, Case, overload, undecided, late, passed, the-case}
+use Rattle.backlog.specs.PassedWorst.{met-of-passed}
+use Rattle.backlog.specs.Unique.{answers-say}
 use Rattle.backlog.specs.TableSystem.{tie-ranks, tieSystem}
 use Rattle.backlog.specs.Worst.{worst-range}
 use Rattle.report.specs.Fits.{Wide, EmptyWide, VerdictWide, Printable, fits}

@@ -11,7 +11,7 @@ use Rattle.values.specs.declared.Table.{Table}
 use Rattle.model.specs.Tasks.{round, load}
 use Rattle.model.specs.Demand.{demand, asksTooMuch}
 use Rattle.wellformed.specs.WellFormed.{WellFormed, well-formed}
-use Rattle.backlog.specs.Decided.{late-at-iff, too-much-iff}
+use Rattle.backlog.specs.TooMuch.{late-at-iff, too-much-iff}
 use Rattle.slots.specs.declared.Columns.{Columns}
 use Rattle.intervals.specs.Starts.{demand-none, none-between}
 use Rattle.exact.specs.Walking.{Setting, Walking, walking-start, one-found, none-found, walk-slot, permitted-quiet, permitted-late}

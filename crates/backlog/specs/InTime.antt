@@ -1,0 +1,43 @@
+-- EVERY JOB IN TIME (`in-time`): on a passed table, by its worst response each job had its whole cost, or was reported done.
+use mathlib.Core.Path.{_≡_, _∙_}
+use mathlib.Core.Logic.{_⊎_, inl, inr}
+use mathlib.Core.Bool.{Bool}
+use Prim.Native.Nat.{ℕ, suc, _+_, _≤_, _<_}
+use native.Mathlib.Omega.{arith}
+use lib.Dec.{T}
+use Rattle.values.specs.declared.Table.{Table}
+use Rattle.model.specs.Notation.{sum}
+use Rattle.values.specs.declared.Verdict.{Verdict}
+use Rattle.model.specs.Tasks.{task, release}
+use Rattle.model.specs.Verdict.{verdict}
+use Rattle.model.specs.Run.{tieOrder, Worst}
+use Rattle.model.specs.History.{reported, had, Finished}
+use Rattle.wellformed.specs.Ranges.{Ranged}
+use Rattle.backlog.specs.Criterion.{Met}
+use Rattle.backlog.specs.OnTime.{on-time}
+use Rattle.backlog.specs.System.{System, jobs, dues, constrained}
+use Rattle.backlog.specs.ModelRun.{servedOf, model-run}
+use Rattle.backlog.specs.RunSchedule.{finishes-iff}
+use Rattle.backlog.specs.Worst.{worst-range}
+use Rattle.backlog.specs.TableSystem.{tie-ranks, tieSystem}
+use Rattle.backlog.specs.PassedWorst.{met-of-passed}
+use Rattle.backlog.specs.StepHistory.{open', ready, gave, told, step-history}
+use Rattle.backlog.specs.Had.{had-sum, finished-iff}
+
+module _ (t : Table) (r : Ranged t) (done : ℕ → Bool) (budget : ℕ) (pass : verdict t budget ≡ Verdict.Passes) where
+  abbrev S : System
+  S = tieSystem t r
+
+  abbrev met : Met (jobs S) (dues S) (servedOf S)
+  met = met-of-passed t r budget pass (tieOrder t) (tie-ranks t)
+
+  pub in-time : (i w : ℕ) → i < t .count → Worst t (tieOrder t) i w → (j : ℕ) → Finished t done i j (release (task t i) j + w)
+  in-time i w l v j =
+      let (p, q) = worst-range S met i l w v in
+      let k : release (task t i) j + w ≤ release (task t i) (suc j) = omega (arith, r .each i l .deadline-le) in
+      finished-iff t done i j (release (task t i) j + w) k .1 (go (on-time (jobs S) (dues S) (told t done) (open' t done) (ready t done) (gave t done) (step-history t r done) (constrained S) (servedOf S) (model-run S) met i w l (λ j f d. v .bound j f (finishes-iff S i j f l .1 d)) j k))
+    where
+      go : ((u : ℕ) × (0 < u) × (u < w) × T (reported t done i (release (task t i) j + u))) ⊎ (sum w (λ u. gave t done (release (task t i) j + u) i) ≡ task t i .cost)
+          → (had t done i (release (task t i) j) (release (task t i) j + w) ≡ task t i .cost) ⊎ ((u : ℕ) × (release (task t i) j < u) × (u ≤ release (task t i) j + w) × T (reported t done i u))
+      go (inl (u, a, b, c)) = inr (release (task t i) j + u, omega arith, omega arith, c)
+      go (inr e) = inl (had-sum t done i (release (task t i) j) w ∙ e)

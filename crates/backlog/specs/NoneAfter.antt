@@ -1,0 +1,62 @@
+-- NONE GETS A SLOT AFTER ITS END (`none-after`): no slot goes to a job that is finished. Of any well-formed table.
+use mathlib.Core.Path.{_≡_, refl, sym, _∙_}
+use mathlib.Core.Logic.{_⊎_, inl, inr, _≢_}
+use mathlib.Core.Bool.{Bool, true, cond}
+use Prim.Native.Nat.{ℕ, zero, suc, _+_, _-_, _≤_, _<_}
+use native.Mathlib.Nat.{add-zero, add-suc}
+use native.Mathlib.Omega.{arith}
+use borrow.Author.Tests.{eq-eqb}
+use lib.Dec.{T}
+use Rattle.values.specs.declared.Table.{Table}
+use Rattle.model.specs.Tasks.{task, release}
+use Rattle.model.specs.History.{ownerAt, reported, had, Finished}
+use Rattle.wellformed.specs.Ranges.{Ranged}
+use Rattle.backlog.specs.Streams.{between}
+use Rattle.backlog.specs.System.{System, jobs}
+use Rattle.backlog.specs.TableSystem.{tieSystem}
+use Rattle.backlog.specs.Stepping.{Fresh, Kept, finds, sound}
+use Rattle.backlog.specs.StepHistory.{open', ready, gave, step-history, Closing}
+use Rattle.backlog.specs.Had.{had-next, finished-iff}
+use Rattle.backlog.specs.NeverMore.{never-more}
+
+module _ (t : Table) (r : Ranged t) (done : ℕ → Bool) where
+  abbrev S : System
+  S = tieSystem t r
+
+  -- A report closes the job of its task, where none is released with it.
+  report-closes : (u i : ℕ) → i < t .count → ((k : ℕ) → release (task t i) k ≢ u) → T (reported t done i u) → ready t done u i ≡ 0
+  report-closes u i l none h = go (finds t r done u i (sound t r done u) l)
+    where
+      empty : (b : Bool) → T b → cond b 0 (open' t done u i) ≡ 0
+      empty true h = refl
+
+      go : ((k : ℕ) × Fresh t r done u i k) ⊎ Kept t r done u i → ready t done u i ≡ 0
+      go (inl (k, f)) = absurd (none k (f .now))
+      go (inr k) = elim (k .left) [
+        | inl (e, d, n) ↦ e ∙ sym d ∙ empty (reported t done i u) h
+        | inr (e, c) ↦ e
+      ]
+
+  -- What is closed stays so up to the next release.
+  closed-stays : (i j u d : ℕ) → i < t .count → release (task t i) j < u → u + d < release (task t i) (suc j) → ready t done u i ≡ 0 → ready t done (u + d) i ≡ 0
+  closed-stays i j u zero l a b z = rw (add-zero u) z
+  closed-stays i j u (suc d) l a b z =
+      let shut : open' t done (suc (u + d)) i ≡ 0 = omega (arith, step-history t r done .spent (u + d) i l, closed-stays i j u d l a (omega arith) z) in
+      rw (add-suc u d) (go shut (step-history t r done .kept (suc (u + d)) i l (between (jobs S) i j (suc (u + d)) l (omega arith) (omega arith))))
+    where
+      go : open' t done (suc (u + d)) i ≡ 0 → Closing t r done (suc (u + d)) i → ready t done (suc (u + d)) i ≡ 0
+      go shut (inl e) = e ∙ shut
+      go shut (inr e) = e .0
+
+  pub none-after : (n i j : ℕ) → i < t .count → release (task t i) j ≤ n → n < release (task t i) (suc j) → Finished t done i j n → ownerAt t done n ≡ i → ⊥
+  none-after n i j l a b f e = go (finished-iff t done i j n (omega arith) .0 f)
+    where
+      one : gave t done n i ≡ 1
+      one = rw (eq-eqb (ownerAt t done n) i e)
+
+      go : (had t done i (release (task t i) j) n ≡ task t i .cost) ⊎ ((u : ℕ) × (release (task t i) j < u) × (u ≤ n) × T (reported t done i u)) → ⊥
+      go (inl h) = omega (arith, h, one, had-next t done i (release (task t i) j) n a, never-more t r done i j (suc n) l (omega arith))
+      go (inr (u, x, y, h)) =
+          let d : u + (n - u) ≡ n = omega arith in
+          let z = closed-stays i j u (n - u) l x (omega arith) (report-closes u i l (between (jobs S) i j u l x (omega arith)) h) in
+          omega (arith, step-history t r done .spent n i l, one, rw d at z)
