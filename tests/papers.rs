@@ -1,28 +1,28 @@
-//! What the papers say of the tree: each law that they name is there, each law that is promised is told, and so is each edit.
+//! What docs/PROMISES.md says of the tree: each law that it names is promised, each law that is promised is told, and so is each
+//! edit. And each file of the theory has one headline.
 
 use crate::bench::Bench;
 use std::fs;
+use std::path::Path;
 
-const PROMISES: &str = "docs/PROMISES.md";
+const PAPER: &str = "docs/PROMISES.md";
+const THEORY: &str = "crates/backlog/specs";
+const PROMISES: &str = "crates/promises/specs";
+
+/// Laws that the paper names and that are no promises, each with its file.
+const OTHERS: &[(&str, &str)] = &[("gcd-unique", "crates/counting/specs/Divisors.antt")];
 
 fn read(path: &str) -> String {
     fs::read_to_string(path).unwrap_or_else(|why| panic!("{path}: {why}"))
 }
 
-/// The names of the files of a folder that end so, without the ending, in order; none where there is no folder.
+/// The names of what a folder holds that end so, without the ending, in order.
 fn names(folder: &str, ending: &str) -> Vec<String> {
-    let entries = fs::read_dir(folder).into_iter().flatten();
+    let entries = fs::read_dir(folder).unwrap_or_else(|why| panic!("{folder}: {why}"));
     let files = entries.map(|entry| entry.expect("an entry").file_name().into_string().expect("a name"));
     let mut names: Vec<String> = files.filter_map(|name| Some(name.strip_suffix(ending)?.to_string())).collect();
     names.sort();
     names
-}
-
-/// The name that a line of a specification states something under.
-fn stated(line: &str) -> Option<&str> {
-    let mut words = line.split_whitespace().skip_while(|&word| ["abbrev", "unfoldable", "pub"].contains(&word));
-    let name = words.next()?;
-    (words.next()? == ":" && name != "--").then_some(name)
 }
 
 /// The laws that a specification hands on: neither definitions, whose lines begin otherwise, nor the parts of a record.
@@ -30,50 +30,38 @@ fn laws(text: &str) -> Vec<&str> {
     let mut found = Vec::new();
     let mut record = None;
     for line in text.lines().filter(|line| !line.is_empty()) {
-        let depth = line.len() - line.trim_start().len();
+        let words = line.trim_start();
+        let depth = line.len() - words.len();
         record = record.filter(|&outer| outer < depth);
-        if line.trim_start().starts_with("pub record ") {
+        if words.starts_with("pub record ") {
             record = Some(depth);
-        } else if record.is_none() && line.trim_start().starts_with("pub ") {
-            found.extend(stated(line));
+        } else if let (None, Some((name, _))) = (record, words.strip_prefix("pub ").and_then(|rest| rest.split_once(" :"))) {
+            found.extend(Some(name).filter(|name| !name.contains(' ')));
         }
     }
     found
 }
 
-fn states(text: &str, law: &str) -> bool {
-    text.lines().filter_map(stated).any(|name| name == law)
+/// A word in capitals.
+fn loud(word: &str) -> bool {
+    word.chars().filter(|letter| letter.is_uppercase()).count() > 1 && !word.chars().any(|letter| letter.is_lowercase())
 }
 
-/// All specifications, one after another.
-fn specifications() -> String {
-    let specs = names("crates", "").into_iter().map(|name| format!("crates/{name}/specs"));
-    specs
-        .flat_map(|folder| names(&folder, ".antt").into_iter().map(move |name| read(&format!("{folder}/{name}.antt"))))
-        .collect()
+/// The law that a file's first line names, `-- HEADLINE (`law`) ..`, with the headline in capitals.
+fn headline(text: &str) -> Option<&str> {
+    let (capitals, rest) = text.lines().next()?.strip_prefix("-- ")?.split_once(" (`")?;
+    Some(rest.split_once("`)")?.0).filter(|_| loud(capitals))
 }
 
-/// A headline, in capitals, and the law that it names, of a line `-- HEADLINE (`law`) ..`.
-fn headline(line: &str) -> Option<(&str, &str)> {
-    let (capitals, rest) = line.trim().strip_prefix("-- ")?.split_once(" (`")?;
-    let loud = capitals.chars().any(|letter| letter.is_uppercase()) && !capitals.chars().any(|letter| letter.is_lowercase());
-    Some((capitals, rest.split_once("`)")?.0)).filter(|_| loud)
-}
-
-/// A file of the theory has one theorem for its headline: its first line names it, and no other line has one.
+/// A file of the theory has one theorem for its headline: its first line names it, and no other line begins like one.
 pub fn headlines(bench: &mut Bench) {
-    let folder = "crates/backlog/specs";
-    for name in names(folder, ".antt").into_iter().filter(|name| name != "Lib" && name != "Instances") {
-        let text = read(&format!("{folder}/{name}.antt"));
-        let loud = |line: &str| {
-            line.trim().strip_prefix("-- ").is_some_and(|words| {
-                let first: Vec<&str> = words.split_whitespace().take(2).collect();
-                first.iter().all(|word| word.len() > 2 && !word.chars().any(|letter| letter.is_lowercase() || letter == '`'))
-            })
-        };
-        let law = text.lines().next().and_then(headline).map(|(_, law)| law);
-        let good = law.is_some_and(|law| states(&text, law)) && !text.lines().skip(1).any(loud);
-        bench.count(good, || format!("{folder}/{name}.antt: {law:?} is not its one headline"));
+    for name in names(THEORY, ".antt").into_iter().filter(|name| name != "Lib" && name != "Instances") {
+        let text = read(&format!("{THEORY}/{name}.antt"));
+        let law = headline(&text);
+        let comments = text.lines().skip(1).filter_map(|line| line.trim_start().strip_prefix("-- "));
+        let others = comments.filter(|words| words.split_whitespace().take(2).any(loud)).count();
+        let good = law.is_some_and(|law| laws(&text).contains(&law)) && others == 0;
+        bench.count(good, || format!("{THEORY}/{name}.antt: {law:?} is not its one headline"));
     }
     bench.end_group("headlines of the theory");
 }
@@ -85,27 +73,43 @@ fn laws_told(text: &str) -> Vec<&str> {
 }
 
 pub fn promises(bench: &mut Bench) {
-    let (paper, specs) = (read(PROMISES), specifications());
+    let paper = read(PAPER);
+    let files: Vec<String> = names(PROMISES, ".antt").iter().map(|name| read(&format!("{PROMISES}/{name}.antt"))).collect();
+    let promised: Vec<&str> = files.iter().flat_map(|text| laws(text)).collect();
+    bench.count(paper.matches('`').count() % 2 == 0, || format!("{PAPER} has a backquote too many"));
     for law in laws_told(&paper) {
-        bench.count(states(&specs, law), || format!("{PROMISES} names {law}, which nothing states"));
+        let other = OTHERS.iter().any(|&(name, file)| name == law && laws(&read(file)).contains(&law));
+        bench.count(other || promised.contains(&law), || format!("{PAPER} names {law}, which is no promise"));
     }
-    for file in names("crates/promises/specs", ".antt") {
-        for law in laws(&read(&format!("crates/promises/specs/{file}.antt"))) {
-            bench.count(paper.contains(&format!("`{law}`")), || format!("{PROMISES} does not tell {law} of {file}"));
-        }
+    for law in &promised {
+        bench.count(paper.contains(&format!("`{law}`")), || format!("{PAPER} does not tell {law}"));
     }
     bench.end_group("laws that the promises name");
 }
 
-/// The table of edits names those of each crate, in order.
+/// The crates of the table of edits with what it tells of each, by name; its rows are `| contract | `crate` | edits |`.
+fn edits_told(paper: &str) -> Vec<(String, String)> {
+    let rows = paper.lines().filter_map(|line| line.strip_prefix('|')?.strip_suffix('|')?.rsplit_once(" | "));
+    let row = |(start, edits): (&str, &str)| {
+        Some((start.rsplit_once(" | `")?.1.strip_suffix('`')?.to_string(), edits.trim().to_string()))
+    };
+    let mut told: Vec<(String, String)> = rows.filter_map(row).collect();
+    told.sort();
+    told
+}
+
+/// The table of edits has a row for each crate that has some, and names them in order.
 pub fn edits(bench: &mut Bench) {
-    let paper = read(PROMISES);
-    for name in names("crates", "") {
-        let edits = names(&format!("crates/{name}/must-fail"), ".edit").join(", ");
-        let row = paper
-            .lines()
-            .find_map(|line| line.rsplit_once(&format!("| `{name}` | ")).map(|(_, told)| told.trim_end_matches(" |")));
-        bench.count(row.unwrap_or_default() == edits, || format!("{PROMISES} tells {row:?} of {name}, which has {edits}"));
+    let told = edits_told(&read(PAPER));
+    let folders = names("crates", "").into_iter().map(|name| (format!("crates/{name}/must-fail"), name));
+    let with_edits = folders.filter(|(folder, _)| Path::new(folder).exists());
+    let kept: Vec<(String, String)> = with_edits.map(|(folder, name)| (name, names(&folder, ".edit").join(", "))).collect();
+    for row in &told {
+        bench.count(kept.contains(row), || format!("{PAPER} tells of {} otherwise than it is: {}", row.0, row.1));
     }
+    for row in &kept {
+        bench.count(told.contains(row), || format!("{PAPER} does not tell the edits of {}: {}", row.0, row.1));
+    }
+    bench.count(told.len() == kept.len(), || format!("{PAPER} has {} rows of edits for {} crates", told.len(), kept.len()));
     bench.end_group("edits that the promises name");
 }

@@ -6,9 +6,10 @@ use native.Mathlib.Nat.{add-zero, add-suc}
 use native.Mathlib.Omega.{arith}
 use native.Mathlib.Numerals.{add-one}
 use Rattle.model.specs.Notation.{sum}
-use Rattle.backlog.specs.Streams.{Jobs, between}
+use Rattle.backlog.specs.Streams.{Jobs}
 use Rattle.backlog.specs.Criterion.{Dues}
 use Rattle.backlog.specs.History.{Keeps, History, givenTo}
+use Rattle.counting.specs.Below.{between-none}
 
 module _ (J : Jobs) (D : Dues J) (told : ℕ → ℕ → Type 0) (open' ready gave : ℕ → ℕ → ℕ) (P : History J D told open' ready gave) where
   -- After its first slot, what a job was given and what is left make its cost.
@@ -19,7 +20,7 @@ module _ (J : Jobs) (D : Dues J) (told : ℕ → ℕ → Type 0) (open' ready ga
   pub at-most : (i j d : ℕ) → i < J .n → J .rel i j + d < J .rel i (suc j) → givenTo gave i (J .rel i j) (suc d) + open' (J .rel i j + suc d) i ≤ J .cost i
   unfolding sum
   at-most i j zero l h = omega (arith, first-slot i j l)
-  at-most i j (suc d) l h = go (at-most i j d l (omega arith)) (P .kept (J .rel i j + suc d) i l (between J i j (J .rel i j + suc d) l (omega arith) (omega arith)))
+  at-most i j (suc d) l h = go (at-most i j d l (omega arith)) (P .kept (J .rel i j + suc d) i l (between-none (J .rel i) (J .rel-grows i l) (J .rel i j + suc d) j (omega arith) (omega arith)))
     where
       go : givenTo gave i (J .rel i j) (suc d) + open' (J .rel i j + suc d) i ≤ J .cost i
           → Keeps J D told open' ready (J .rel i j + suc d) i

@@ -1,4 +1,4 @@
--- THE CHOICE (`choose-is`): the model's choice is the open task that comes before the others, or none is open.
+-- THE CHOICE (`choose-is`): among at most 16 tasks the model's choice is the open one that comes before the others, or none is open.
 use mathlib.Core.Path.{_≡_, refl, sym, subst, _∙_}
 use mathlib.Core.Logic.{_⊎_, inl, inr, _≢_}
 use mathlib.Core.Bool.{Bool, true, false, cond, _&&_, _||_}

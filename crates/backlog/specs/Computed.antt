@@ -1,4 +1,4 @@
--- THE PERMITTED ANSWER, COMPUTED (`computed`): by a walk to the horizon. So the answers of given tables are found by computing.
+-- THE PERMITTED ANSWER, COMPUTED (`computed`): of any table and budget, with the worst responses that a walk to the horizon sees. So the answers of given tables are found by computing.
 use mathlib.Core.Path.{_≡_, refl}
 use Prim.Native.Nat.{ℕ}
 use Rattle.values.specs.declared.Table.{Table}
@@ -12,9 +12,7 @@ use Rattle.model.specs.Verdict.{verdict, settledBy, emptyIn, brief, Answers, Pe
 use Rattle.wellformed.specs.WellFormed.{well-formed}
 use Rattle.wellformed.specs.Ranges.{Ranged}
 use Rattle.backlog.specs.TableSystem.{tie-ranks}
-use Rattle.backlog.specs.TooMuch.{never-iff}
-use Rattle.backlog.specs.Passes.{never-of-passed}
-use Rattle.backlog.specs.PassedWorst.{light-of-passed, met-of-passed}
+use Rattle.backlog.specs.PassedWorst.{met-of-passed}
 use Rattle.backlog.specs.WalkWorst.{worstBy, walk-worsts}
 
 -- The answer by its verdict, and by the judgement of the table.
@@ -33,7 +31,7 @@ answerOf t budget = answerJudged t budget (judged t)
 
 answers : (t : Table) → Ranged t → (budget : ℕ) (m : Measure) (v : Verdict) → verdict t budget ≡ v → Answers t budget m (answerBy t budget m v) v
 answers t r budget m Verdict.Passes e =
-    (worstBy t (horizon t), walk-worsts t r (light-of-passed t r budget e _ (tie-ranks t)) (met-of-passed t r budget e _ (tie-ranks t)) (λ u l. never-iff t .0 (never-of-passed t r budget e .1) u), refl)
+    (worstBy t (horizon t), walk-worsts t r (met-of-passed t r budget e _ (tie-ranks t)), refl)
 answers t r budget m Verdict.Overload e = refl
 answers t r budget m (Verdict.Late from to asked) e = refl
 answers t r budget m Verdict.Undecided e = refl

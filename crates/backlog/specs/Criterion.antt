@@ -1,4 +1,4 @@
--- THE CRITERION (`late-iff-over`): at each instant the run has missed a deadline exactly if some interval that ends there asks too much.
+-- THE CRITERION (`late-iff-over`): at each instant the run has a job that is due by then and not done, exactly if some interval that ends there asks too much.
 use mathlib.Core.Path.{_≡_, refl, sym, ap, _∙_}
 use mathlib.Core.Logic.{_⊎_, inl, inr, _↔_}
 use mathlib.Core.Bool.{_&&_}
@@ -48,7 +48,7 @@ Met J D s = (i j : ℕ) → i < J .n → J .cost i * suc j ≤ s (D .due i j) i
 
 module _ (J : Jobs) (D : Dues J) where
   -- All work that is due by t.
-  abbrev pub total : ℕ → ℕ
+  abbrev total : ℕ → ℕ
   total t = sum (J .n) (work J (D .cut t))
 
   cls-le : (i t : ℕ) → i < J .n → below (J .key i) (suc (D .cut t)) ≤ below (D .due i) (suc t)
@@ -113,10 +113,10 @@ module _ (J : Jobs) (D : Dues J) (s : ℕ → ℕ → ℕ) (R : Run J s) where
   late-iff-over t = (λ h. over-of-left t (left-of-late J D s t h), λ h. late-of-left J D s t (left-of-over t h))
 
   -- The run meets every deadline exactly if no interval asks too much.
-  pub criterion :
+  pub met-iff :
       Met J D s
       ↔ ((t1 t2 : ℕ) → t1 < t2 → demand J D t1 t2 ≤ t2 - t1)
-  criterion = (λ h t1 t2 l. fwd h t1 t2 l (decLe _ _), λ h i j l. bwd h i j l (decLe _ _))
+  met-iff = (λ h t1 t2 l. fwd h t1 t2 l (decLe _ _), λ h i j l. bwd h i j l (decLe _ _))
     where
       fwd : Met J D s → (t1 t2 : ℕ) → t1 < t2 → Dec (demand J D t1 t2 ≤ t2 - t1) → demand J D t1 t2 ≤ t2 - t1
       fwd h t1 t2 l (yes p) = p

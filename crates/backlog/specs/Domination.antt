@@ -163,7 +163,7 @@ module _ (J : Jobs) (lf : ℕ → ℕ → ℕ) (P : Dispatch J lf) where
             let v : below (J .rel i) t - 1 ≡ j = omega arith in
             absurd (d (subst (λ (y : ℕ). J .key i y ≤ J .key i j) (sym v) (le-refl _)))
 
-    -- A job that the run has done by f has nothing left at f.
+    -- A job that the run has done by f, and that is the last released, has nothing left at f.
     pub not-open : (i j f : ℕ) → i < J .n → J .cost i * suc j ≤ s f i → below (J .rel i) f ≡ suc j → lf f i ≡ 0
     not-open i j f l d e =
         let (g, h, q, c) = first-done J s R i j l f d in

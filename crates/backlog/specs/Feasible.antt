@@ -1,4 +1,4 @@
--- NECESSARY AND SUFFICIENT (`feasible-iff`): some schedule is good exactly if no interval ever asks too much.
+-- NECESSARY AND SUFFICIENT (`feasible-iff`): some schedule of a table that keeps its ranges is good exactly if no interval ever asks too much.
 use mathlib.Core.Logic.{_↔_}
 use native.Mathlib.Omega.{arith}
 use Rattle.values.specs.declared.Table.{Table}

@@ -23,9 +23,6 @@ module _ (J : Jobs) (s : ℕ → ℕ → ℕ) (R : Run J s) (i j : ℕ) (l : i <
   abbrev NoneLeft : ℕ → Type 0
   NoneLeft t = (J .rel i j < t) × (left J s (J .key i j) t ≡ 0)
 
-  done-of-left : (t : ℕ) → NoneLeft t → Done t
-  done-of-left t (r, e) = done-of-none-left J s (J .key i j) t i j l (le-refl _) r e
-
   left-of-first : (t : ℕ) → Least Done t → NoneLeft t
   left-of-first zero (d, f) = absurd (omega (arith, R .start i l, mul-pos (J .cost-pos i l) (zero-lt-suc j)))
   left-of-first (suc t) (d, f) = (lt-below (J .rel i) (J .rel-grows i l) (suc t) j .0 (lt-of-mul-lt-mul-left (J .cost i) (omega (arith, served-le J s R (suc t) i l, J .cost-pos i l))), none-left-of-done J s R t i j l (lt-of-not-le (f t (le-refl _))) d)
@@ -34,9 +31,12 @@ module _ (J : Jobs) (s : ℕ → ℕ → ℕ) (R : Run J s) (i j : ℕ) (l : i <
   pub first-done : (t : ℕ) → Done t → (f : ℕ) × (f ≤ t) × DoneFirst J s i j f × NoneLeft f
   first-done t d = let (f, h, q) = least Done (λ t. decLe _ _) t d in (f, h, q, left-of-first f q)
 
-  pub finish : (t : ℕ) → Least Done t ↔ Least NoneLeft t
+  pub finish : (t : ℕ) → DoneFirst J s i j t ↔ Least NoneLeft t
   finish t = (fwd, bwd)
     where
+      done-of-left : (u : ℕ) → NoneLeft u → Done u
+      done-of-left u (r, e) = done-of-none-left J s (J .key i j) u i j l (le-refl _) r e
+
       fwd : Least Done t → Least NoneLeft t
       fwd (d, f) = (left-of-first t (d, f), λ u a c. f u a (done-of-left u c))
 

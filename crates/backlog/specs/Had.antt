@@ -15,7 +15,7 @@ use Rattle.counting.specs.Count.{tests, and-iff, count-more, count-none}
 use Rattle.backlog.specs.StepHistory.{gave}
 
 module _ (t : Table) (done : ℕ → Bool) where
-  -- None before the first one counted, and then slot by slot.
+  -- A task had no slot before the first one counted; then it is slot by slot.
   pub had-early : (i from m : ℕ) → m ≤ from → had t done i from m ≡ 0
   unfolding had
   had-early i from m l = count-none _ m (λ k b h. let w = and-iff (leb from k) (eqb (ownerAt t done k) i) .0 h in omega (tests, w .0))

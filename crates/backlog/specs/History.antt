@@ -1,4 +1,4 @@
--- A HISTORY IS A DISPATCH (`dispatches`): what is open, reported and given, slot by slot, for any release streams.
+-- A HISTORY IS A DISPATCH (`dispatches`): what was open, reported and given in each slot keeps what domination asks of a dispatcher, for any release streams.
 use mathlib.Core.Path.{_≡_}
 use mathlib.Core.Logic.{_⊎_, inl, inr, _≢_}
 use Prim.Native.Nat.{ℕ, suc, _+_, _≤_, _<_}

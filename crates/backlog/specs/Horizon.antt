@@ -1,4 +1,4 @@
--- HORIZON (`late-soon`): without overload, load exactly 1 included, a late deadline lies within the horizon if there is one at all.
+-- HORIZON (`late-soon`): without overload, load exactly 1 included, a late deadline of a table that keeps its ranges lies within the horizon if there is one at all.
 use mathlib.Core.Path.{_≡_, sym, ap, subst}
 use Prim.Native.Nat.{ℕ, _+_, _-_, _*_, _≤_, _<_}
 use native.Mathlib.Nat.{sub-add-cancel}
@@ -14,7 +14,7 @@ use Rattle.backlog.specs.Streams.{Run, left}
 use Rattle.backlog.specs.Criterion.{Late, Over, late-of-left, left-of-late, late-iff-over}
 use Rattle.backlog.specs.System.{System, size, jobs, dues}
 use Rattle.backlog.specs.ModelRun.{servedOf, model-run}
-use Rattle.backlog.specs.Shift.{Cycle, horizonOf, Light, left-down}
+use Rattle.backlog.specs.Shift.{Cycle, horizonOf, Light, left-later}
 use Rattle.backlog.specs.TableSystem.{tie-ranks, load-is, horizon-is, tieSystem, tieCycle}
 use Rattle.backlog.specs.EveryInstant.{over-iff}
 
@@ -26,7 +26,7 @@ module _ (S : System) (Y : Cycle S) (light : Light S Y) (s : ℕ → ℕ → ℕ
   late-down : (t : ℕ) → Y .start + Y .round ≤ t → LateBy (t + Y .round) → LateBy t
   late-down t h p =
       let e : (dues S) .cut (t + Y .round) ≡ (dues S) .cut t + size S * Y .round = omega arith in
-      late-of-left (jobs S) (dues S) s t (omega (arith, left-down S Y s R light ((dues S) .cut t) t h, left-of-late (jobs S) (dues S) s (t + Y .round) p, ap (λ (x : ℕ). left (jobs S) s x (t + Y .round)) e))
+      late-of-left (jobs S) (dues S) s t (omega (arith, left-later S Y s R light ((dues S) .cut t) t h, left-of-late (jobs S) (dues S) s (t + Y .round) p, ap (λ (x : ℕ). left (jobs S) s x (t + Y .round)) e))
 
   soon : (t : ℕ) → LateBy t → (u : ℕ) × (u ≤ horizonOf S Y) × LateBy u
   soon = strong {P = λ t. LateBy t → (u : ℕ) × (u ≤ horizonOf S Y) × LateBy u} step
@@ -39,7 +39,7 @@ module _ (S : System) (Y : Cycle S) (light : Light S Y) (s : ℕ → ℕ → ℕ
           go (no h) = ih (t - Y .round) (omega (arith, Y .round-pos)) (late-down (t - Y .round) (omega arith) (subst LateBy (sym (sub-add-cancel {n = t} {m = Y .round} (omega arith))) p))
 
   -- An interval that asks too much can be had that ends by the horizon.
-  over-soon : (t : ℕ) → Over (jobs S) (dues S) t → (u : ℕ) × (u ≤ horizonOf S Y) × Over (jobs S) (dues S) u
+  pub over-soon : (t : ℕ) → Over (jobs S) (dues S) t → (u : ℕ) × (u ≤ horizonOf S Y) × Over (jobs S) (dues S) u
   over-soon t p =
       let (u, h, q) = soon t (late-iff-over (jobs S) (dues S) s R t .1 p) in
       (u, h, late-iff-over (jobs S) (dues S) s R u .0 q)

@@ -1,4 +1,4 @@
--- NO THEOREM HERE IS EMPTY: what they ask for is met by tables of document 01.
+-- NO THEOREM OF THIS CRATE IS EMPTY: what they ask for is met by tables of document 01.
 use mathlib.Core.Path.{_≡_, refl}
 use mathlib.Core.Logic.{inr, _⊎_}
 use mathlib.Core.List.{_∷_}
@@ -15,15 +15,17 @@ use Rattle.values.specs.declared.Outcome.{Outcome}
 use Rattle.model.specs.Limits.{taskLimit}
 use Rattle.model.specs.Tasks.{task, release, due, taskFault, firstFaulty, round, load, horizon, judged}
 use Rattle.model.specs.Demand.{jobsIn, demand, lateAt, asksTooMuch}
-use Rattle.model.specs.Run.{tieOrder, choose, firstEmpty, run}
+use Rattle.model.specs.Run.{tieOrder, choose, firstEmpty, run, Worst}
 use Rattle.model.specs.Verdict.{needed, lateStart, verdict, settledBy, Worsts, Permitted}
 use Rattle.model.specs.Dispatcher.{State, Stepped, firstStrange, startOf, isLate, ownerNow, after, turn, stepped}
 use Rattle.model.specs.History.{stateAt, ownerAt, had, Finished}
-use Rattle.model.specs.Examples.{table-b, table-c, table-d, table-g, table-i}
+use Rattle.model.specs.Examples.{table-b, table-c, table-d, table-f, table-g, table-i}
 use Rattle.model.specs.Schedule.{none, job}
 use Rattle.wellformed.specs.Ranges.{Ranged}
 use Rattle.wellformed.specs.WellFormed.{well-formed}
-use Rattle.backlog.specs.Streams.{released}
+use Rattle.backlog.specs.Queue.{backlog, Busy, busy-from, backlog-mono}
+use Rattle.backlog.specs.Streams.{released, Run}
+use Rattle.backlog.specs.RunUnique.{run-unique}
 use Rattle.backlog.specs.Criterion.{Met}
 use Rattle.backlog.specs.NoneLate.{none-late}
 use Rattle.backlog.specs.RunHistory.{run-history}
@@ -31,24 +33,27 @@ use Rattle.backlog.specs.System.{System, dueOf, jobs, dues, constrained,
 use Rattle.backlog.specs.ModelRun.{servedOf, model-run}
 use Rattle.backlog.specs.RunRule.{Waiting, run-rule}
 use Rattle.backlog.specs.Shift.{Light}
+use Rattle.backlog.specs.Overload.{light-of-met}
 use Rattle.backlog.specs.TableSystem.{tie-ranks, tieSystem, tieCycle, systemOf}
 use Rattle.backlog.specs.TooMuch.{never-iff}
 use Rattle.backlog.specs.EveryInstant.{Missed, first-missed}
 use Rattle.backlog.specs.Feasible.{Feasible, feasible-iff}
 use Rattle.backlog.specs.Horizon.{late-soon}
-use Rattle.backlog.specs.Overload.{overload-late}
+use Rattle.backlog.specs.OverloadLate.{overload-late}
 use Rattle.backlog.specs.Needed.{none-before, needed-is}
 use Rattle.backlog.specs.LateStart.{start-asks, start-largest, start-is}
 use Rattle.backlog.specs.Verdicts.{undecided-iff, overload-iff}
 use Rattle.backlog.specs.Longer.{longer}
 use Rattle.backlog.specs.Passes.{passes-iff, overload-infeasible, late-infeasible}
-use Rattle.backlog.specs.PassedWorst.{light-of-passed, met-of-passed, worst-of}
-use Rattle.backlog.specs.Unique.{permitted-unique, answers-say}
+use Rattle.backlog.specs.PassedWorst.{met-of-passed, worst-of}
+use Rattle.backlog.specs.Unique.{permitted-unique}
+use Rattle.backlog.specs.AnswersSay.{answers-say}
 use Rattle.backlog.specs.Taken.{Belongs, belongs-after}
-use Rattle.backlog.specs.Stepping.{never-refused, owned-ready}
+use Rattle.backlog.specs.NeverRefused.{never-refused}
+use Rattle.backlog.specs.NoneEarly.{owned-ready}
 use Rattle.backlog.specs.NeverMore.{never-more}
 use Rattle.backlog.specs.NoneAfter.{none-after}
-use Rattle.backlog.specs.NoneTold.{none-told}
+use Rattle.backlog.specs.NoneCut.{none-cut}
 use Rattle.backlog.specs.InTime.{in-time}
 use Rattle.backlog.specs.NoneWaits.{none-waits}
 use Rattle.backlog.specs.Walk.{quiet, Clear}
@@ -56,6 +61,14 @@ use Rattle.backlog.specs.WalkLate.{late-iff}
 use Rattle.backlog.specs.WalkWorst.{worstBy, walk-worsts}
 use Rattle.backlog.specs.WalkEmpty.{walk-empty}
 use Rattle.backlog.specs.Computed.{answerOf, computed}
+
+-- Two units in each slot leave a backlog.
+busy : (s : ℕ) × Busy (λ u. 2) 3 s
+unfolding backlog
+busy = busy-from (λ u. 2) 3 (lit< tt)
+
+more : (t : ℕ) → backlog (λ u. 1) t ≤ backlog (λ u. 2) t
+more = backlog-mono (λ u. 1) (λ u. 2) (λ t. lit≤ tt)
 
 -- Table b keeps its ranges and passes, so some schedule of it is good.
 b-ranged : Ranged table-b
@@ -91,12 +104,19 @@ b-rule : (u : ℕ) → let S = systemOf table-b b-ranged (λ i. 1 - i) b-reverse
     ((run table-b (λ i. 1 - i) u ≡ none) × ((i j : ℕ) → Waiting S u i j → ⊥)) ⊎ ((i : ℕ) × (j : ℕ) × (run table-b (λ i. 1 - i) u ≡ job i j) × Waiting S u i j × ((k m : ℕ) → Waiting S u k m → JobNoLater S i j k m))
 b-rule = run-rule (systemOf table-b b-ranged (λ i. 1 - i) b-reversed)
 
+b-worst-reversed : (w : ℕ) × Worst table-b (λ i. 1 - i) 0 w
+b-worst-reversed = worst-of table-b b-ranged 38 b-passes _ b-reversed 0 (lit< tt)
+
+-- There is no other run of its streams.
+b-one-run : (s : ℕ → ℕ → ℕ) → Run (jobs b-system) s → (u i : ℕ) → i < 2 → s u i ≡ servedOf b-system u i
+b-one-run s R = run-unique (jobs b-system) s (servedOf b-system) R (model-run b-system)
+
 -- No interval of it asks too much, so a walk to its horizon finds its worst responses, and the first slot without a job.
 b-clear : Clear table-b (horizon table-b)
 b-clear u l = never-iff table-b .0 (feasible-iff table-b b-ranged .0 b-feasible) u
 
 b-walk-worsts : Worsts table-b (worstBy table-b (horizon table-b))
-b-walk-worsts = walk-worsts table-b b-ranged (light-of-passed table-b b-ranged 38 b-passes _ (tie-ranks table-b)) b-met b-clear
+b-walk-worsts = walk-worsts table-b b-ranged b-met
 
 b-walk-empty : first (λ u. eqb (ownerAt table-b quiet u) taskLimit) 0 (horizon table-b) ≡ firstEmpty table-b (tieOrder table-b)
 b-walk-empty = walk-empty table-b b-ranged b-clear
@@ -111,7 +131,7 @@ unfolding verdict needed lateStart lateAt first last round load horizon largest 
 g-passes = refl
 
 g-light : Light (tieSystem table-g g-ranged) (tieCycle table-g g-ranged)
-g-light = light-of-passed table-g g-ranged 8 g-passes _ (tie-ranks table-g)
+g-light = light-of-met (tieSystem table-g g-ranged) (tieCycle table-g g-ranged) _ (model-run (tieSystem table-g g-ranged)) (met-of-passed table-g g-ranged 8 g-passes _ (tie-ranks table-g))
 
 -- Table d is late first at 7, where its run first misses a deadline.
 d-ranged : Ranged table-d
@@ -187,12 +207,12 @@ g-owned = owned-ready table-g g-ranged reports 1 1 (lit< tt) refl
 g-never-more : had table-g reports 0 0 4 ≤ 2
 g-never-more = never-more table-g g-ranged reports 0 0 4 (lit< tt) (lit≤ tt)
 
-g-none-told : (n : ℕ) → (turn table-g (stateAt table-g reports n) (reports n) .late ≡ 0) × (turn table-g (stateAt table-g reports n) (reports n) .closed ≡ 0) × (turn table-g (stateAt table-g reports n) (reports n) .lowest ≡ taskLimit)
-g-none-told = none-told table-g g-ranged reports 8 g-passes
+g-none-cut : (n : ℕ) → (turn table-g (stateAt table-g reports n) (reports n) .late ≡ 0) × (turn table-g (stateAt table-g reports n) (reports n) .closed ≡ 0) × (turn table-g (stateAt table-g reports n) (reports n) .lowest ≡ taskLimit)
+g-none-cut = none-cut table-g g-ranged reports 8 g-passes
 
 g-never-refused : (n : ℕ) → _≡_ {A = Stepped} (stepped table-g (stateAt table-g reports n) (reports n)) (record { given = Given.Slot (turn table-g (stateAt table-g reports n) (reports n)); state = stateAt table-g reports (suc n) })
 unfolding judged firstFaulty taskFault first round load horizon largest sum count
-g-never-refused = never-refused table-g g-ranged reports (record { round = 4; load = 4; horizon = 8 }) refl
+g-never-refused = never-refused table-g (record { round = 4; load = 4; horizon = 8 }) refl reports
 
 -- A state of table g that somebody else made: task 0 is open with one slot left and its wait is 2, and task 1 ran last.
 other : State
@@ -213,6 +233,15 @@ c-ranged = well-formed table-c (record { round = 15; load = 12; horizon = 38 }) 
 c-late-soon : (u : ℕ) × (u ≤ horizon table-c) × T (lateAt table-c u)
 unfolding first round load sum count demand jobsIn lateAt
 c-late-soon = late-soon table-c c-ranged (lit≤ tt) 15 tt
+
+-- Table f has load exactly 1 and is late at 5, past its horizon of 4; so it is late within it too.
+f-ranged : Ranged table-f
+unfolding judged firstFaulty taskFault first round load horizon largest sum count
+f-ranged = well-formed table-f (record { round = 2; load = 2; horizon = 4 }) refl .ranged
+
+f-late-soon : (u : ℕ) × (u ≤ horizon table-f) × T (lateAt table-f u)
+unfolding first round load sum count demand jobsIn lateAt
+f-late-soon = late-soon table-f f-ranged (lit≤ tt) 5 tt
 
 c-late : verdict table-c 15 ≡ Verdict.Late 8 15 8
 unfolding verdict needed lateStart lateAt first last round load horizon largest sum count demand jobsIn

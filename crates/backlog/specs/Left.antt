@@ -1,4 +1,4 @@
--- THE KEY LEMMA (`left-is`): the work that is left of the jobs up to a key is the backlog of one queue. It depends on the releases alone.
+-- THE KEY LEMMA (`left-is`): the work that a run has left of the jobs up to a key is the backlog of one queue. It depends on the releases alone.
 use mathlib.Core.Path.{_≡_, sym, ap, subst, _∙_}
 use mathlib.Core.Logic.{inl, inr}
 use Prim.Native.Nat.{ℕ, zero, suc, _+_, _-_, _*_, _/_, _≤_, _<_, min}
@@ -90,7 +90,7 @@ module _ (J : Jobs) (s : ℕ → ℕ → ℕ) (R : Run J s) where
   left-is κ zero = left-start J s κ
   left-is κ (suc t) = rw (← left-is κ t) (left-step κ t)
 
-  -- And in the slot that finishes a job, no work is left up to its key.
+  -- After the slot that finishes a job no work is left up to its key.
   pub none-left-of-done : (t i j : ℕ) → i < J .n → s t i < J .cost i * suc j → J .cost i * suc j ≤ s (suc t) i → left J s (J .key i j) (suc t) ≡ 0
   unfolding left
   none-left-of-done t i j l a b = go (R .slot t)

@@ -2,6 +2,7 @@
 pub mod Queue
 pub mod Streams
 pub mod Left
+pub mod RunUnique
 pub mod Finish
 pub mod Criterion
 -- Dispatchers of any streams that are told of early ends.
@@ -11,24 +12,25 @@ pub mod AtMost
 pub mod NoneLate
 pub mod OnTime
 pub mod RunHistory
--- A table, its run, and one round later.
+-- A table as streams of jobs, its run, and one round later.
 pub mod Choice
 pub mod System
 pub mod ModelRun
 pub mod RunSchedule
 pub mod RunRule
 pub mod Shift
+pub mod Overload
 pub mod Repeats
 pub mod Worst
--- What the test decides, in the model's words.
 pub mod TableSystem
+-- What the test decides, in the model's words.
 pub mod TooMuch
 pub mod Necessary
 pub mod EveryInstant
 pub mod Sufficient
 pub mod Feasible
 pub mod Horizon
-pub mod Overload
+pub mod OverloadLate
 pub mod Needed
 pub mod LateStart
 pub mod Verdicts
@@ -36,20 +38,24 @@ pub mod Longer
 pub mod Passes
 pub mod PassedWorst
 pub mod Unique
+pub mod AnswersSay
 -- What the dispatcher does, in the model's words.
 pub mod Taken
 pub mod Stepping
+pub mod NeverRefused
+pub mod NoneEarly
 pub mod StepHistory
 pub mod Had
 pub mod NeverMore
 pub mod NoneAfter
-pub mod NoneTold
+pub mod NoneCut
 pub mod InTime
 pub mod NoneWaits
--- A walk to the horizon finds the answer.
+-- What a walk to the horizon sees, and the answer by it.
 pub mod Walk
 pub mod WalkLate
 pub mod WalkWorst
 pub mod WalkEmpty
 pub mod Computed
+-- No theorem is empty.
 pub mod Instances

@@ -7,7 +7,7 @@ use native.Mathlib.Omega.{arith}
 use lib.Dec.{T, leb}
 use lib.ListN.{getD, length, set, length-set, length-replicate, getD-replicate}
 use lib.Seq.{getD-set-same, getD-set-other}
-use Rattle.model.specs.Run.{ownerOf, served, owner}
+use Rattle.model.specs.Run.{current, ownerOf, served, owner}
 use Rattle.counting.specs.Count.{tests}
 use Rattle.counting.specs.Below.{work-lt}
 use Rattle.backlog.specs.Streams.{Run, SlotOf, released}
@@ -17,6 +17,14 @@ use Rattle.backlog.specs.System.{System, size, costOf, releaseOf, dueOf,
 -- The slots given to task i before slot t.
 abbrev pub servedOf : System → ℕ → ℕ → ℕ
 servedOf S t i = getD (served (S .table) (S .rank) t) i 0
+
+-- The job that task i is at in slot t.
+abbrev pub at : System → ℕ → ℕ → ℕ
+at S t i = current (S .table) (served (S .table) (S .rank) t) i
+
+-- Slot t goes to the task that comes first of those whose job is released, or to none.
+abbrev pub Owned : System → ℕ → Type 0
+Owned S t = Chosen (λ i. leb (releaseOf S i (at S t i)) t) (λ i. dueOf S i (at S t i)) (S .rank) (size S) (owner (S .table) (S .rank) t)
 
 module _ (S : System) where
   served-length : (t : ℕ) → length (served (S .table) (S .rank) t) ≡ size S
@@ -28,12 +36,9 @@ module _ (S : System) where
   pub ready-iff : (i t s : ℕ) → i < size S → T (leb (releaseOf S i (s / costOf S i)) t) ↔ (s < released (jobs S) (suc t) i)
   ready-iff i t s l = let law = work-lt (releaseOf S i) ((jobs S) .rel-grows i l) (costOf S i) (suc t) s (S .cost-pos i l) in (λ h. law .1 (omega tests), λ h. omega (tests, law .0 h))
 
-  abbrev deadlineAt : ℕ → ℕ → ℕ
-  deadlineAt t i = dueOf S i (servedOf S t i / costOf S i)
-
-  pub chosen : (t : ℕ) → Chosen (λ i. leb (releaseOf S i (servedOf S t i / costOf S i)) t) (deadlineAt t) (S .rank) (size S) (owner (S .table) (S .rank) t)
+  pub owned : (t : ℕ) → Owned S t
   unfolding owner ownerOf
-  chosen t = choose-is _ _ _ (size S) (S .size-le)
+  owned t = choose-is _ _ _ (size S) (S .size-le)
 
   after-slot : (t : ℕ) → served (S .table) (S .rank) (suc t) ≡ set (served (S .table) (S .rank) t) (owner (S .table) (S .rank) t) (servedOf S t (owner (S .table) (S .rank) t) + 1)
   unfolding served owner
@@ -48,9 +53,9 @@ module _ (S : System) where
 
   pub model-run : Run (jobs S) (servedOf S)
   unfolding served
-  model-run = record { start = λ i l. getD-replicate (size S) i 0 0 l; slot = λ t. slot t (chosen t) }
+  model-run = record { start = λ i l. getD-replicate (size S) i 0 0 l; slot = λ t. slot t (owned t) }
     where
-      slot : (t : ℕ) → Chosen (λ i. leb (releaseOf S i (servedOf S t i / costOf S i)) t) (deadlineAt t) (S .rank) (size S) (owner (S .table) (S .rank) t) → SlotOf (jobs S) t (servedOf S t) (servedOf S (suc t))
+      slot : (t : ℕ) → Owned S t → SlotOf (jobs S) t (servedOf S t) (servedOf S (suc t))
       slot t (inl c) = inl (record {
         none = λ i l. elim (decLt (servedOf S t i) (released (jobs S) (suc t) i)) [ yes p ↦ absurd (c .shut i l (ready-iff i t (servedOf S t i) l .1 p)) | no p ↦ omega arith ];
         rest = λ i l. others-served t i (λ e. absurd (omega (arith, c .none, S .size-le)));

@@ -29,8 +29,8 @@ module _ (t : Table) where
   needed-is u l none late = first-unique (lateAt t) 0 (horizon t) u (omega arith) (omega arith) (λ v a b. none v b) (λ m. late (omega arith))
 
   -- Where the needed count is not late, nothing up to the horizon is.
-  pub none-late : (T (lateAt t (needed t)) → ⊥) → (needed t ≡ horizon t) × ((u : ℕ) → u ≤ horizon t → T (lateAt t u) → ⊥)
-  none-late h = (same, λ u l w. elim (decLt u (needed t)) [ yes p ↦ none-before u p w | no p ↦ h (rw (at-end u l p) at w) ])
+  pub none-within : (T (lateAt t (needed t)) → ⊥) → (needed t ≡ horizon t) × ((u : ℕ) → u ≤ horizon t → T (lateAt t u) → ⊥)
+  none-within h = (same, λ u l w. elim (decLt u (needed t)) [ yes p ↦ none-before u p w | no p ↦ h (rw (at-end u l p) at w) ])
     where
       same : needed t ≡ horizon t
       same = elim (decLt (needed t) (horizon t)) [ yes p ↦ absurd (h (needed-late p)) | no p ↦ omega (arith, needed-le) ]

@@ -1,4 +1,4 @@
--- NONE GETS A SLOT AFTER ITS END (`none-after`): no slot goes to a job that is finished. Of any well-formed table.
+-- NONE GETS A SLOT AFTER ITS END (`none-after`): no slot goes to a job that is finished. Of any table that keeps its ranges.
 use mathlib.Core.Path.{_≡_, refl, sym, _∙_}
 use mathlib.Core.Logic.{_⊎_, inl, inr, _≢_}
 use mathlib.Core.Bool.{Bool, true, cond}
@@ -11,13 +11,13 @@ use Rattle.values.specs.declared.Table.{Table}
 use Rattle.model.specs.Tasks.{task, release}
 use Rattle.model.specs.History.{ownerAt, reported, had, Finished}
 use Rattle.wellformed.specs.Ranges.{Ranged}
-use Rattle.backlog.specs.Streams.{between}
-use Rattle.backlog.specs.System.{System, jobs}
+use Rattle.backlog.specs.System.{System, jobs, releaseOf}
 use Rattle.backlog.specs.TableSystem.{tieSystem}
 use Rattle.backlog.specs.Stepping.{Fresh, Kept, finds, sound}
 use Rattle.backlog.specs.StepHistory.{open', ready, gave, step-history, Closing}
 use Rattle.backlog.specs.Had.{had-next, finished-iff}
 use Rattle.backlog.specs.NeverMore.{never-more}
+use Rattle.counting.specs.Below.{between-none}
 
 module _ (t : Table) (r : Ranged t) (done : ℕ → Bool) where
   abbrev S : System
@@ -42,7 +42,7 @@ module _ (t : Table) (r : Ranged t) (done : ℕ → Bool) where
   closed-stays i j u zero l a b z = rw (add-zero u) z
   closed-stays i j u (suc d) l a b z =
       let shut : open' t done (suc (u + d)) i ≡ 0 = omega (arith, step-history t r done .spent (u + d) i l, closed-stays i j u d l a (omega arith) z) in
-      rw (add-suc u d) (go shut (step-history t r done .kept (suc (u + d)) i l (between (jobs S) i j (suc (u + d)) l (omega arith) (omega arith))))
+      rw (add-suc u d) (go shut (step-history t r done .kept (suc (u + d)) i l (between-none (releaseOf S i) (jobs S .rel-grows i l) (suc (u + d)) j (omega arith) (omega arith))))
     where
       go : open' t done (suc (u + d)) i ≡ 0 → Closing t r done (suc (u + d)) i → ready t done (suc (u + d)) i ≡ 0
       go shut (inl e) = e ∙ shut
@@ -58,5 +58,5 @@ module _ (t : Table) (r : Ranged t) (done : ℕ → Bool) where
       go (inl h) = omega (arith, h, one, had-next t done i (release (task t i) j) n a, never-more t r done i j (suc n) l (omega arith))
       go (inr (u, x, y, h)) =
           let d : u + (n - u) ≡ n = omega arith in
-          let z = closed-stays i j u (n - u) l x (omega arith) (report-closes u i l (between (jobs S) i j u l x (omega arith)) h) in
+          let z = closed-stays i j u (n - u) l x (omega arith) (report-closes u i l (between-none (releaseOf S i) (jobs S .rel-grows i l) u j x (omega arith)) h) in
           omega (arith, step-history t r done .spent n i l, one, rw d at z)

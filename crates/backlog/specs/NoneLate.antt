@@ -1,4 +1,4 @@
--- NONE IS CUT OFF, IN ANY HISTORY (`none-late`): where the run at full cost meets every deadline, a job has nothing left at its own.
+-- NONE IS CUT OFF, IN ANY HISTORY (`none-late`): where each job is due by the next release and the run at full cost meets every deadline, a job has nothing left at its own.
 use mathlib.Core.Path.{_≡_}
 use Prim.Native.Nat.{ℕ, _<_}
 use Rattle.counting.specs.Below.{below-is}

@@ -2,8 +2,7 @@
 use mathlib.Core.Path.{_≡_, ap}
 use mathlib.Core.Logic.{_⊎_, inl, inr, _≢_}
 use mathlib.Core.Bool.{Bool}
-use Prim.Native.Nat.{ℕ, suc, _+_, _-_, min, _≤_, _<_}
-use native.Mathlib.Nat.{le-antisymm}
+use Prim.Native.Nat.{ℕ, suc, _+_, _-_, _≤_, _<_}
 use native.Mathlib.Decide.{ℕ-discrete, decLt}
 use native.Mathlib.Omega.{arith}
 use borrow.Author.Tests.{ne-eqb}
@@ -17,20 +16,20 @@ use Rattle.model.specs.Verdict.{verdict}
 use Rattle.model.specs.Run.{tieOrder, Worst}
 use Rattle.model.specs.History.{ownerAt, reported, Finished}
 use Rattle.wellformed.specs.Ranges.{Ranged}
-use Rattle.backlog.specs.Streams.{between}
 use Rattle.backlog.specs.Criterion.{Met}
 use Rattle.backlog.specs.History.{Goes}
 use Rattle.backlog.specs.OnTime.{account}
-use Rattle.backlog.specs.System.{System, jobs, dues, constrained}
+use Rattle.backlog.specs.System.{System, jobs, dues, constrained, releaseOf}
 use Rattle.backlog.specs.ModelRun.{servedOf, model-run}
 use Rattle.backlog.specs.Worst.{worst-range}
 use Rattle.backlog.specs.TableSystem.{tie-ranks, tieSystem}
 use Rattle.backlog.specs.PassedWorst.{met-of-passed, worst-of}
 use Rattle.backlog.specs.StepHistory.{open', ready, gave, told, step-history, Closing}
-use Rattle.backlog.specs.Had.{had-grows, had-sum, finished-iff}
-use Rattle.backlog.specs.NeverMore.{never-more}
-use Rattle.backlog.specs.NoneTold.{nothing-left}
+use Rattle.backlog.specs.Had.{had-sum, finished-iff}
+use Rattle.backlog.specs.NeverMore.{finished-stays}
+use Rattle.backlog.specs.NoneCut.{nothing-left}
 use Rattle.backlog.specs.InTime.{in-time}
+use Rattle.counting.specs.Below.{between-none}
 
 module _ (t : Table) (r : Ranged t) (done : ℕ → Bool) (budget : ℕ) (pass : verdict t budget ≡ Verdict.Passes) where
   abbrev S : System
@@ -38,12 +37,6 @@ module _ (t : Table) (r : Ranged t) (done : ℕ → Bool) (budget : ℕ) (pass :
 
   abbrev met : Met (jobs S) (dues S) (servedOf S)
   met = met-of-passed t r budget pass (tieOrder t) (tie-ranks t)
-
-  -- What is finished stays so.
-  finished-stays : (i j n m : ℕ) → i < t .count → n ≤ m → Finished t done i j n → Finished t done i j m
-  finished-stays i j n m l h (inl e) =
-      inl (le-antisymm (never-more t r done i j (min m (release (task t i) (suc j))) l (omega arith)) (omega (arith, had-grows t done i (release (task t i) j) (min n (release (task t i) (suc j))) (min m (release (task t i) (suc j))) (omega arith))))
-  finished-stays i j n m l h (inr (u, a, b, c)) = inr (u, a, omega arith, c)
 
   -- Where slot n goes to none, the last released job of each task is finished.
   last-waits : (n : ℕ) → ownerAt t done n ≡ taskLimit → (i j : ℕ) → i < t .count → release (task t i) j ≤ n → n < release (task t i) (suc j) → Finished t done i j n
@@ -59,7 +52,7 @@ module _ (t : Table) (r : Ranged t) (done : ℕ → Bool) (budget : ℕ) (pass :
       idle : ready t done n i ≡ 0 → Finished t done i j n
       idle z = elim (ℕ-discrete (release (task t i) j) n) [
         | yes q ↦ absurd (omega (arith, step-history t r done .fresh n i j l q, r .each i l .cost-pos))
-        | no q ↦ closed q (step-history t r done .kept n i l (between (jobs S) i j n l (omega arith) b))
+        | no q ↦ closed q (step-history t r done .kept n i l (between-none (releaseOf S i) (jobs S .rel-grows i l) n j (omega arith) b))
       ]
         where
           closed : release (task t i) j ≢ n → Closing t r done n i → Finished t done i j n
@@ -83,4 +76,4 @@ module _ (t : Table) (r : Ranged t) (done : ℕ → Bool) (budget : ℕ) (pass :
       earlier : ¬ (n < release (task t i) (suc j)) → (w : ℕ) × Worst t (tieOrder t) i w → Finished t done i j n
       earlier b (w, v) =
           let (p, q) = worst-range S met i l w v in
-          finished-stays i j (release (task t i) j + w) n l (omega (arith, r .each i l .deadline-le)) (in-time t r done budget pass i w l v j)
+          finished-stays t r done i j (release (task t i) j + w) n l (omega (arith, r .each i l .deadline-le)) (in-time t r done budget pass i w l v j)

@@ -1,12 +1,12 @@
--- EVERY JOB IN TIME, IN ANY HISTORY (`on-time`): within w of its release it is reported, or has been given its cost, if no response of the run at full cost is above w.
+-- EVERY JOB IN TIME, IN ANY HISTORY (`on-time`): where each job is due by the next release, the run at full cost meets every deadline and no response of it is above w, a job is reported or has been given its cost within w of its release, if its next release is no earlier.
 use mathlib.Core.Path.{_≡_, refl, ap, sym}
 use mathlib.Core.Logic.{_⊎_, inl, inr}
 use Prim.Native.Nat.{ℕ, zero, suc, _+_, _-_, _≤_, _<_}
 use native.Mathlib.Nat.{le-refl, le-step, add-suc}
 use native.Mathlib.Omega.{arith}
 use Rattle.model.specs.Notation.{sum}
-use Rattle.counting.specs.Below.{below-is}
-use Rattle.backlog.specs.Streams.{Jobs, Run, between}
+use Rattle.counting.specs.Below.{below-is, between-none}
+use Rattle.backlog.specs.Streams.{Jobs, Run}
 use Rattle.backlog.specs.Left.{served-mono}
 use Rattle.backlog.specs.Finish.{DoneFirst}
 use Rattle.backlog.specs.Criterion.{Dues, Met, finishes, Constrained}
@@ -16,17 +16,11 @@ use Rattle.backlog.specs.AtMost.{first-slot}
 use Rattle.backlog.specs.NoneLate.{none-late}
 
 module _ (J : Jobs) (D : Dues J) (told : ℕ → ℕ → Type 0) (open' ready gave : ℕ → ℕ → ℕ) (P : History J D told open' ready gave) (constrained : Constrained J D) (s : ℕ → ℕ → ℕ) (R : Run J s) (met : Met J D s) where
-  -- After the worst response of its stream a job has nothing left.
-  after-worst : (i w : ℕ) → i < J .n → ((j f : ℕ) → DoneFirst J s i j f → f - J .rel i j ≤ w) → (j t : ℕ) → J .rel i j + w ≤ t → t ≤ J .rel i (suc j) → open' t i ≡ 0
-  after-worst i w l worst j t a b =
-      let (g, q, h, e) = finishes J D s R met i j l in
-      not-open J open' (dispatches J D told open' ready gave P) s R i j t l (omega (arith, q .0, served-mono J s R i l g t (omega (arith, worst j g q)))) (below-is (J .rel i) (J .rel-grows i l) t j (omega (arith, worst j g q)) b)
-
   -- As long as a job is not reported, what it was given and what is left make its cost.
   pub account : (i j d : ℕ) → i < J .n → J .rel i j + d < J .rel i (suc j) → ((u : ℕ) × (0 < u) × (u ≤ d) × told (J .rel i j + u) i) ⊎ (givenTo gave i (J .rel i j) (suc d) + open' (J .rel i j + suc d) i ≡ J .cost i)
   unfolding sum
   account i j zero l h = inr (first-slot J D told open' ready gave P i j l)
-  account i j (suc d) l h = go (account i j d l (omega arith)) (P .kept (J .rel i j + suc d) i l (between J i j (J .rel i j + suc d) l (omega arith) (omega arith)))
+  account i j (suc d) l h = go (account i j d l (omega arith)) (P .kept (J .rel i j + suc d) i l (between-none (J .rel i) (J .rel-grows i l) (J .rel i j + suc d) j (omega arith) (omega arith)))
     where
       more : ready (J .rel i j + suc d) i ≡ open' (J .rel i j + suc d) i → givenTo gave i (J .rel i j) (suc d) + open' (J .rel i j + suc d) i ≡ J .cost i → givenTo gave i (J .rel i j) (suc (suc d)) + open' (J .rel i j + suc (suc d)) i ≡ J .cost i
       more e q = omega (arith, P .spent (J .rel i j + suc d) i l, ap (λ (y : ℕ). open' y i) (sym (add-suc (J .rel i j) (suc d))))
@@ -48,7 +42,10 @@ module _ (J : Jobs) (D : Dues J) (told : ℕ → ℕ → Type 0) (open' ready ga
       go (suc d) e = at (account i j d l (omega arith))
         where
           nothing : open' (J .rel i j + suc d) i ≡ 0
-          nothing = after-worst i w l worst j (J .rel i j + suc d) (omega arith) (omega arith)
+          nothing =
+              let (g, q, a, b) = finishes J D s R met i j l in
+              let t = J .rel i j + suc d in
+              not-open J open' (dispatches J D told open' ready gave P) s R i j t l (omega (arith, q .0, served-mono J s R i l g t (omega (arith, worst j g q)))) (below-is (J .rel i) (J .rel-grows i l) t j (omega arith) (omega arith))
 
           at : ((u : ℕ) × (0 < u) × (u ≤ d) × told (J .rel i j + u) i) ⊎ (givenTo gave i (J .rel i j) (suc d) + open' (J .rel i j + suc d) i ≡ J .cost i) → ((u : ℕ) × (0 < u) × (u < suc d) × told (J .rel i j + u) i) ⊎ (givenTo gave i (J .rel i j) (suc d) ≡ J .cost i)
           at (inl (u, a, b, c)) = inl (u, a, omega arith, c)

@@ -1,21 +1,15 @@
--- OVERLOAD (`overload-late`): with it some interval asks too much, so some deadline is late.
+-- OVERLOAD (`over-of-load`): if the jobs of a round ask for more slots than it has, some interval asks too much.
 use mathlib.Core.Path.{_≡_, ap}
 use Prim.Native.Nat.{ℕ, suc, _+_, _*_, _≤_, _<_}
 use native.Mathlib.Nat.{mul-le-mul-left, mul-le-mul-right}
+use native.Mathlib.Decide.{decLe}
 use native.Mathlib.Omega.{arith}
-use lib.Dec.{T}
-use Rattle.values.specs.declared.Table.{Table}
-use Rattle.model.specs.Tasks.{round, load}
-use Rattle.model.specs.Demand.{lateAt}
 use Rattle.counting.specs.Sum.{sum-le, sum-mul}
 use Rattle.counting.specs.Below.{below, below-least}
-use Rattle.wellformed.specs.Ranges.{Ranged}
-use Rattle.backlog.specs.Streams.{work, arrivals-none}
-use Rattle.backlog.specs.Criterion.{Over, demand, demand-is}
+use Rattle.backlog.specs.Streams.{Run, work, arrivals-none}
+use Rattle.backlog.specs.Criterion.{Met, Over, met-iff, demand, demand-is}
 use Rattle.backlog.specs.System.{System, size, costOf, periodOf, keyOf, jobs, dues}
-use Rattle.backlog.specs.Shift.{Cycle, loadOf}
-use Rattle.backlog.specs.TableSystem.{tie-ranks, load-is, tieSystem, tieCycle}
-use Rattle.backlog.specs.EveryInstant.{over-iff}
+use Rattle.backlog.specs.Shift.{Cycle, Light, loadOf}
 
 module _ (S : System) (Y : Cycle S) where
   -- From 0 to a whole number of rounds after the start and one round more, all jobs of these rounds are due.
@@ -42,15 +36,15 @@ module _ (S : System) (Y : Cycle S) where
         sum-le (size S) (λ i. m * (costOf S i * Y .times i)) (work (jobs S) (last m)) (λ i l. omega (arith, mul-le-mul-left (costOf S i) (jobs-due i m l))),
       )
 
-  -- A load above the round asks too much of some interval.
-  over-of-load : Y .round < loadOf S Y → (t : ℕ) × Over (jobs S) (dues S) t
+  pub over-of-load : Y .round < loadOf S Y → (t : ℕ) × Over (jobs S) (dues S) t
   over-of-load heavy =
       let a = Y .start + Y .round in
       let m = suc a in
       (a + m * Y .round, (0, omega arith, omega (arith, many m, mul-le-mul-left m heavy)))
 
--- The same in the model's words.
-pub overload-late : (t : Table) (r : Ranged t) → round t < load t → (to : ℕ) × T (lateAt t to)
-overload-late t r heavy =
-    let (u, o) = over-of-load (tieSystem t r) (tieCycle t r) (omega (arith, load-is t r _ (tie-ranks t))) in
-    (u, over-iff (tieSystem t r) u .1 o)
+  -- So there is none where the run meets every deadline.
+  pub light-of-met : (s : ℕ → ℕ → ℕ) → Run (jobs S) s → Met (jobs S) (dues S) s → Light S Y
+  light-of-met s R met = elim (decLe (loadOf S Y) (Y .round)) [
+    | yes p ↦ p
+    | no p ↦ (let (t, (u, l, over)) = over-of-load (omega arith) in absurd (omega (arith, met-iff (jobs S) (dues S) s R .0 met u t l)))
+  ]

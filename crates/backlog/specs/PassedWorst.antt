@@ -1,7 +1,6 @@
 -- EVERY TASK OF A PASSED TABLE HAS A WORST RESPONSE (`worst-of`), in any order of the tasks.
 use mathlib.Core.Path.{_≡_}
 use Prim.Native.Nat.{ℕ, _<_}
-use native.Mathlib.Omega.{arith}
 use Rattle.values.specs.declared.Table.{Table}
 use Rattle.values.specs.declared.Verdict.{Verdict}
 use Rattle.model.specs.Run.{Worst, Order}
@@ -10,9 +9,8 @@ use Rattle.wellformed.specs.Ranges.{Ranged}
 use Rattle.backlog.specs.Criterion.{Met}
 use Rattle.backlog.specs.System.{jobs, dues, System, Ranks}
 use Rattle.backlog.specs.ModelRun.{servedOf}
-use Rattle.backlog.specs.Shift.{Light}
 use Rattle.backlog.specs.Worst.{worst-exists}
-use Rattle.backlog.specs.TableSystem.{systemOf, cycleOf, load-is}
+use Rattle.backlog.specs.TableSystem.{systemOf, cycleOf}
 use Rattle.backlog.specs.Sufficient.{met-of-never}
 use Rattle.backlog.specs.Passes.{never-of-passed}
 
@@ -20,11 +18,9 @@ module _ (t : Table) (r : Ranged t) (budget : ℕ) (pass : verdict t budget ≡ 
   abbrev S : System
   S = systemOf t r rank o
 
-  pub light-of-passed : Light S (cycleOf t r rank o)
-  light-of-passed = omega (arith, load-is t r rank o, never-of-passed t r budget pass .0)
-
+  -- Its run meets every deadline.
   pub met-of-passed : Met (jobs S) (dues S) (servedOf S)
   met-of-passed = met-of-never S (never-of-passed t r budget pass .1)
 
   pub worst-of : (i : ℕ) → i < t .count → (w : ℕ) × Worst t rank i w
-  worst-of i l = worst-exists S met-of-passed i l (cycleOf t r rank o) light-of-passed
+  worst-of i l = worst-exists S met-of-passed i l (cycleOf t r rank o)

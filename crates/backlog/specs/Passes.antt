@@ -1,4 +1,4 @@
--- PASSES (`passes-iff`): with a budget that reaches the horizon the test passes exactly if some schedule is good for all time.
+-- PASSES (`passes-iff`): with a budget that reaches the horizon the test passes a table that keeps its ranges exactly if some schedule of it is good for all time.
 use mathlib.Core.Path.{_≡_}
 use mathlib.Core.Logic.{_↔_}
 use Prim.Native.Nat.{ℕ, _≤_}
@@ -14,8 +14,8 @@ use Rattle.wellformed.specs.Ranges.{Ranged}
 use Rattle.backlog.specs.TooMuch.{NeverTooMuch, never-iff}
 use Rattle.backlog.specs.Feasible.{Feasible, feasible-iff}
 use Rattle.backlog.specs.Horizon.{late-soon}
-use Rattle.backlog.specs.Overload.{overload-late}
-use Rattle.backlog.specs.Needed.{needed-le, none-late}
+use Rattle.backlog.specs.OverloadLate.{overload-late}
+use Rattle.backlog.specs.Needed.{needed-le, none-within}
 use Rattle.backlog.specs.Verdicts.{overload-iff, late-needed, passes-needed-iff}
 
 module _ (t : Table) (r : Ranged t) where
@@ -23,7 +23,7 @@ module _ (t : Table) (r : Ranged t) where
   pub never-of-passed : (budget : ℕ) → verdict t budget ≡ Verdict.Passes → (load t ≤ round t) × NeverTooMuch t
   never-of-passed budget e =
       let (light, enough, quiet) = passes-needed-iff t budget .0 e in
-      (light, never-iff t .1 (λ to w. let (u, m, h) = late-soon t r light to w in none-late t quiet .1 u m h))
+      (light, never-iff t .1 (λ to w. let (u, m, h) = late-soon t r light to w in none-within t quiet .1 u m h))
 
   -- With no interval that ever asks too much, a budget that reaches the horizon gives a pass.
   passed-of-never : (budget : ℕ) → horizon t ≤ budget → NeverTooMuch t → verdict t budget ≡ Verdict.Passes

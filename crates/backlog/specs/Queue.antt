@@ -21,7 +21,7 @@ sum-backlog a s (suc t) h = go (le-suc-iff .0 h) (sum-backlog a s t)
     go (inl l) ih = omega (arith, ih l)
     go (inr e) ih = rw e (omega arith)
 
--- A backlog at t began at some s with none, and in every slot from there to t there was one: from s to t it arrived, and one unit more for each slot.
+-- The busy period of the backlog at t: at s there was none, and from there to t always one, so in it arrived what is left, and one unit more for each slot.
 pub record Busy (a : ℕ → ℕ) (t s : ℕ) : Type 0 where
   pub early : s < t
   pub empty : backlog a s ≡ 0
@@ -47,3 +47,8 @@ pub backlog-bounds : (a r : ℕ → ℕ) → r 0 ≤ backlog a 0 → ((t : ℕ) 
 unfolding backlog
 backlog-bounds a r z s zero = z
 backlog-bounds a r z s (suc t) = omega (arith, s t, backlog-bounds a r z s t)
+
+-- More work, no smaller backlog.
+pub backlog-mono : (a b : ℕ → ℕ) → ((t : ℕ) → a t ≤ b t) → (t : ℕ) → backlog a t ≤ backlog b t
+unfolding backlog
+backlog-mono a b h = backlog-bounds b (backlog a) (omega arith) (λ t. omega (arith, h t))

@@ -1,4 +1,4 @@
--- THE STATE REPEATS (`repeats-done`): without overload, from one round after the start on, every job is as far as its twin a round later will be.
+-- THE STATE REPEATS (`repeats`): without overload, from one round after the start on, as much is left of a released job as will be of its twin a round later.
 use mathlib.Core.Path.{_≡_, refl, sym, ap, _∙_}
 use mathlib.Core.Logic.{_≢_, _↔_}
 use Prim.Native.Nat.{ℕ, zero, suc, _+_, _-_, _*_, _≤_, _<_, min}
@@ -7,8 +7,8 @@ use native.Mathlib.Omega.{arith}
 use Rattle.counting.specs.Sum.{sum-by}
 use Rattle.counting.specs.Below.{below, below-at, below-same, work-le}
 use Rattle.backlog.specs.Streams.{Jobs, Run, released, work, left, leftOf, work-at}
-use Rattle.backlog.specs.System.{System, size, costOf, releaseOf, dueOf, keyOf, jobs, some-task}
-use Rattle.backlog.specs.Shift.{Cycle, Light, release-later, key-later, left-up, left-down}
+use Rattle.backlog.specs.System.{System, size, costOf, releaseOf, dueOf, keyOf, jobs}
+use Rattle.backlog.specs.Shift.{Cycle, Light, release-later, key-later, left-later}
 
 -- What is left of job j of stream i, once it is released.
 abbrev pub restOf : Jobs → (ℕ → ℕ → ℕ) → ℕ → ℕ → ℕ → ℕ
@@ -49,7 +49,7 @@ module _ (J : Jobs) (s : ℕ → ℕ → ℕ) where
   rest-done t i j l = (λ e. omega (arith, J .cost-pos i l), λ h. omega arith)
 
 key-pos : (S : System) (i j : ℕ) → i < size S → 0 < keyOf S i j
-key-pos S i j l = omega (arith, mul-pos (due-pos i j l) (some-task S l))
+key-pos S i j l = let some : 0 < size S = omega arith in omega (arith, mul-pos (due-pos i j l) some)
   where
     due-pos : (i j : ℕ) → i < size S → 0 < dueOf S i j
     due-pos i j l = omega (arith, S .deadline-pos i l)
@@ -68,10 +68,8 @@ module _ (S : System) (Y : Cycle S) (light : Light S Y) (s : ℕ → ℕ → ℕ
             arith,
             job-left (jobs S) s t i j κ l (sym e) r,
             job-left (jobs S) s (t + Y .round) i (j + Y .times i) (κ + size S * Y .round) l f (omega (arith, release-later S Y i l j)),
-            left-up S Y s R κ t,
-            left-down S Y s R light κ t h,
-            left-up S Y s R (keyOf S i j) t,
-            left-down S Y s R light (keyOf S i j) t h,
+            left-later S Y s R light κ t h,
+            left-later S Y s R light (keyOf S i j) t h,
           )
 
   -- So one is done exactly if the other is a round later.

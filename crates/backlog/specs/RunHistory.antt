@@ -1,4 +1,4 @@
--- THE RUN IS A HISTORY (`run-history`) with nothing reported, where it meets every deadline. So what is asked of histories can be met.
+-- THE RUN IS A HISTORY (`run-history`) with nothing reported, where each job is due by the next release and every deadline is met. So what is asked of histories can be met.
 use mathlib.Core.Path.{_≡_, refl, ap}
 use mathlib.Core.Logic.{inl, inr, _≢_}
 use Prim.Native.Nat.{ℕ, zero, suc, _-_, _*_, _/_, _≤_, _<_}

@@ -9,10 +9,10 @@ use lib.Dec.{T, leb}
 use Rattle.model.specs.Schedule.{none, job, given}
 use Rattle.model.specs.Run.{run}
 use Rattle.counting.specs.Count.{tests}
-use Rattle.backlog.specs.Choice.{NoLater, Chosen}
+use Rattle.backlog.specs.Choice.{NoLater}
 use Rattle.backlog.specs.System.{System, size, costOf, periodOf, releaseOf, dueOf, period-pos, JobNoLater}
-use Rattle.backlog.specs.ModelRun.{servedOf, chosen}
-use Rattle.backlog.specs.RunSchedule.{runOwner, runAt, at, run-job, run-none, undone-iff}
+use Rattle.backlog.specs.ModelRun.{servedOf, at, Owned, owned}
+use Rattle.backlog.specs.RunSchedule.{runOwner, runAt, run-job, run-none, undone-iff}
 
 module _ (S : System) where
   -- Job j of task i is released and unfinished in slot u.
@@ -22,7 +22,7 @@ module _ (S : System) where
   pub run-rule : (u : ℕ) →
       ((runAt S u ≡ none) × ((i j : ℕ) → Waiting u i j → ⊥))
       ⊎ ((i : ℕ) × (j : ℕ) × (runAt S u ≡ job i j) × Waiting u i j × ((k m : ℕ) → Waiting u k m → JobNoLater S i j k m))
-  run-rule u = go (chosen S u)
+  run-rule u = go (owned S u)
     where
       before : (i j : ℕ) → Waiting u i j → at S u i ≤ j
       before i j (l, r, g) =
@@ -39,7 +39,7 @@ module _ (S : System) where
         | no q ↦ let n : suc (at S u k) ≤ m = omega (arith, before k m w) in inl (omega (arith, ap (dueOf S i) e, mul-le-mul-right (periodOf S k) n, period-pos S k (w .0)))
       ]
 
-      go : Chosen (λ k. leb (releaseOf S k (at S u k)) u) (λ k. dueOf S k (at S u k)) (S .rank) (size S) (runOwner S u)
+      go : Owned S u
           → ((runAt S u ≡ none) × ((i j : ℕ) → Waiting u i j → ⊥)) ⊎ ((i : ℕ) × (j : ℕ) × (runAt S u ≡ job i j) × Waiting u i j × ((k m : ℕ) → Waiting u k m → JobNoLater S i j k m))
       go (inl c) = inl (run-none S u (omega (arith, c .none, S .size-le)), λ i j w. c .shut i (w .0) (ready i j w))
       go (inr c) = inr (

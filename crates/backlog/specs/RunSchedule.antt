@@ -15,9 +15,8 @@ use Rattle.counting.specs.Count.{tests, and-iff, count-le}
 use Rattle.counting.specs.Search.{least-iff}
 use Rattle.backlog.specs.Finish.{DoneFirst}
 use Rattle.backlog.specs.Criterion.{Met}
-use Rattle.backlog.specs.Choice.{Chosen}
 use Rattle.backlog.specs.System.{System, size, costOf, releaseOf, dueOf, jobs, dues}
-use Rattle.backlog.specs.ModelRun.{servedOf, chosen, owner-served, others-served, model-run}
+use Rattle.backlog.specs.ModelRun.{servedOf, at, Owned, owned, owner-served, others-served, model-run}
 
 -- One slot more for the task: one more for the job it is at, and for no other.
 more : (c s j : ℕ) → 0 < c → min c (s + 1 - c * j) ≡ min c (s - c * j) + bit (eqb (s / c) j)
@@ -44,12 +43,8 @@ module _ (S : System) where
   abbrev pub runAt : ℕ → Slot
   runAt u = run (S .table) (S .rank) u
 
-  -- The job that task i is at in slot u.
-  abbrev pub at : ℕ → ℕ → ℕ
-  at u i = servedOf S u i / costOf S i
-
   -- The slot of an owner, and of none.
-  pub run-job : (u : ℕ) → runOwner u < size S → runAt u ≡ job (runOwner u) (at u (runOwner u))
+  pub run-job : (u : ℕ) → runOwner u < size S → runAt u ≡ job (runOwner u) (at S u (runOwner u))
   unfolding run
   run-job u l = rw (lt-ltb (runOwner u) (size S) l)
 
@@ -58,13 +53,13 @@ module _ (S : System) where
   run-none u l = rw (le-ltb (runOwner u) (size S) l)
 
   -- A job has slot u exactly if its task owns it and is at it.
-  belongs-own : (u i j : ℕ) → i < size S → i ≡ runOwner u → belongs i j (runAt u) ≡ eqb (at u i) j
+  belongs-own : (u i j : ℕ) → i < size S → i ≡ runOwner u → belongs i j (runAt u) ≡ eqb (at S u i) j
   belongs-own u i j l e =
-      ap (λ s. belongs i j s) (run-job u (omega arith)) ∙ rw (← e) (ap (λ b. b && eqb (at u i) j) (eq-eqb i i refl))
+      ap (λ s. belongs i j s) (run-job u (omega arith)) ∙ rw (← e) (ap (λ b. b && eqb (at S u i) j) (eq-eqb i i refl))
 
   belongs-other : (u i j : ℕ) → i ≢ runOwner u → belongs i j (runAt u) ≡ false
   belongs-other u i j e = elim (decLt (runOwner u) (size S)) [
-    | yes l ↦ ap (λ s. belongs i j s) (run-job u l) ∙ ap (λ b. b && eqb (at u (runOwner u)) j) (ne-eqb (runOwner u) i (λ q. e (sym q)))
+    | yes l ↦ ap (λ s. belongs i j s) (run-job u l) ∙ ap (λ b. b && eqb (at S u (runOwner u)) j) (ne-eqb (runOwner u) i (λ q. e (sym q)))
     | no l ↦ ap (λ s. belongs i j s) (run-none u (omega arith))
   ]
 
@@ -83,14 +78,14 @@ module _ (S : System) where
 
   -- A job has no slot before its release.
   job-released : (i j u : ℕ) → i < size S → T (belongs i j (runAt u)) → releaseOf S i j ≤ u
-  job-released i j u l t = go (ℕ-discrete i (runOwner u)) (chosen S u)
+  job-released i j u l t = go (ℕ-discrete i (runOwner u)) (owned S u)
     where
-      go : Dec (i ≡ runOwner u) → Chosen (λ k. leb (releaseOf S k (at u k)) u) (λ k. dueOf S k (at u k)) (S .rank) (size S) (runOwner u) → releaseOf S i j ≤ u
+      go : Dec (i ≡ runOwner u) → Owned S u → releaseOf S i j ≤ u
       go (no e) c = absurd (rw (belongs-other u i j e) at t)
       go (yes e) (inl c) = absurd (omega (arith, c .none, S .size-le))
       go (yes e) (inr c) =
-          let q : at u i ≡ j = eqb→eq (at u i) j (rw (belongs-own u i j l e) at t) in
-          let r : T (leb (releaseOf S i (at u i)) u) = rw e (c .opened) in
+          let q : at S u i ≡ j = eqb→eq (at S u i) j (rw (belongs-own u i j l e) at t) in
+          let r : T (leb (releaseOf S i (at S u i)) u) = rw e (c .opened) in
           omega (tests, ap (releaseOf S i) q)
 
   given-released : (i j u : ℕ) → i < size S → given (run (S .table) (S .rank)) i j 0 u ≤ given (run (S .table) (S .rank)) i j (releaseOf S i j) u

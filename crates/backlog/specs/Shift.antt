@@ -1,8 +1,8 @@
--- ONE ROUND LATER (`left-down`) as much is left, up to a key that is a round later: no less ever, and without overload no more from one round after the start on.
+-- ONE ROUND LATER (`left-later`): without overload, from one round after the start on, as much is left then as now, up to a key that is a round later.
 use mathlib.Core.Path.{_≡_, sym, ap, subst}
 use mathlib.Core.Logic.{_⊎_, inl, inr}
 use Prim.Native.Nat.{ℕ, suc, _+_, _-_, _*_, _≤_, _<_, min}
-use native.Mathlib.Nat.{eq-zero-or-pos, mul-le-mul-left, sub-add-cancel, suc-add, mul-le-mul-right}
+use native.Mathlib.Nat.{le-antisymm, eq-zero-or-pos, mul-le-mul-left, sub-add-cancel, suc-add, mul-le-mul-right}
 use native.Mathlib.Decide.{decLe}
 use native.Mathlib.Omega.{arith}
 use Rattle.model.specs.Notation.{sum}
@@ -118,7 +118,7 @@ module _ (S : System) (Y : Cycle S) (s : ℕ → ℕ → ℕ) (R : Run (jobs S) 
   lft κ t = left (jobs S) s κ t
 
   -- What is left now is left a round later.
-  pub left-up : (κ t : ℕ) → left (jobs S) s κ t ≤ left (jobs S) s (κ + size S * Y .round) (t + Y .round)
+  left-up : (κ t : ℕ) → left (jobs S) s κ t ≤ left (jobs S) s (κ + size S * Y .round) (t + Y .round)
   left-up κ t = go (eq-zero-or-pos (lft κ t))
     where
       go : (lft κ t ≡ 0) ⊎ (0 < lft κ t) → lft κ t ≤ lft (κ + size S * Y .round) (t + Y .round)
@@ -128,7 +128,7 @@ module _ (S : System) (Y : Cycle S) (s : ℕ → ℕ → ℕ) (R : Run (jobs S) 
           compare (jobs S) s R κ (κ + size S * Y .round) t (t + Y .round) u (u + Y .round) b (omega (arith, b .early)) (omega (arith, arr-up S Y κ t u (omega (arith, b .early)))) (omega arith)
 
   -- And from one round after the start on no more is, without overload.
-  pub left-down : Light S Y → (κ t : ℕ) → Y .start + Y .round ≤ t → left (jobs S) s (κ + size S * Y .round) (t + Y .round) ≤ left (jobs S) s κ t
+  left-down : Light S Y → (κ t : ℕ) → Y .start + Y .round ≤ t → left (jobs S) s (κ + size S * Y .round) (t + Y .round) ≤ left (jobs S) s κ t
   left-down light κ t h = go (eq-zero-or-pos (lft (κ + size S * Y .round) (t + Y .round)))
     where
       from : (u : ℕ) → Busy (arrive (jobs S) (κ + size S * Y .round)) (t + Y .round) u → Dec (u ≤ t) → lft (κ + size S * Y .round) (t + Y .round) ≤ lft κ t
@@ -143,3 +143,7 @@ module _ (S : System) (Y : Cycle S) (s : ℕ → ℕ → ℕ) (R : Run (jobs S) 
       go (inr p) =
           let (u, b) = busy-from (arrive (jobs S) (κ + size S * Y .round)) (t + Y .round) (omega (arith, left-is (jobs S) s R (κ + size S * Y .round) (t + Y .round))) in
           from u b (decLe u t)
+
+  -- So as much is left then as now.
+  pub left-later : Light S Y → (κ t : ℕ) → Y .start + Y .round ≤ t → left (jobs S) s (κ + size S * Y .round) (t + Y .round) ≡ left (jobs S) s κ t
+  left-later light κ t h = le-antisymm (left-down light κ t h) (left-up κ t)

@@ -39,7 +39,7 @@ module _ (t : Table) (done : ℕ → Bool) where
   told n i = T (reported t done i n)
 
   -- Nothing is left before slot 0.
-  pub first-open : (i : ℕ) → open' 0 i ≡ 0
+  first-open : (i : ℕ) → open' 0 i ≡ 0
   unfolding stateAt
   first-open = left-start t
 

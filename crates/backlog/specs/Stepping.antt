@@ -1,33 +1,30 @@
--- NO STEP IS REFUSED (`never-refused`) from a start on: a wait tells the next release, and an open job is the last released and not past its deadline.
+-- EVERY STATE IS SOUND (`sound`): from a start on a table that keeps its ranges a wait tells the next release, and an open job is the last released and not past its deadline.
 use mathlib.Core.Path.{_≡_, ap, _∙_}
 use mathlib.Core.Logic.{_⊎_, inl, inr, _≢_}
 use mathlib.Core.Bool.{Bool, cond}
 use Prim.Native.Nat.{ℕ, zero, suc, _+_, _-_, _≤_, _<_}
 use native.Mathlib.Omega.{arith}
-use borrow.Author.Tests.{eq-eqb, ne-eqb, le-ltb}
+use borrow.Author.Tests.{eq-eqb, ne-eqb}
 use lib.Dec.{T, eqb}
 use lib.ListN.{getD}
 use Rattle.values.specs.declared.Table.{Table}
-use Rattle.values.specs.declared.Measure.{Measure}
-use Rattle.values.specs.declared.Judgement.{Judgement}
-use Rattle.values.specs.declared.Given.{Given}
 use Rattle.model.specs.Limits.{taskLimit}
-use Rattle.model.specs.Tasks.{task, judged}
-use Rattle.model.specs.Dispatcher.{State, waitOf, leftOf, firstStrange, startOf, isLate, waitReleased, leftReleased, after, turn, stepped}
+use Rattle.model.specs.Tasks.{task}
+use Rattle.model.specs.Dispatcher.{State, waitOf, leftOf, startOf, isLate, waitReleased, leftReleased, after}
 use Rattle.model.specs.History.{stateAt, ownerAt}
 use Rattle.counting.specs.Fill.{fill-ahead, getD-same}
-use Rattle.counting.specs.Below.{lt-below, below-none}
+use Rattle.counting.specs.Below.{below-none}
 use Rattle.wellformed.specs.Ranges.{Ranged}
 use Rattle.backlog.specs.Domination.{Releases, releases}
 use Rattle.backlog.specs.System.{System, releaseOf, dueOf, jobs, releasedBy}
 use Rattle.backlog.specs.TableSystem.{tieSystem}
-use Rattle.backlog.specs.Taken.{Belongs, KeptOrClosed, closed-late-iff, left-done-le, kept-or-closed, owner-ready, wait-start, left-start, belongs-start, wait-after, left-after, belongs-after, kept-open}
+use Rattle.backlog.specs.Taken.{Belongs, KeptOrClosed, closed-late-iff, left-done-le, kept-or-closed, wait-start, left-start, belongs-start, wait-after, left-after, belongs-after, kept-open}
 
 module _ (t : Table) (r : Ranged t) (done : ℕ → Bool) where
   abbrev S : System
   S = tieSystem t r
 
-  abbrev pub before : ℕ → State
+  abbrev before : ℕ → State
   before n = stateAt t done n
 
   -- What holds of every state.
@@ -112,18 +109,6 @@ module _ (t : Table) (r : Ranged t) (done : ℕ → Bool) where
     current = λ i l p. absurd (omega (arith, left-start t i));
   }
   sound (suc n) = sound-after n (sound n)
-
-  -- A slot that task i owns is its last released job's, and lies before that job's deadline.
-  pub owned-ready : (n i : ℕ) → i < t .count → ownerAt t done n ≡ i → (j : ℕ) × (releaseOf S i j ≤ n) × (n < dueOf S i j)
-  owned-ready n i l e =
-      let (j, b, d, early) = ready-is n i (sound n) l (owner-ready t (before n) (done n) (r .few) i l e) in
-      let first : releaseOf S i j < suc n = lt-below (releaseOf S i) ((jobs S) .rel-grows i l) (suc n) j .0 (omega arith) in
-      (j, omega arith, early)
-
-  -- So no step is refused, and each gives the next state.
-  pub never-refused : (m : Measure) → judged t ≡ Judgement.WellFormed m → (n : ℕ) → stepped t (before n) (done n) ≡ record { given = Given.Slot (turn t (before n) (done n)); state = before (suc n) }
-  unfolding stepped stateAt
-  never-refused m e n = let b = sound n .belongs in rw (e, le-ltb (firstStrange t (before n)) (t .count) (b .each), b .ran)
 
 module _ (t : Table) (done : ℕ → Bool) where
   -- Entries past the table's last task are 0 from the start on.

@@ -1,11 +1,11 @@
--- STREAMS OF JOBS (`arrived`), their runs and classes: all class work that is released before t has arrived in the slots up to there.
+-- STREAMS OF JOBS (`arrived`), what a run of them does, and the class of a key: all class work that is released before t has arrived in the slots up to there.
 use mathlib.Core.Path.{_≡_, sym, ap, _∙_}
 use mathlib.Core.Logic.{_⊎_, _≢_, _↔_}
 use Prim.Native.Nat.{ℕ, suc, _+_, _-_, _*_, _/_, _≤_, _<_, min, zero}
 use native.Mathlib.Nat.{mul-le-mul-left}
 use native.Mathlib.Omega.{arith}
 use Rattle.model.specs.Notation.{sum}
-use Rattle.counting.specs.Below.{Grows, below, below-mono, work-lt, below-none, below-after, between-none}
+use Rattle.counting.specs.Below.{Grows, below, below-mono, work-lt, below-none, below-after}
 use Rattle.counting.specs.Sum.{sum-eq, sum-add, sum-zero, sum-none}
 
 -- n streams of jobs. Job j of stream i costs `cost i` slots, is released at `rel i j` and has the key `key i j`; a smaller key goes first.
@@ -70,10 +70,6 @@ arrivals J κ t = sum (J .n) (λ i. min (work J κ i) (released J t i))
 module _ (J : Jobs) where
   pub released-mono : (i : ℕ) → i < J .n → (t u : ℕ) → t ≤ u → released J t i ≤ released J u i
   released-mono i l t u h = mul-le-mul-left (J .cost i) (below-mono (J .rel i) (J .rel-grows i l) t u h)
-
-  -- Between two releases of a stream there is none.
-  pub between : (i j t : ℕ) → i < J .n → J .rel i j < t → t < J .rel i (suc j) → (k : ℕ) → J .rel i k ≢ t
-  between i j t l a b k = between-none (J .rel i) (J .rel-grows i l) t j k a b
 
   -- The class of a job's key has the work of its stream up to that job.
   pub work-at : (i j : ℕ) → i < J .n → work J (J .key i j) i ≡ J .cost i * suc j

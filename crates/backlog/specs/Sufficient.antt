@@ -5,16 +5,16 @@ use native.Mathlib.Omega.{arith}
 use Rattle.model.specs.Schedule.{Good}
 use Rattle.model.specs.Run.{run}
 use Rattle.backlog.specs.Criterion as streams
-use Rattle.backlog.specs.Criterion.{Met, criterion}
+use Rattle.backlog.specs.Criterion.{Met, met-iff}
 use Rattle.backlog.specs.System.{System, jobs, dues, demand-streams}
 use Rattle.backlog.specs.ModelRun.{servedOf, model-run}
 use Rattle.backlog.specs.RunSchedule.{run-good}
 use Rattle.backlog.specs.TooMuch.{NeverTooMuch, too-much-iff}
 
 module _ (S : System) where
-  -- The run meets every deadline.
+  -- Then the run meets every deadline.
   pub met-of-never : NeverTooMuch (S .table) → Met (jobs S) (dues S) (servedOf S)
-  met-of-never h = criterion (jobs S) (dues S) (servedOf S) (model-run S) .1 (λ t1 t2 l. fits t1 t2 l (decLe _ _))
+  met-of-never h = met-iff (jobs S) (dues S) (servedOf S) (model-run S) .1 (λ t1 t2 l. fits t1 t2 l (decLe _ _))
     where
       fits : (t1 t2 : ℕ) → t1 < t2 → Dec (streams.demand (jobs S) (dues S) t1 t2 ≤ t2 - t1) → streams.demand (jobs S) (dues S) t1 t2 ≤ t2 - t1
       fits t1 t2 l (yes p) = p

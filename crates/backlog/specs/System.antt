@@ -1,4 +1,4 @@
--- A TABLE IS STREAMS OF JOBS (`demand-streams`): one within its ranges, with an order of its tasks, makes streams with the model's demand.
+-- A TABLE IS STREAMS OF JOBS (`demand-streams`): one whose tasks cost something and are due by their next release, with an order of its tasks, makes streams with the model's demand.
 use mathlib.Core.Path.{_≡_, refl, sym, ap, _∙_}
 use mathlib.Core.Logic.{inl, inr, _↔_}
 use Prim.Native.Nat.{ℕ, suc, _+_, _-_, _*_, _%_, _≤_, _<_}
@@ -67,11 +67,8 @@ module _ (S : System) where
   pub period-pos : (i : ℕ) → i < size S → 0 < periodOf S i
   period-pos i l = omega (arith, S .deadline-pos i l, S .deadline-le i l)
 
-  pub some-task : {i : ℕ} → i < size S → 0 < size S
-  some-task l = omega arith
-
   pub keys-grow : (i : ℕ) → i < size S → Grows (keyOf S i)
-  keys-grow i l j = omega (arith, mul-pos (period-pos i l) (some-task l))
+  keys-grow i l j = let some : 0 < size S = omega arith in omega (arith, mul-pos (period-pos i l) some)
 
   pub keys-apart : (i j k l : ℕ) → i < size S → k < size S → keyOf S i j ≡ keyOf S k l → i ≡ k
   keys-apart i j k l a b e =

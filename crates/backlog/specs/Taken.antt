@@ -1,4 +1,4 @@
--- ONCE TAKEN, NEVER REFUSED (`belongs-after`): what a step makes of a state that belongs to its table, whoever made it, belongs to it too.
+-- ONCE TAKEN, NEVER REFUSED (`belongs-after`): what a step makes of a state that belongs to its table, which keeps its ranges, belongs to it too, whoever made the state.
 use mathlib.Core.Path.{_≡_, refl, subst, _∙_}
 use mathlib.Core.Logic.{_⊎_, inl, inr, _≢_, _↔_}
 use mathlib.Core.Bool.{Bool, true, false, cond, _&&_, _||_}

@@ -1,5 +1,5 @@
 -- ONE PERMITTED ANSWER (`permitted-unique`): any two to a table and a budget are equal.
-use mathlib.Core.Path.{_≡_, sym, _∙_, ap}
+use mathlib.Core.Path.{_≡_, sym, _∙_}
 use mathlib.Core.List.{List}
 use Prim.Native.Nat.{ℕ}
 use native.Mathlib.Decide.{decLt}
@@ -10,9 +10,8 @@ use Rattle.values.specs.declared.Measure.{Measure}
 use Rattle.values.specs.declared.Judgement.{Judgement}
 use Rattle.values.specs.declared.Verdict.{Verdict}
 use Rattle.values.specs.declared.Answer.{Answer}
-use Rattle.values.specs.declared.Outcome.{Outcome}
 use Rattle.model.specs.Tasks.{judged}
-use Rattle.model.specs.Verdict.{verdict, settledBy, Worsts, Answers, PermittedBy, Permitted}
+use Rattle.model.specs.Verdict.{verdict, Worsts, Answers, PermittedBy, Permitted}
 use Rattle.backlog.specs.Worst.{worst-unique}
 
 -- Two lists of worst responses of a table are equal.
@@ -31,16 +30,6 @@ answers-unique t budget m a b Verdict.Undecided e f = cc
 judged-unique : (t : Table) (budget : ℕ) (a b : Answer) (j : Judgement) → PermittedBy t budget a j → PermittedBy t budget b j → a ≡ b
 judged-unique t budget a b (Judgement.Refused r) e f = cc
 judged-unique t budget a b (Judgement.WellFormed m) e f = answers-unique t budget m a b (verdict t budget) e f
-
-parts : (a b : Answer) → a ≡ b → (a .outcome ≡ b .outcome) × (a .settled ≡ b .settled) × (a .measure ≡ b .measure)
-parts a b e = (ap (λ (x : Answer). x .outcome) e, ap (λ (x : Answer). x .settled) e, ap (λ (x : Answer). x .measure) e)
-
--- The answers of a verdict say it, the settled count and the measures.
-pub answers-say : (t : Table) (budget : ℕ) (m : Measure) (a : Answer) (v : Verdict) → Answers t budget m a v → (a .outcome ≡ Outcome.Tested v) × (a .settled ≡ settledBy t budget) × (a .measure ≡ m)
-answers-say t budget m a Verdict.Passes (w, p, e) = parts a _ e
-answers-say t budget m a Verdict.Overload e = parts a _ e
-answers-say t budget m a (Verdict.Late f k d) e = parts a _ e
-answers-say t budget m a Verdict.Undecided e = parts a _ e
 
 pub permitted-unique : (t : Table) (budget : ℕ) (a b : Answer) → Permitted t budget a → Permitted t budget b → a ≡ b
 unfolding Permitted

@@ -18,18 +18,21 @@ use Rattle.counting.specs.Below.{below-none}
 use Rattle.wellformed.specs.Ranges.{Ranged}
 use Rattle.backlog.specs.Choice.{NoLater, chosen-same}
 use Rattle.backlog.specs.System.{System, releaseOf, dueOf, releasedBy}
-use Rattle.backlog.specs.ModelRun.{servedOf, ready-iff, model-run, owner-served, others-served}
-use Rattle.backlog.specs.ModelRun as run-of
+use Rattle.backlog.specs.ModelRun.{servedOf, ready-iff, model-run, owner-served, others-served, owned}
 use Rattle.backlog.specs.RunSchedule.{undone-iff}
 use Rattle.backlog.specs.TableSystem.{tieSystem}
 use Rattle.backlog.specs.EveryInstant.{missed-iff}
 use Rattle.backlog.specs.Taken.{closed-late-iff, chosen, owner-ready, released-le}
 use Rattle.backlog.specs.Stepping.{Fresh, Kept, finds, late-is, ready-is, left-next, sound}
-use Rattle.backlog.specs.StepHistory.{first-open, ready}
+use Rattle.backlog.specs.StepHistory.{ready, step-history}
 
 -- No done report, ever.
 abbrev pub quiet : ℕ → Bool
 quiet n = false
+
+-- The state before slot n of a walk: a history without reports.
+abbrev pub walked : Table → ℕ → State
+walked t n = stateAt t quiet n
 
 -- No deadline before n is late.
 abbrev pub Clear : Table → ℕ → Type 0
@@ -39,16 +42,14 @@ module _ (t : Table) (r : Ranged t) where
   abbrev S : System
   S = tieSystem t r
 
-  abbrev st : ℕ → State
-  st n = stateAt t quiet n
-
   -- What is left in the dispatcher and what the run has served make all that was released.
   abbrev pub Agrees : ℕ → Type 0
-  Agrees n = (i : ℕ) → i < t .count → leftOf (st n) i + servedOf S n i ≡ task t i .cost * releasedBy S i n
+  Agrees n = (i : ℕ) → i < t .count → leftOf (walked t n) i + servedOf S n i ≡ task t i .cost * releasedBy S i n
 
   -- A job closed as late means a late deadline.
-  pub late-missed : (n : ℕ) → Agrees n → (i : ℕ) → i < t .count → T (isLate t (st n) false i) → T (lateAt t n)
-  late-missed n a i l h =
+  pub late-missed : (n : ℕ) → Agrees n → (i : ℕ) → T (isLate t (walked t n) false i) → T (lateAt t n)
+  late-missed n a i h =
+      let l : i < t .count = closed-late-iff t (walked t n) false i .0 h .0 in
       let (p, (j, e, b)) = late-is t r quiet n i (sound t r quiet n) h in
       missed-iff S n .0 (i, j, l, omega arith, undone-iff S i j n l .1 (omega (arith, a i l, ap (λ (y : ℕ). task t i .cost * y) b)))
 
@@ -59,19 +60,19 @@ module _ (t : Table) (r : Ranged t) where
       kept : Kept t r quiet n i → ready t quiet n i + servedOf S n i ≡ task t i .cost * releasedBy S i (suc n)
       kept k = elim (k .left) [
         | inl e ↦ omega (arith, e .0, a i l, ap (λ (y : ℕ). task t i .cost * y) (k .passed))
-        | inr e ↦ elim (e .1) [ inl x ↦ absurd x | inr x ↦ absurd (never (late-missed n a i l x)) ]
+        | inr e ↦ elim (e .1) [ inl x ↦ absurd x | inr x ↦ absurd (never (late-missed n a i x)) ]
       ]
 
       fresh : (j : ℕ) → Fresh t r quiet n i j → ready t quiet n i + servedOf S n i ≡ task t i .cost * releasedBy S i (suc n)
-      fresh j f = at (decLt 0 (leftOf (st n) i))
+      fresh j f = at (decLt 0 (leftOf (walked t n) i))
         where
-          at : Dec (0 < leftOf (st n) i) → ready t quiet n i + servedOf S n i ≡ task t i .cost * releasedBy S i (suc n)
+          at : Dec (0 < leftOf (walked t n) i) → ready t quiet n i + servedOf S n i ≡ task t i .cost * releasedBy S i (suc n)
           at (no p) = omega (arith, f .left, a i l, ap (λ (y : ℕ). task t i .cost * y) (f .earlier), ap (λ (y : ℕ). task t i .cost * y) (f .passed))
           at (yes p) =
               let (k, b, d) = sound t r quiet n .current i l p in
               let e : releaseOf S i (suc k) ≡ n = ap (releaseOf S i) (sym b ∙ f .earlier) ∙ f .now in
-              let w : waitOf (st n) i + n ≡ releaseOf S i (suc k) = sound t r quiet n .next i l ∙ ap (releaseOf S i) b in
-              absurd (never (late-missed n a i l (closed-late-iff t (st n) false i .1 (l, p, omega (arith, r .each i l .deadline-le)))))
+              let w : waitOf (walked t n) i + n ≡ releaseOf S i (suc k) = sound t r quiet n .next i l ∙ ap (releaseOf S i) b in
+              absurd (never (late-missed n a i (closed-late-iff t (walked t n) false i .1 (l, p, omega (arith, r .each i l .deadline-le)))))
 
       go : ((j : ℕ) × Fresh t r quiet n i j) ⊎ Kept t r quiet n i → ready t quiet n i + servedOf S n i ≡ task t i .cost * releasedBy S i (suc n)
       go (inl (j, f)) = fresh j f
@@ -79,45 +80,45 @@ module _ (t : Table) (r : Ranged t) where
 
   -- A task that may be served is at its last released job, with the deadline that its wait says.
   at-job : (n : ℕ) → Agrees n → (T (lateAt t n) → ⊥) → (i : ℕ) → i < t .count → 0 < ready t quiet n i
-      → dueOf S i (servedOf S n i / task t i .cost) ≡ n + (waitReleased t (st n) false i - (task t i .period - task t i .deadline))
+      → dueOf S i (servedOf S n i / task t i .cost) ≡ n + (waitReleased t (walked t n) false i - (task t i .period - task t i .deadline))
   at-job n a never i l p =
       let (j, b, e, d) = ready-is t r quiet n i (sound t r quiet n) l p in
-      let q : servedOf S n i / task t i .cost ≡ j = div-eq-of-lt-le (task t i .cost) (omega (arith, ready-agrees n a never i l, released-le t (st n) false (sound t r quiet n .belongs) i l, ap (λ (y : ℕ). task t i .cost * y) b)) (omega (arith, ready-agrees n a never i l, ap (λ (y : ℕ). task t i .cost * y) b)) in
+      let q : servedOf S n i / task t i .cost ≡ j = div-eq-of-lt-le (task t i .cost) (omega (arith, ready-agrees n a never i l, released-le t (walked t n) false (sound t r quiet n .belongs) i l, ap (λ (y : ℕ). task t i .cost * y) b)) (omega (arith, ready-agrees n a never i l, ap (λ (y : ℕ). task t i .cost * y) b)) in
       ap (dueOf S i) q ∙ e
 
   -- The dispatcher gives the slot to the task that the run gives it to.
   pub owner-agrees : (n : ℕ) → Agrees n → (T (lateAt t n) → ⊥) → ownerAt t quiet n ≡ owner t (tieOrder t) n
   owner-agrees n a never =
-      chosen-same (λ i. ltb 0 (ready t quiet n i)) _ (λ i. waitReleased t (st n) false i - (task t i .period - task t i .deadline)) (λ i. dueOf S i (servedOf S n i / task t i .cost)) (tieOrder t) (t .count) (ownerAt t quiet n) (owner t (tieOrder t) n)
+      chosen-same (λ i. ltb 0 (ready t quiet n i)) _ (λ i. waitReleased t (walked t n) false i - (task t i .period - task t i .deadline)) (λ i. dueOf S i (servedOf S n i / task t i .cost)) (tieOrder t) (t .count) (ownerAt t quiet n) (owner t (tieOrder t) n)
       (S .ranks .apart)
       (λ i l p. ready-iff S i n (servedOf S n i) l .1 (omega (arith, ready-agrees n a never i l, ltb→lt 0 (ready t quiet n i) p)))
       (λ i l p. lt→ltb 0 (ready t quiet n i) (omega (arith, ready-agrees n a never i l, ready-iff S i n (servedOf S n i) l .0 p)))
       (λ i k l m p q x. alike i k (at-job n a never i l (ltb→lt 0 (ready t quiet n i) p)) (at-job n a never k m (ltb→lt 0 (ready t quiet n k) q)) x)
-      (chosen t (st n) false (r .few))
-      (run-of.chosen S n)
+      (chosen t (walked t n) false (r .few))
+      (owned S n)
     where
-      alike : (i k : ℕ) → dueOf S i (servedOf S n i / task t i .cost) ≡ n + (waitReleased t (st n) false i - (task t i .period - task t i .deadline))
-          → dueOf S k (servedOf S n k / task t k .cost) ≡ n + (waitReleased t (st n) false k - (task t k .period - task t k .deadline))
+      alike : (i k : ℕ) → dueOf S i (servedOf S n i / task t i .cost) ≡ n + (waitReleased t (walked t n) false i - (task t i .period - task t i .deadline))
+          → dueOf S k (servedOf S n k / task t k .cost) ≡ n + (waitReleased t (walked t n) false k - (task t k .period - task t k .deadline))
           → NoLater (λ i. dueOf S i (servedOf S n i / task t i .cost)) (tieOrder t) i k
-          → NoLater (λ i. waitReleased t (st n) false i - (task t i .period - task t i .deadline)) (tieOrder t) i k
+          → NoLater (λ i. waitReleased t (walked t n) false i - (task t i .period - task t i .deadline)) (tieOrder t) i k
       alike i k e f (inl x) = inl (omega arith)
       alike i k e f (inr (x, o)) = inr (omega arith, o)
 
   -- Agreement, as long as no deadline is late.
   pub agrees : (n : ℕ) → Clear t n → Agrees n
-  agrees zero c i l = rw (below-none (releaseOf S i)) (omega (arith, first-open t quiet i, (model-run S) .start i l))
+  agrees zero c i l = rw (below-none (releaseOf S i)) (omega (arith, step-history t r quiet .start i l, (model-run S) .start i l))
   agrees (suc n) c i l = step (agrees n (λ u m. c u (le-step m))) (c n (le-refl (suc n)))
     where
-      step : Agrees n → (T (lateAt t n) → ⊥) → leftOf (st (suc n)) i + servedOf S (suc n) i ≡ task t i .cost * releasedBy S i (suc n)
+      step : Agrees n → (T (lateAt t n) → ⊥) → leftOf (walked t (suc n)) i + servedOf S (suc n) i ≡ task t i .cost * releasedBy S i (suc n)
       step a never = at (ℕ-discrete (ownerAt t quiet n) i) (owner-agrees n a never)
         where
-          left-now : leftOf (st (suc n)) i ≡ ready t quiet n i - cond (eqb (ownerAt t quiet n) i) 1 0
+          left-now : leftOf (walked t (suc n)) i ≡ ready t quiet n i - cond (eqb (ownerAt t quiet n) i) 1 0
           left-now = left-next t r quiet n i (sound t r quiet n) l
 
-          at : Dec (ownerAt t quiet n ≡ i) → ownerAt t quiet n ≡ owner t (tieOrder t) n → leftOf (st (suc n)) i + servedOf S (suc n) i ≡ task t i .cost * releasedBy S i (suc n)
+          at : Dec (ownerAt t quiet n ≡ i) → ownerAt t quiet n ≡ owner t (tieOrder t) n → leftOf (walked t (suc n)) i + servedOf S (suc n) i ≡ task t i .cost * releasedBy S i (suc n)
           at (no e) q = rw (left-now, ne-eqb (ownerAt t quiet n) i e, others-served S n i (λ x. e (q ∙ sym x))) (omega (arith, ready-agrees n a never i l))
           at (yes e) q =
               let o : owner t (tieOrder t) n ≡ i = sym q ∙ e in
-              let p : 0 < ready t quiet n i = owner-ready t (st n) false (r .few) i l e in
+              let p : 0 < ready t quiet n i = owner-ready t (walked t n) false (r .few) i l e in
               let one : servedOf S (suc n) i ≡ servedOf S n i + 1 = rw o at (owner-served S n (omega arith)) in
               rw (left-now, eq-eqb (ownerAt t quiet n) i e, one) (omega (arith, ready-agrees n a never i l))

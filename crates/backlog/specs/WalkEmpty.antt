@@ -1,4 +1,4 @@
--- THE FIRST EMPTY SLOT BY A WALK (`walk-empty`): with no late deadline before the horizon the dispatcher's empty slots are the run's.
+-- THE FIRST EMPTY SLOT BY A WALK (`walk-empty`): with no late deadline before the horizon the first empty slot of a walk without done reports is the run's.
 use mathlib.Core.Path.{_≡_, ap}
 use Prim.Native.Nat.{ℕ}
 use native.Mathlib.Omega.{arith}

@@ -1,4 +1,4 @@
--- THE FIRST LATE DEADLINE (`late-iff`): with none before n, some open job is at its deadline at n exactly if n is late.
+-- THE FIRST LATE DEADLINE (`late-iff`): in a walk without done reports, with none before n, some open job is at its deadline at n exactly if n is late.
 use mathlib.Core.Path.{_≡_, ap}
 use mathlib.Core.Logic.{_↔_}
 use mathlib.Core.Bool.{false}
@@ -12,8 +12,7 @@ use Rattle.model.specs.Tasks.{task}
 use Rattle.model.specs.Demand.{lateAt}
 use Rattle.model.specs.Schedule.{given}
 use Rattle.model.specs.Run.{tieOrder, run}
-use Rattle.model.specs.Dispatcher.{State, waitOf, leftOf, isLate}
-use Rattle.model.specs.History.{stateAt}
+use Rattle.model.specs.Dispatcher.{waitOf, leftOf, isLate}
 use Rattle.counting.specs.Below.{below-is}
 use Rattle.wellformed.specs.Ranges.{Ranged}
 use Rattle.backlog.specs.Left.{served-mono}
@@ -24,20 +23,17 @@ use Rattle.backlog.specs.TableSystem.{tieSystem}
 use Rattle.backlog.specs.EveryInstant.{Missed, missed-iff}
 use Rattle.backlog.specs.Taken.{closed-late-iff}
 use Rattle.backlog.specs.Stepping.{sound}
-use Rattle.backlog.specs.Walk.{quiet, Clear, late-missed, agrees}
+use Rattle.backlog.specs.Walk.{quiet, walked, Clear, late-missed, agrees}
 
 module _ (t : Table) (r : Ranged t) where
   abbrev S : System
   S = tieSystem t r
 
-  abbrev st : ℕ → State
-  st n = stateAt t quiet n
-
-  pub late-iff : (n : ℕ) → Clear t n → ((i : ℕ) × (i < t .count) × T (isLate t (st n) false i)) ↔ T (lateAt t n)
-  late-iff n c = (λ (i, l, h). late-missed t r n (agrees t r n c) i l h, λ h. seen (missed-iff S n .1 h))
+  pub late-iff : (n : ℕ) → Clear t n → ((i : ℕ) × (i < t .count) × T (isLate t (walked t n) false i)) ↔ T (lateAt t n)
+  late-iff n c = (λ (i, l, h). late-missed t r n (agrees t r n c) i h, λ h. seen (missed-iff S n .1 h))
     where
-      seen : Missed S n → (i : ℕ) × (i < t .count) × T (isLate t (st n) false i)
-      seen (i, j, l, d, g) = (i, l, closed-late-iff t (st n) false i .1 (l, some, at-end))
+      seen : Missed S n → (i : ℕ) × (i < t .count) × T (isLate t (walked t n) false i)
+      seen (i, j, l, d, g) = (i, l, closed-late-iff t (walked t n) false i .1 (l, some, at-end))
         where
           served-less : servedOf S n i < task t i .cost * suc j
           served-less = undone-iff S i j n l .0 g
@@ -53,8 +49,8 @@ module _ (t : Table) (r : Ranged t) where
           last : releasedBy S i n ≡ suc j
           last = below-is (releaseOf S i) ((jobs S) .rel-grows i l) n j (omega (arith, now, r .each i l .deadline-pos)) (omega (arith, now, r .each i l .deadline-le))
 
-          some : 0 < leftOf (st n) i
+          some : 0 < leftOf (walked t n) i
           some = omega (arith, agrees t r n c i l, served-less, ap (λ (y : ℕ). task t i .cost * y) last)
 
-          at-end : waitOf (st n) i ≡ task t i .period - task t i .deadline
+          at-end : waitOf (walked t n) i ≡ task t i .period - task t i .deadline
           at-end = omega (arith, sound t r quiet n .next i l, ap (releaseOf S i) last, now, r .each i l .deadline-le)

@@ -1,4 +1,4 @@
--- WORST RESPONSES BY A WALK (`walk-worsts`): the largest responses that a walk to the horizon sees are the worst for ever.
+-- WORST RESPONSES BY A WALK (`walk-worsts`): where the run meets every deadline, the largest responses that a walk to the horizon sees are the worst for ever.
 use mathlib.Core.Path.{_≡_, refl, sym, ap, subst, _∙_}
 use mathlib.Core.Logic.{_⊎_, inl, inr}
 use mathlib.Core.List.{List}
@@ -14,9 +14,9 @@ use lib.Arith.{le-zero}
 use Rattle.values.specs.declared.Table.{Table}
 use Rattle.model.specs.Limits.{taskLimit}
 use Rattle.model.specs.Tasks.{task, horizon}
-use Rattle.model.specs.Run.{tieOrder, owner, Finishes, Worst}
+use Rattle.model.specs.Run.{tieOrder, owner, Worst}
 use Rattle.model.specs.Verdict.{Worsts}
-use Rattle.model.specs.Dispatcher.{State, waitOf, leftOf}
+use Rattle.model.specs.Dispatcher.{waitOf, leftOf}
 use Rattle.model.specs.History.{stateAt, ownerAt}
 use Rattle.counting.specs.Count.{and-iff, eq→eqb}
 use Rattle.counting.specs.Fill.{getD-same}
@@ -24,20 +24,20 @@ use Rattle.counting.specs.Below.{lt-below}
 use Rattle.wellformed.specs.Ranges.{Ranged}
 use Rattle.backlog.specs.Left.{served-mono}
 use Rattle.backlog.specs.Finish.{DoneFirst}
-use Rattle.backlog.specs.Criterion.{Met}
-use Rattle.backlog.specs.System.{System, releaseOf, dueOf, jobs, dues}
+use Rattle.backlog.specs.Criterion.{Met, met-iff}
+use Rattle.backlog.specs.System.{System, releaseOf, jobs, dues}
 use Rattle.backlog.specs.ModelRun.{servedOf, model-run, owner-served, others-served}
 use Rattle.backlog.specs.RunSchedule.{finishes-iff}
-use Rattle.backlog.specs.Shift.{Light, period-le-round}
-use Rattle.backlog.specs.Worst.{ends, worst-is}
+use Rattle.backlog.specs.Worst.{first-ends, worst-is}
 use Rattle.backlog.specs.TableSystem.{tie-ranks, horizon-is, tieSystem, tieCycle}
+use Rattle.backlog.specs.EveryInstant.{over-iff}
 use Rattle.backlog.specs.Taken.{owner-ready, released-le}
 use Rattle.backlog.specs.Stepping.{ready-is, sound}
 use Rattle.backlog.specs.StepHistory.{ready}
-use Rattle.backlog.specs.Walk.{quiet, Clear, Agrees, agrees, ready-agrees, owner-agrees}
+use Rattle.backlog.specs.Walk.{quiet, walked, Clear, Agrees, agrees, ready-agrees, owner-agrees}
 
 -- Slot n finishes the job that it is given to.
-abbrev pub finishing : Table → ℕ → Bool
+abbrev finishing : Table → ℕ → Bool
 finishing t n = ltb (ownerAt t quiet n) (t .count) && eqb (leftOf (stateAt t quiet (suc n)) (ownerAt t quiet n)) 0
 
 -- A response of task k, noted where it is larger than those before.
@@ -83,9 +83,6 @@ module _ (t : Table) (r : Ranged t) where
   abbrev owner-at : ℕ → ℕ
   owner-at n = ownerAt t quiet n
 
-  abbrev st : ℕ → State
-  st n = stateAt t quiet n
-
   -- What slot n does to its owner.
   record Served (n k : ℕ) : Type 0 where
     job : ℕ
@@ -94,20 +91,20 @@ module _ (t : Table) (r : Ranged t) where
     most : ready t quiet n k ≤ task t k .cost
     some : 0 < ready t quiet n k
     one : servedOf S (suc n) k ≡ servedOf S n k + 1
-    left : leftOf (st (suc n)) k + servedOf S (suc n) k ≡ task t k .cost * suc job
-    wait : waitOf (st (suc n)) k + suc n ≡ releaseOf S k (suc job)
+    left : leftOf (walked t (suc n)) k + servedOf S (suc n) k ≡ task t k .cost * suc job
+    wait : waitOf (walked t (suc n)) k + suc n ≡ releaseOf S k (suc job)
 
   serves : (n : ℕ) → Clear t (suc n) → (k : ℕ) → owner-at n ≡ k → k < t .count → Served n k
   serves n c k e l =
       let a : Agrees t r n = agrees t r n (λ u m. c u (le-step m)) in
-      let p : 0 < ready t quiet n k = owner-ready t (st n) false (r .few) k l e in
+      let p : 0 < ready t quiet n k = owner-ready t (walked t n) false (r .few) k l e in
       let (j, b, d, f) = ready-is t r quiet n k (sound t r quiet n) l p in
       let o : owner t (tieOrder t) n ≡ k = sym (owner-agrees t r n a (c n (le-refl (suc n)))) ∙ e in
       record {
         job = j;
         early = omega (arith, lt-below (releaseOf S k) ((jobs S) .rel-grows k l) (suc n) j .0 (omega arith));
         waits = ready-agrees t r n a (c n (le-refl (suc n))) k l ∙ ap (λ (y : ℕ). task t k .cost * y) b;
-        most = released-le t (st n) false (sound t r quiet n .belongs) k l;
+        most = released-le t (walked t n) false (sound t r quiet n .belongs) k l;
         some = p;
         one = rw o at (owner-served S n (omega arith));
         left = agrees t r (suc n) c k l ∙ ap (λ (y : ℕ). task t k .cost * y) b;
@@ -115,21 +112,21 @@ module _ (t : Table) (r : Ranged t) where
       }
 
   -- The job that slot n finishes, and its response.
-  finished : (n : ℕ) → Clear t (suc n) → (k : ℕ) → owner-at n ≡ k → k < t .count → leftOf (st (suc n)) k ≡ 0
-      → (j : ℕ) × DoneFirst (jobs S) (servedOf S) k j (suc n) × (suc n - releaseOf S k j ≡ task t k .period - waitOf (st (suc n)) k)
+  finished : (n : ℕ) → Clear t (suc n) → (k : ℕ) → owner-at n ≡ k → k < t .count → leftOf (walked t (suc n)) k ≡ 0
+      → (j : ℕ) × DoneFirst (jobs S) (servedOf S) k j (suc n) × (suc n - releaseOf S k j ≡ task t k .period - waitOf (walked t (suc n)) k)
   finished n c k e l z =
       let v = serves n c k e l in
       (v .job, (omega arith, λ u m d. omega (arith, served-mono (jobs S) (servedOf S) (model-run S) k l u n (omega arith))), omega arith)
 
   -- A job that finishes at the end of slot n is its owner's, and nothing of it is left.
   finishes-now : (n : ℕ) → Clear t (suc n) → (i j : ℕ) → i < t .count → DoneFirst (jobs S) (servedOf S) i j (suc n)
-      → (owner-at n ≡ i) × (leftOf (st (suc n)) i ≡ 0) × (suc n - releaseOf S i j ≡ task t i .period - waitOf (st (suc n)) i)
+      → (owner-at n ≡ i) × (leftOf (walked t (suc n)) i ≡ 0) × (suc n - releaseOf S i j ≡ task t i .period - waitOf (walked t (suc n)) i)
   finishes-now n c i j l (d, f) = go (ℕ-discrete (owner-at n) i)
     where
       not-before : servedOf S n i < task t i .cost * suc j
       not-before = lt-of-not-le (f n (le-refl (suc n)))
 
-      go : Dec (owner-at n ≡ i) → (owner-at n ≡ i) × (leftOf (st (suc n)) i ≡ 0) × (suc n - releaseOf S i j ≡ task t i .period - waitOf (st (suc n)) i)
+      go : Dec (owner-at n ≡ i) → (owner-at n ≡ i) × (leftOf (walked t (suc n)) i ≡ 0) × (suc n - releaseOf S i j ≡ task t i .period - waitOf (walked t (suc n)) i)
       go (no e) = absurd (omega (arith, not-before, others-served S n i (λ q. e (owner-agrees t r n (agrees t r n (λ u m. c u (le-step m))) (c n (le-refl (suc n))) ∙ sym q))))
       go (yes e) =
           let v = serves n c i e l in
@@ -143,14 +140,14 @@ module _ (t : Table) (r : Ranged t) where
           ]
 
   -- What the walk has noted of task i before slot n: no response seen is larger, and it is one of them, or none was seen.
-  pub record Noted (n i : ℕ) : Type 0 where
-    pub bound : (j f : ℕ) → DoneFirst (jobs S) (servedOf S) i j f → f ≤ n → f - releaseOf S i j ≤ getD (worstBy t n) i 0
-    pub attained : (getD (worstBy t n) i 0 ≡ 0) ⊎ ((j : ℕ) × (f : ℕ) × DoneFirst (jobs S) (servedOf S) i j f × (f - releaseOf S i j ≡ getD (worstBy t n) i 0))
+  record Noted (n i : ℕ) : Type 0 where
+    bound : (j f : ℕ) → DoneFirst (jobs S) (servedOf S) i j f → f ≤ n → f - releaseOf S i j ≤ getD (worstBy t n) i 0
+    attained : (getD (worstBy t n) i 0 ≡ 0) ⊎ ((j : ℕ) × (f : ℕ) × DoneFirst (jobs S) (servedOf S) i j f × (f - releaseOf S i j ≡ getD (worstBy t n) i 0))
 
   -- Slot n notes a response of task i, or leaves what was noted of it.
   data Noting (n i : ℕ) : Type 0 where
-    noting : owner-at n ≡ i → leftOf (st (suc n)) i ≡ 0 → getD (worstBy t (suc n)) i 0 ≡ max (getD (worstBy t n) i 0) (task t i .period - waitOf (st (suc n)) i) → Noting n i
-    leaving : (owner-at n ≡ i → leftOf (st (suc n)) i ≡ 0 → ⊥) → getD (worstBy t (suc n)) i 0 ≡ getD (worstBy t n) i 0 → Noting n i
+    noting : owner-at n ≡ i → leftOf (walked t (suc n)) i ≡ 0 → getD (worstBy t (suc n)) i 0 ≡ max (getD (worstBy t n) i 0) (task t i .period - waitOf (walked t (suc n)) i) → Noting n i
+    leaving : (owner-at n ≡ i → leftOf (walked t (suc n)) i ≡ 0 → ⊥) → getD (worstBy t (suc n)) i 0 ≡ getD (worstBy t n) i 0 → Noting n i
 
   notes : (n i : ℕ) → i < t .count → Noting n i
   unfolding worstBy
@@ -158,16 +155,16 @@ module _ (t : Table) (r : Ranged t) where
     where
       go : (b : Bool) → finishing t n ≡ b → Dec (owner-at n ≡ i) → Noting n i
       go true e (yes q) =
-          let z : T (eqb (leftOf (st (suc n)) (owner-at n)) 0) = and-iff (ltb (owner-at n) (t .count)) _ .0 (subst T (sym e) tt) .1 in
-          let y : leftOf (st (suc n)) (owner-at n) ≡ 0 = eqb→eq _ _ z in
+          let z : T (eqb (leftOf (walked t (suc n)) (owner-at n)) 0) = and-iff (ltb (owner-at n) (t .count)) _ .0 (subst T (sym e) tt) .1 in
+          let y : leftOf (walked t (suc n)) (owner-at n) ≡ 0 = eqb→eq _ _ z in
           noting q (rw q at y) (rw (e, q) (getD-set-same (worstBy t n) i _ 0 (omega (arith, worst-length t n, r .few))))
       go true e (no q) = leaving (λ x. absurd (q x)) (rw e (getD-set-other (worstBy t n) (owner-at n) i _ 0 (λ x. q (sym x))))
       go false e d = leaving (λ x y. left-open x y) (rw e refl)
         where
-          left-open : owner-at n ≡ i → leftOf (st (suc n)) i ≡ 0 → ⊥
-          left-open x y = subst T e (and-iff (ltb (owner-at n) (t .count)) (eqb (leftOf (st (suc n)) (owner-at n)) 0) .1 (lt→ltb (owner-at n) (t .count) (omega arith), eq→eqb (leftOf (st (suc n)) (owner-at n)) 0 (rw x y)))
+          left-open : owner-at n ≡ i → leftOf (walked t (suc n)) i ≡ 0 → ⊥
+          left-open x y = subst T e (and-iff (ltb (owner-at n) (t .count)) (eqb (leftOf (walked t (suc n)) (owner-at n)) 0) .1 (lt→ltb (owner-at n) (t .count) (omega arith), eq→eqb (leftOf (walked t (suc n)) (owner-at n)) 0 (rw x y)))
 
-  pub seen : (n : ℕ) → Clear t n → (i : ℕ) → i < t .count → Noted n i
+  seen : (n : ℕ) → Clear t n → (i : ℕ) → i < t .count → Noted n i
   seen zero c i l = record { bound = λ j f d m. (let z : servedOf S f i ≡ 0 = ap (λ (x : ℕ). servedOf S x i) (le-zero m) ∙ (model-run S) .start i l in absurd (omega (arith, d .0, r .each i l .cost-pos))); attained = inl (none-noted t i) }
   seen (suc n) c i l = go (notes n i l) (seen n (λ u m. c u (le-step m)) i l)
     where
@@ -180,7 +177,7 @@ module _ (t : Table) (r : Ranged t) where
           | yes p ↦ omega (arith, e, s .bound j f d p)
           | no p ↦ omega (arith, e, now f m p, finishes-now n c i j l (subst (DoneFirst (jobs S) (servedOf S) i j) (now f m p) d) .2)
         ];
-        attained = elim (decLe (getD (worstBy t n) i 0) (task t i .period - waitOf (st (suc n)) i)) [
+        attained = elim (decLe (getD (worstBy t n) i 0) (task t i .period - waitOf (walked t (suc n)) i)) [
           | yes p ↦ (let (j, d, x) = finished n c i q l z in inr (j, suc n, d, omega (arith, e)))
           | no p ↦ elim (s .attained) [ inl x ↦ absurd (omega arith) | inr (j, f, d, x) ↦ inr (j, f, d, omega (arith, e)) ]
         ];
@@ -193,22 +190,21 @@ module _ (t : Table) (r : Ranged t) where
         attained = elim (s .attained) [ inl x ↦ inl (e ∙ x) | inr x ↦ inr (x .0, x .1, x .2, x .3 ∙ sym e) ];
       }
 
-  pub walk-worsts : Light S (tieCycle t r) → Met (jobs S) (dues S) (servedOf S) → Clear t (horizon t) → Worsts t (worstBy t (horizon t))
-  walk-worsts light met c = record {
+  pub walk-worsts : Met (jobs S) (dues S) (servedOf S) → Worsts t (worstBy t (horizon t))
+  walk-worsts met = record {
     size = worst-length t (horizon t);
-    worst = λ i l. worst i l (seen (horizon t) c i l);
+    worst = λ i l. worst i l (seen (horizon t) clear i l);
     past = λ i l. none-past t (horizon t) i l;
   }
     where
+      clear : Clear t (horizon t)
+      clear u b h = let (from, l, over) = over-iff S u .0 h in absurd (omega (arith, met-iff (jobs S) (dues S) (servedOf S) (model-run S) .0 met from u l))
+
       worst : (i : ℕ) → i < t .count → Noted (horizon t) i → Worst t (tieOrder t) i (getD (worstBy t (horizon t)) i 0)
       worst i l s = go (s .attained)
         where
-          first-job : (f : ℕ) × Finishes t (tieOrder t) i 0 f × (releaseOf S i 0 < f) × (f ≤ dueOf S i 0)
-          first-job = ends S met i l 0
-
           go : (getD (worstBy t (horizon t)) i 0 ≡ 0) ⊎ ((j : ℕ) × (f : ℕ) × DoneFirst (jobs S) (servedOf S) i j f × (f - releaseOf S i j ≡ getD (worstBy t (horizon t)) i 0)) → Worst t (tieOrder t) i (getD (worstBy t (horizon t)) i 0)
-          go (inr (j, f, d, e)) = worst-is S met i l (tieCycle t r) light _ j f (finishes-iff S i j f l .1 d) e (λ j f d m. s .bound j f (finishes-iff S i j f l .0 d) (omega (arith, horizon-is t r _ (tie-ranks t))))
+          go (inr (j, f, d, e)) = worst-is S met i l (tieCycle t r) _ j f (finishes-iff S i j f l .1 d) e (λ j f d m. s .bound j f (finishes-iff S i j f l .0 d) (omega (arith, horizon-is t r _ (tie-ranks t))))
           go (inl z) =
-              let (f, d, a, b) = first-job in
-              let h : f ≤ horizon t = omega (arith, horizon-is t r _ (tie-ranks t), r .each i l .deadline-le, period-le-round S (tieCycle t r) i l, tieCycle t r .starts i l) in
-              absurd (omega (arith, s .bound 0 f (finishes-iff S i 0 f l .0 d) h))
+              let (f, d, a, b) = first-ends S met i l (tieCycle t r) in
+              absurd (omega (arith, s .bound 0 f (finishes-iff S i 0 f l .0 d) (omega (arith, horizon-is t r _ (tie-ranks t)))))

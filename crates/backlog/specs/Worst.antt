@@ -1,4 +1,4 @@
--- WORST RESPONSES (`worst-is`): the largest response among the jobs finished by the horizon is the worst for ever.
+-- WORST RESPONSES (`worst-is`): where the run meets every deadline, the largest response among the jobs finished by the horizon is the worst for ever.
 use mathlib.Core.Path.{_≡_, refl, ap}
 use Prim.Native.Nat.{ℕ, suc, _+_, _-_, _*_, _≤_, _<_}
 use native.Mathlib.Nat.{le-refl, mul-le-mul-right, le-mul-of-pos-right, sub-add-cancel}
@@ -10,21 +10,21 @@ use Rattle.model.specs.Run.{Order, Finishes, Worst}
 use Rattle.counting.specs.Search.{strong, least-unique, greatest, least-le}
 use Rattle.backlog.specs.Streams.{Run}
 use Rattle.backlog.specs.Left.{served-mono}
-use Rattle.backlog.specs.Finish.{DoneFirst, finish}
+use Rattle.backlog.specs.Finish.{DoneFirst}
 use Rattle.backlog.specs.Criterion.{Met, finishes}
 use Rattle.backlog.specs.System.{System, size, costOf, periodOf, releaseOf, dueOf, jobs, dues, period-pos}
 use Rattle.backlog.specs.ModelRun.{servedOf, model-run}
 use Rattle.backlog.specs.RunSchedule.{finishes-iff}
 use Rattle.backlog.specs.Shift.{Cycle, horizonOf, Light, release-later, times-pos, period-le-round}
+use Rattle.backlog.specs.Overload.{light-of-met}
 use Rattle.backlog.specs.Repeats.{repeats-done}
 
-module _ (S : System) (Y : Cycle S) (light : Light S Y) (s : ℕ → ℕ → ℕ) (R : Run (jobs S) s) (met : Met (jobs S) (dues S) s) (i : ℕ) (l : i < size S) where
-  -- The twin, a round later, of a job that finishes at f from one round after the start on is done a round after f.
-  done-later : (j f : ℕ) → Y .start + Y .round ≤ f → DoneFirst (jobs S) s i j f → costOf S i * suc (j + Y .times i) ≤ s (f + Y .round) i
-  done-later j f h d = repeats-done S Y light s R f i j l h (finish (jobs S) s R i j l f .0 d .0 .0) .0 (d .0)
+module _ (S : System) (Y : Cycle S) (s : ℕ → ℕ → ℕ) (R : Run (jobs S) s) (met : Met (jobs S) (dues S) s) (i : ℕ) (l : i < size S) where
+  abbrev light : Light S Y
+  light = light-of-met S Y s R met
 
   -- Some job that finishes by the horizon has no smaller response than job j, which finishes at f.
-  abbrev pub Seen : ℕ → ℕ → Type 0
+  abbrev Seen : ℕ → ℕ → Type 0
   Seen j f = (k : ℕ) × (g : ℕ) × DoneFirst (jobs S) s i k g × (g ≤ horizonOf S Y) × (f - releaseOf S i j ≤ g - releaseOf S i k)
 
   -- Every response is at most one that is seen by the horizon.
@@ -57,7 +57,7 @@ module _ (S : System) (Y : Cycle S) (light : Light S Y) (s : ℕ → ℕ → ℕ
                   down : Y .start + Y .round ≤ g → Seen j f
                   down p =
                       let (k', g', q', h', w') = ih k (omega (arith, times-pos S Y i l)) g q in
-                      (k', g', q', h', omega (arith, rel, j-done (g + Y .round) (done-later k g p q)))
+                      (k', g', q', h', omega (arith, rel, j-done (g + Y .round) (repeats-done S Y light s R g i k l p a .0 (q .0))))
 
                   early : ¬ (Y .start + Y .round ≤ g) → ⊥
                   early p =
@@ -78,7 +78,7 @@ ends-once : (t : Table) (rank : Order) (i j f g : ℕ) → Finishes t rank i j f
 unfolding Finishes
 ends-once t rank i j f g a b = least-unique _ f g a b
 
--- The same in the model's words, of its run.
+-- Worst responses in the model's words, of its run.
 module _ (S : System) (met : Met (jobs S) (dues S) (servedOf S)) (i : ℕ) (l : i < size S) where
   abbrev Ends : ℕ → ℕ → Type 0
   Ends j f = Finishes (S .table) (S .rank) i j f
@@ -95,16 +95,20 @@ module _ (S : System) (met : Met (jobs S) (dues S) (servedOf S)) (i : ℕ) (l : 
       let c : f ≡ g = ends-once _ _ i j f g d q in
       (omega arith, omega arith)
 
-  module _ (Y : Cycle S) (light : Light S Y) where
+  module _ (Y : Cycle S) where
     -- A response that is attained, and is the largest of those seen by the horizon, is the worst.
     pub worst-is : (w j f : ℕ) → Ends j f → f - releaseOf S i j ≡ w
         → ((j f : ℕ) → Ends j f → f ≤ horizonOf S Y → f - releaseOf S i j ≤ w) → Worst (S .table) (S .rank) i w
     worst-is w j f d e h = record {
       attained = (j, f, d, e);
-      bound = λ j f d. worst-for-ever S Y light (servedOf S) (model-run S) met i l w (λ j f d. h j f (finishes-iff S i j f l .1 d)) j f (finishes-iff S i j f l .0 d);
+      bound = λ j f d. worst-for-ever S Y (servedOf S) (model-run S) met i l w (λ j f d. h j f (finishes-iff S i j f l .1 d)) j f (finishes-iff S i j f l .0 d);
     }
 
-    -- There is one.
+    -- Every task has a job that finishes by the horizon.
+    pub first-ends : (f : ℕ) × Ends 0 f × (releaseOf S i 0 < f) × (f ≤ horizonOf S Y)
+    first-ends = let (f, d, a, b) = ends 0 in (f, d, a, omega (arith, S .deadline-le i l, period-le-round S Y i l, Y .starts i l))
+
+    -- There is a worst response.
     pub worst-exists : (w : ℕ) × Worst (S .table) (S .rank) i w
     worst-exists =
         let (k, m, h) = greatest response (horizonOf S Y) in

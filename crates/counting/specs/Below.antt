@@ -30,8 +30,8 @@ module _ (f : ℕ → ℕ) (g : Grows f) where
   grows-lt i j h = elim (decLt i j) [ yes p ↦ p | no p ↦ absurd (omega (arith, grows-mono j i (omega arith))) ]
 
   -- No value lies strictly between two that follow one another.
-  pub between-none : (x j k : ℕ) → f j < x → x < f (suc j) → f k ≢ x
-  between-none x j k a b e = absurd (omega (arith, grows-lt j k (omega arith), grows-lt k (suc j) (omega arith)))
+  pub between-none : (x j : ℕ) → f j < x → x < f (suc j) → (k : ℕ) → f k ≢ x
+  between-none x j a b k e = absurd (omega (arith, grows-lt j k (omega arith), grows-lt k (suc j) (omega arith)))
 
   -- The law of the count: it has passed just the j with f j < x.
   upto : (x m j : ℕ) → (j < count (λ j. ltb (f j) x) m) ↔ ((j < m) × (f j < x))

@@ -29,10 +29,10 @@ use Rattle.counting.specs.Search.{NoneFrom, first-le, first-longer, first-is, f
 use Rattle.wellformed.specs.Ranges.{Ranged}
 use Rattle.wellformed.specs.WellFormed.{WellFormed, well-formed}
 use Rattle.backlog.specs.TooMuch.{too-much-iff}
-use Rattle.backlog.specs.Needed.{needed-is, needed-le, none-late}
+use Rattle.backlog.specs.Needed.{needed-is, needed-le, none-within}
 use Rattle.backlog.specs.LateStart.{start-is}
 use Rattle.backlog.specs.Verdicts.{is-undecided, is-late, is-passed}
-use Rattle.backlog.specs.PassedWorst.{light-of-passed, met-of-passed}
+use Rattle.backlog.specs.PassedWorst.{met-of-passed}
 use Rattle.backlog.specs.Taken.{owner-one}
 use Rattle.backlog.specs.Walk.{quiet, Clear}
 use Rattle.backlog.specs.WalkLate.{late-iff}
@@ -184,14 +184,14 @@ module _ (t : Table) (m : Measure) (budget : ℕ) (well : judged t ≡ Judgement
         where
           short : Dec (T (lateAt t (needed t))) → budget < needed t
           short (yes h) = elim (decLt budget (needed t)) [ yes x ↦ x | no x ↦ absurd (c (needed t) (omega (arith, facts .horizon-is)) h) ]
-          short (no h) = omega (arith, none-late t h .0, facts .horizon-is)
+          short (no h) = omega (arith, none-within t h .0, facts .horizon-is)
       go (no p) (yes h) = absurd (c (needed t) (omega (arith, needed-le t, facts .horizon-is)) h)
       go (no p) (no h) =
           let b : n ≡ horizon t = omega (arith, facts .horizon-is) in
-          let a : needed t ≡ horizon t = none-late t h .0 in
+          let a : needed t ≡ horizon t = none-within t h .0 in
           let u = is-passed t budget fits (omega (arith, facts .horizon-is)) h in
           let k : Clear t (horizon t) = λ v l. c v (omega arith) in
-          let q : Worsts t worst = rw (w .worsts, b) (walk-worsts t r (light-of-passed t r budget (u .0) _ (tie-ranks t)) (met-of-passed t r budget (u .0) _ (tie-ranks t)) k) in
+          let q : Worsts t worst = rw (w .worsts, b) (walk-worsts t r (met-of-passed t r budget (u .0) _ (tie-ranks t))) in
           permitted _ Verdict.Passes (u .0) (worst, q, rw (le-ltb n (m .horizon) (omega (arith, facts .horizon-is)), u .1, a, ← empty-told b k, ← b))
 
   -- It found, at a late deadline, the largest start that asks too much.

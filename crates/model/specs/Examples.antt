@@ -60,7 +60,7 @@ table-k = tableOf (of 0 1 1 4 ∷ of 1 1 1 4 ∷ of 1 1 1 4 ∷ [])
 abbrev refuse : ℕ → ℕ → Judgement
 refuse n p = Judgement.Refused (refusal n p)
 
--- The numbers 1 to 6 with their places: no task, seventeen tasks, then T, D, C and O of task 1, before later faults and,
+-- The numbers 1 to 6 with their places: no task, seventeen and eighteen tasks, then T, D, C and O of task 1, before later faults and,
 -- but for T = 0 and D = 0, which leave no C in range, alone.
 faulty : Task → Judgement
 faulty k = judged (tableOf (of 0 1 1 1 ∷ k ∷ []))
@@ -68,14 +68,17 @@ faulty k = judged (tableOf (of 0 1 1 1 ∷ k ∷ []))
 refusals :
     (judged (tableOf []) ≡ refuse 1 0)
     × (judged (record { count = 17; tasks = replicate taskLimit (of 0 1 1 1) }) ≡ refuse 2 16)
+    × (judged (record { count = 18; tasks = replicate taskLimit (of 0 1 1 1) }) ≡ refuse 2 16)
     × (map faulty (of 0 0 0 0 ∷ of 0 1 1 60001 ∷ of 0 1 0 5 ∷ of 60001 1 6 5 ∷ of 0 1 6 5 ∷ of 0 0 1 5 ∷ of 60001 5 4 5 ∷ of 0 5 4 5 ∷ of 60001 1 1 5 ∷ []) ≡ refuse 3 1 ∷ refuse 3 1 ∷ refuse 4 1 ∷ refuse 4 1 ∷ refuse 4 1 ∷ refuse 5 1 ∷ refuse 5 1 ∷ refuse 5 1 ∷ refuse 6 1 ∷ [])
 unfolding faulty judged firstFaulty taskFault first
-refusals = (refl, refl, refl)
+refusals = (refl, refl, refl, refl)
 
--- Task by task: what is wrong with task 0 comes before what is wrong with task 1.
-task-by-task : judged (tableOf (of 60001 1 1 5 ∷ of 0 0 0 0 ∷ [])) ≡ refuse 6 0
+-- Task by task: what is wrong with task 0 comes before what is wrong with task 1, and a place is the task's number.
+task-by-task :
+    (judged (tableOf (of 60001 1 1 5 ∷ of 0 0 0 0 ∷ [])) ≡ refuse 6 0)
+    × (judged (tableOf (of 0 1 1 1 ∷ of 0 1 1 1 ∷ of 0 0 1 1 ∷ [])) ≡ refuse 5 2)
 unfolding judged firstFaulty taskFault first
-task-by-task = refl
+task-by-task = (refl, refl)
 
 -- Number 7 and its place. The search for an H so large is too long to compute, so it is given: document 01's periods at the limit, of which
 -- the first two are read; periods whose H is 10^9 + 1; and what is wrong with a task comes first.
@@ -263,13 +266,17 @@ file-refusals :
     ∷ (9 ∷ []) ∷ (2 ∷ []) ∷ (3 ∷ []) ∷ (1 ∷ 0 ∷ [])
     ∷ budgetOf 0 ∷ (budgetOf 0 ++ (0 ∷ 1 ∷ [])) ∷ (budgetOf 0 ++ (1 ∷ [])) ∷ (budgetOf 0 ++ (2 ∷ 0 ∷ []))
     ∷ (budgetOf 0 ++ (3 ∷ 9 ∷ [])) ∷ (budgetOf 0 ++ rowOf (of 0 0 0 0) ++ (3 ∷ 3 ∷ [])) ∷ (budgetOf 0 ++ rowOf (of 0 0 0 0) ++ (3 ∷ []))
-    ∷ (budgetOf 0 ++ (3 ∷ [])) ∷ (budgetOf 0 ++ rowsOfOne 16 ++ (2 ∷ [])) ∷ (budgetOf 0 ++ rowsOfOne 16) ∷ []
+    ∷ (budgetOf 0 ++ (3 ∷ [])) ∷ (budgetOf 0 ++ rowsOfOne 16 ++ (2 ∷ [])) ∷ (budgetOf 0 ++ rowsOfOne 16)
+    ∷ (budgetOf 0 ++ rowsOfOne 1 ++ (9 ∷ [])) ∷ (budgetOf 0 ++ rowsOfOne 1 ++ (1 ∷ [])) ∷ (budgetOf 0 ++ rowsOfOne 1 ++ (2 ∷ 0 ∷ []))
+    ∷ (budgetOf 0 ++ (3 ∷ 9 ∷ 9 ∷ [])) ∷ (budgetOf 0 ++ rowsOfOne 17 ++ (3 ∷ [])) ∷ []
     )
     ≡ at 22 0
     ∷ at 21 0 ∷ at 22 0 ∷ at 22 0 ∷ at 20 0
     ∷ at 26 9 ∷ at 21 9 ∷ at 23 9 ∷ at 20 9
     ∷ at 24 10 ∷ at 24 27 ∷ at 3 0
-    ∷ at 1 0 ∷ at 25 281 ∷ at 26 281 ∷ []
+    ∷ at 1 0 ∷ at 25 281 ∷ at 26 281
+    ∷ at 21 26 ∷ at 23 26 ∷ at 20 26
+    ∷ at 24 10 ∷ at 25 281 ∷ []
 unfolding loadedFrom formOf readFrom judged firstFaulty taskFault first rowsOfOne
 file-refusals = refl
 
@@ -358,7 +365,7 @@ at-deadline = (refl, refl)
 
 -- ---- the report
 
--- The whole report on b; that on c, which is late.
+-- The whole report on b, with its worst responses given (`promises/specs/Tables.antt` computes them); that on c, which is late.
 report-b :
     reportOf (table-b .count) (record { outcome = Outcome.Tested Verdict.Passes; measure = measure table-b; settled = settledBy table-b 1000; worst = 7 ∷ 2 ∷ replicate 14 0; empty = emptyIn table-b }) (verdict table-b 1000)
     ≡ text "tasks 2\nload 11/15\nhorizon 38\nverdict passes\nsettled 38\nworst 0 7\nworst 1 2\nempty 2\n"

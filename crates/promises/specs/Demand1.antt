@@ -1,7 +1,7 @@
 -- DEMAND 1: each bad input is refused by number and place and changes nothing, and every call has one permitted result.
 -- That no call traps or runs on is what being proved means, and is not said again. Each contract is an equation with, or a
--- permission by, the model's own word, for every input; so the theorems here speak of these words (`record-read`,
--- `written-is-read` and `read-was-written` of tablefile's too).
+-- permission by, the model's own word, for every input; so the theorems here speak of these words (`one-start`
+-- and `one-step` of dispatch's too, `record-read`, `written-is-read` and `read-was-written` of tablefile's).
 use mathlib.Core.Path.{_≡_, refl, sym, ap, subst, _∙_}
 use mathlib.Core.Logic.{_↔_, _⊎_, inl, inr}
 use mathlib.Core.List.{List, [], _∷_}

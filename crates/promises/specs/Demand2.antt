@@ -25,7 +25,7 @@ use Rattle.model.specs.Run.{tieOrder, run, firstEmpty}
 use Rattle.model.specs.Verdict.{needed, lateStart, verdict, settledBy, emptyIn, Worsts, Answers, PermittedBy, Permitted}
 use Rattle.wellformed.specs.WellFormed.{well-formed}
 use Rattle.backlog.specs.Sufficient.{sufficient}
-use Rattle.backlog.specs.Needed.{needed-le, needed-is, none-before, none-late}
+use Rattle.backlog.specs.Needed.{needed-le, needed-is, none-before, none-within}
 use Rattle.backlog.specs.LateStart.{start-asks, start-largest}
 use Rattle.backlog.specs.Verdicts.{is-overload, is-undecided, is-late, is-passed, overload-iff, undecided-iff, late-needed, passes-needed-iff}
 use Rattle.backlog.specs.Longer.{longer}
@@ -34,7 +34,8 @@ use Rattle.backlog.specs.Worst.{worst-range}
 use Rattle.backlog.specs.TableSystem.{tie-ranks, tieSystem}
 use Rattle.backlog.specs.Passes.{never-of-passed, passes-iff, overload-infeasible, late-infeasible}
 use Rattle.backlog.specs.PassedWorst.{met-of-passed}
-use Rattle.backlog.specs.Unique.{permitted-unique, answers-say}
+use Rattle.backlog.specs.Unique.{permitted-unique}
+use Rattle.backlog.specs.AnswersSay.{answers-say}
 
 module _ (t : Table) (m : Measure) (well : judged t ≡ Judgement.WellFormed m) where
   -- With a budget that reaches the horizon it passes exactly if some schedule is good.
@@ -71,7 +72,7 @@ pub settled-exactly : (t : Table) (budget : ℕ) → (verdict t budget ≡ Verdi
 settled-exactly t budget = (
   λ e. is-overload t budget (overload-iff t budget .0 e) .1,
   λ e. let (light, short) = undecided-iff t budget .0 e in is-undecided t budget light short .1,
-  λ e. let (light, enough, quiet) = passes-needed-iff t budget .0 e in is-passed t budget light enough quiet .1 ∙ none-late t quiet .0,
+  λ e. let (light, enough, quiet) = passes-needed-iff t budget .0 e in is-passed t budget light enough quiet .1 ∙ none-within t quiet .0,
 )
 
 -- A longer budget alters no other verdict, nor the settled count of one.

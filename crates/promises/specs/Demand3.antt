@@ -18,10 +18,11 @@ use Rattle.model.specs.Verdict.{Permitted}
 use Rattle.model.specs.Dispatcher.{Started, Stepped, started, turn, stepped}
 use Rattle.model.specs.History.{stateAt, ownerAt, had, Finished}
 use Rattle.wellformed.specs.WellFormed.{well-formed}
-use Rattle.backlog.specs.Stepping as stepping
+use Rattle.backlog.specs.NeverRefused as refused
+use Rattle.backlog.specs.NoneEarly.{owned-ready}
 use Rattle.backlog.specs.NeverMore.{never-more}
 use Rattle.backlog.specs.NoneAfter as after
-use Rattle.backlog.specs.NoneTold.{none-told}
+use Rattle.backlog.specs.NoneCut.{none-cut}
 use Rattle.backlog.specs.InTime.{in-time}
 use Rattle.backlog.specs.NoneWaits.{none-waits}
 use Rattle.promises.specs.Demand2.{passed-exactly}
@@ -34,7 +35,7 @@ module _ (t : Table) (m : Measure) (well : judged t ≡ Judgement.WellFormed m) 
 
   -- No step refuses a state that the dispatcher itself produced, and each hands out the next one. Of any well-formed table.
   pub never-refused : (n : ℕ) → _≡_ {A = Stepped} (stepped t (stateAt t done n) (done n)) (record { given = Given.Slot (turn t (stateAt t done n) (done n)); state = stateAt t done (suc n) })
-  never-refused = stepping.never-refused t (well-formed t m well .ranged) done m well
+  never-refused = refused.never-refused t m well done
 
   -- No job gets more slots than its cost. Of any well-formed table.
   pub none-too-much : (i j n : ℕ) → i < t .count → n ≤ release (task t i) (suc j) → had t done i (release (task t i) j) n ≤ task t i .cost
@@ -42,7 +43,7 @@ module _ (t : Table) (m : Measure) (well : judged t ≡ Judgement.WellFormed m) 
 
   -- A slot goes to a released job only, and before its deadline. Of any well-formed table.
   pub none-early : (n i : ℕ) → i < t .count → ownerAt t done n ≡ i → (j : ℕ) × (release (task t i) j ≤ n) × (n < due (task t i) j)
-  none-early = stepping.owned-ready t (well-formed t m well .ranged) done
+  none-early = owned-ready t (well-formed t m well .ranged) done
 
   -- No slot goes to a job that is finished: one that had its whole cost, or was reported done. Of any well-formed table.
   pub none-after : (n i j : ℕ) → i < t .count → release (task t i) j ≤ n → n < release (task t i) (suc j) → Finished t done i j n → ownerAt t done n ≡ i → ⊥
@@ -58,7 +59,7 @@ module _ (t : Table) (m : Measure) (well : judged t ≡ Judgement.WellFormed m) 
 
     -- no job is closed late: every step says that none was;
     pub none-cut-off : (n : ℕ) → (turn t (stateAt t done n) (done n) .late ≡ 0) × (turn t (stateAt t done n) (done n) .closed ≡ 0) × (turn t (stateAt t done n) (done n) .lowest ≡ taskLimit)
-    none-cut-off = none-told t (well-formed t m well .ranged) done budget (passed-exactly t budget a answer pass .0)
+    none-cut-off = none-cut t (well-formed t m well .ranged) done budget (passed-exactly t budget a answer pass .0)
 
     -- no slot goes to none while a released job is unfinished.
     pub none-idle : (n : ℕ) → ownerAt t done n ≡ taskLimit → (i j : ℕ) → i < t .count → release (task t i) j ≤ n → Finished t done i j n

@@ -30,7 +30,7 @@ use Rattle.backlog.specs.Needed.{needed-le}
 use Rattle.backlog.specs.LateStart.{start-asks}
 use Rattle.backlog.specs.Verdicts.{lateVerdict, Case, overload, undecided, late, passed, the-case}
 use Rattle.backlog.specs.PassedWorst.{met-of-passed}
-use Rattle.backlog.specs.Unique.{answers-say}
+use Rattle.backlog.specs.AnswersSay.{answers-say}
 use Rattle.backlog.specs.TableSystem.{tie-ranks, tieSystem}
 use Rattle.backlog.specs.Worst.{worst-range}
 use Rattle.report.specs.Fits.{Wide, EmptyWide, VerdictWide, Printable, fits}

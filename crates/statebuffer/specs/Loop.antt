@@ -25,7 +25,8 @@ use Rattle.counting.specs.Count.{one-of-iff}
 use Rattle.wellformed.specs.Ranges.{Ranged}
 use Rattle.wellformed.specs.WellFormed.{well-formed}
 use Rattle.backlog.specs.Taken.{known}
-use Rattle.backlog.specs.Stepping.{sound, past-none, never-refused}
+use Rattle.backlog.specs.Stepping.{sound, past-none}
+use Rattle.backlog.specs.NeverRefused.{never-refused}
 use Rattle.tablefile.specs.Word.{wordLimit}
 use Rattle.statebuffer.specs.RoundTrip.{Fits, state-back, buffer-size}
 
@@ -77,7 +78,7 @@ module _ (file : List ℕ) (t : Table) (m : Measure) (formed : formOf file .admi
   stepped-in : (n : ℕ) (buffer : List ℕ) (u : Turn) → buffer ≡ bufferOf (stateAt t reports n) u → stepExported file buffer (done n) ≡ record { number = told n .owner; buffer = bufferOf (stateAt t reports (suc n)) (told n) }
   stepped-in n buffer u e =
       on-table file buffer t (λ k. let s = stepped k (stateIn buffer) (reports n) in stepWritten buffer (s .state) (s .given)) formed held (ap length e ∙ buffer-size _ u (fits t r reports n))
-      ∙ rw (e, state-back _ u (fits t r reports n), never-refused t r reports m well n)
+      ∙ rw (e, state-back _ u (fits t r reports n), never-refused t m well reports n)
 
   holds : (n : ℕ) → (u : Turn) × (handed file lent done n ≡ bufferOf (stateAt t reports n) u)
   unfolding handed

@@ -1,9 +1,9 @@
--- NONE IS CUT OFF (`none-told`): no step on a passed table closes a job as late, so the set of tasks closed late is empty, their count 0 and the lowest none.
+-- NONE IS CUT OFF (`none-cut`): no step on a passed table closes a job as late, so the set of tasks closed late is empty, their count 0 and the lowest none.
 use mathlib.Core.Path.{_≡_, sym, ap, _∙_}
 use mathlib.Core.Bool.{Bool}
 use Prim.Native.Nat.{ℕ, _<_}
 use native.Mathlib.Omega.{arith}
-use lib.Dec.{T, ltb, ltb→lt}
+use lib.Dec.{T}
 use Rattle.values.specs.declared.Table.{Table}
 use Rattle.model.specs.Limits.{taskLimit}
 use Rattle.values.specs.declared.Verdict.{Verdict}
@@ -11,7 +11,7 @@ use Rattle.model.specs.Verdict.{verdict}
 use Rattle.model.specs.Run.{tieOrder}
 use Rattle.model.specs.Dispatcher.{isLate, turn}
 use Rattle.model.specs.History.{stateAt}
-use Rattle.counting.specs.Count.{and-iff, count-none}
+use Rattle.counting.specs.Count.{count-none}
 use Rattle.counting.specs.Search.{NoneFrom, first-none}
 use Rattle.counting.specs.Bits.{bits-none, bits-past}
 use Rattle.wellformed.specs.Ranges.{Ranged}
@@ -20,6 +20,7 @@ use Rattle.backlog.specs.System.{System, dueOf, jobs, dues, constrained}
 use Rattle.backlog.specs.ModelRun.{servedOf, model-run}
 use Rattle.backlog.specs.TableSystem.{tie-ranks, tieSystem}
 use Rattle.backlog.specs.PassedWorst.{met-of-passed}
+use Rattle.backlog.specs.Taken.{closed-late-iff}
 use Rattle.backlog.specs.Stepping.{late-is, sound}
 use Rattle.backlog.specs.StepHistory.{open', ready, gave, told, step-history}
 
@@ -34,13 +35,13 @@ module _ (t : Table) (r : Ranged t) (done : ℕ → Bool) (budget : ℕ) (pass :
   -- No step closes a job as late.
   none-closed : (n i : ℕ) → T (isLate t (stateAt t done n) (done n) i) → ⊥
   none-closed n i h =
-      let l : i < t .count = ltb→lt i (t .count) (and-iff (ltb i (t .count)) _ .0 h .0) in
+      let l : i < t .count = closed-late-iff t (stateAt t done n) (done n) i .0 h .0 in
       let (p, (j, e, b)) = late-is t r done n i (sound t r done n) h in
       omega (arith, nothing-left i j l, ap (λ (m : ℕ). open' t done m i) e)
 
-  pub none-told : (n : ℕ) → (turn t (stateAt t done n) (done n) .late ≡ 0) × (turn t (stateAt t done n) (done n) .closed ≡ 0) × (turn t (stateAt t done n) (done n) .lowest ≡ taskLimit)
+  pub none-cut : (n : ℕ) → (turn t (stateAt t done n) (done n) .late ≡ 0) × (turn t (stateAt t done n) (done n) .closed ≡ 0) × (turn t (stateAt t done n) (done n) .lowest ≡ taskLimit)
   unfolding turn
-  none-told n =
+  none-cut n =
       let late = isLate t (stateAt t done n) (done n) in
       let none : NoneFrom late 0 taskLimit = λ i a b. none-closed n i in (
         bits-past late 0 taskLimit (omega arith) none ∙ sym (bits-none late),
