@@ -8,7 +8,7 @@ use native.Mathlib.Decide.{decLe}
 use native.Mathlib.Omega.{arith}
 use lib.Dec.{leb}
 use Rattle.model.specs.Notation.{sum, count}
-use Rattle.counting.specs.Sum.{sum-eq, sum-le, sum-add, sum-pos}
+use Rattle.counting.specs.Sum.{sum-eq, sum-add, sum-pos}
 use Rattle.counting.specs.Below.{Grows, below, lt-below, below-below, count-inside}
 use Rattle.backlog.specs.Queue.{sum-backlog, busy-from}
 use Rattle.backlog.specs.Streams.{Jobs, released, work, Run, left, leftOf, arrive, arrivals, arrived}
@@ -28,7 +28,7 @@ abbrev pub Constrained : (J : Jobs) → Dues J → Type 0
 Constrained J D = (i j : ℕ) → i < J .n → D .due i j ≤ J .rel i (suc j)
 
 -- The jobs that are released at or after t1 and due at or before t2, and their work.
-abbrev pub inInterval : (J : Jobs) → Dues J → ℕ → ℕ → ℕ → ℕ
+abbrev inInterval : (J : Jobs) → Dues J → ℕ → ℕ → ℕ → ℕ
 inInterval J D t1 t2 i = count (λ j. leb t1 (J .rel i j) && leb (D .due i j) t2) t2
 
 unfoldable pub demand : (J : Jobs) → Dues J → ℕ → ℕ → ℕ
@@ -51,11 +51,14 @@ module _ (J : Jobs) (D : Dues J) where
   abbrev total : ℕ → ℕ
   total t = sum (J .n) (work J (D .cut t))
 
-  cls-le : (i t : ℕ) → i < J .n → below (J .key i) (suc (D .cut t)) ≤ below (D .due i) (suc t)
-  cls-le i t l = below-below (J .key i) (D .due i) (J .key-grows i l) (D .due-grows i l) _ _ (λ j h. omega (arith, D .cut-law i j t l .0 (omega arith)))
-
-  le-cls : (i t : ℕ) → i < J .n → below (D .due i) (suc t) ≤ below (J .key i) (suc (D .cut t))
-  le-cls i t l = below-below (D .due i) (J .key i) (D .due-grows i l) (J .key-grows i l) _ _ (λ j h. omega (arith, D .cut-law i j t l .1 (omega arith)))
+  -- The class of the cut of t has the jobs that are due by t.
+  class-due : (i t : ℕ) → i < J .n → below (J .key i) (suc (D .cut t)) ≡ below (D .due i) (suc t)
+  class-due i t l =
+      omega (
+        arith,
+        below-below (J .key i) (D .due i) (J .key-grows i l) (D .due-grows i l) (suc (D .cut t)) (suc t) (λ j h. omega (arith, D .cut-law i j t l .0 (omega arith))),
+        below-below (D .due i) (J .key i) (D .due-grows i l) (J .key-grows i l) (suc t) (suc (D .cut t)) (λ j h. omega (arith, D .cut-law i j t l .1 (omega arith))),
+      )
 
   -- All work that is due by t is released before t.
   work-released : (i t : ℕ) → i < J .n → work J (D .cut t) i ≤ released J t i
@@ -72,8 +75,12 @@ module _ (J : Jobs) (D : Dues J) where
           let c = below (J .key i) (suc (D .cut t2)) in
           let b = below (J .rel i) t1 in
           let e : inInterval J D t1 t2 i ≡ c - b =
-          omega (arith, count-inside (J .rel i) (D .due i) (J .rel-grows i l) (D .due-grows i l) (λ j. D .rel-due i j l) t1 t2, cls-le i t2 l, le-cls i t2 l) in
+          omega (arith, count-inside (J .rel i) (D .due i) (J .rel-grows i l) (D .due-grows i l) (λ j. D .rel-due i j l) t1 t2, class-due i t2 l) in
           rw (e, mul-sub) (omega arith)
+
+  -- So it is what of it is released from t1 on, up to t2.
+  demand-arrives : (t1 t2 : ℕ) → demand J D t1 t2 + arrivals J (D .cut t2) t1 ≡ arrivals J (D .cut t2) t2
+  demand-arrives t1 t2 = demand-is t1 t2 ∙ sum-eq (J .n) _ _ (λ i l. omega (arith, work-released i t2 l))
 
 module _ (J : Jobs) (D : Dues J) (s : ℕ → ℕ → ℕ) where
   -- Something is late exactly if work is left up to the cut, whatever was served.
@@ -98,15 +105,13 @@ module _ (J : Jobs) (D : Dues J) (s : ℕ → ℕ → ℕ) (R : Run J s) where
   left-of-over : (t : ℕ) → Over J D t → 0 < left J s (D .cut t) t
   left-of-over t (u, l, h) =
       let k = D .cut t in
-      let a : arrivals J k t ≡ total J D t = sum-eq (J .n) _ _ (λ i l. omega (arith, work-released J D i t l)) in
-      omega (arith, sum-backlog (arrive J k) u t (omega arith), left-is J s R k t, arrived J k t, arrived J k u, demand-is J D u t)
+      omega (arith, sum-backlog (arrive J k) u t (omega arith), left-is J s R k t, arrived J k t, arrived J k u, demand-arrives J D u t)
 
   over-of-left : (t : ℕ) → 0 < left J s (D .cut t) t → Over J D t
   over-of-left t h =
       let k = D .cut t in
       let (u, b) = busy-from (arrive J k) t (omega (arith, left-is J s R k t)) in
-      let a : arrivals J k t ≤ total J D t = sum-le (J .n) _ _ (λ i l. omega arith) in
-      (u, b .early, omega (arith, b .exact, left-is J s R k t, arrived J k t, arrived J k u, demand-is J D u t))
+      (u, b .early, omega (arith, b .exact, left-is J s R k t, arrived J k t, arrived J k u, demand-arrives J D u t))
 
   -- At each instant: some job due by t is not done at t, exactly if some interval that ends at t asks too much.
   pub late-iff-over : (t : ℕ) → Late J D s t ↔ Over J D t

@@ -14,7 +14,7 @@ use Rattle.backlog.specs.Left.{left-is}
 use Rattle.backlog.specs.Finish.{first-done}
 
 -- A number where something is so, and else 0.
-abbrev pub if-so : {P : Type 0} → Dec P → ℕ → ℕ
+abbrev if-so : {P : Type 0} → Dec P → ℕ → ℕ
 if-so (yes p) a = a
 if-so (no p) a = 0
 
@@ -26,7 +26,7 @@ if-so-none (no p) a h = refl
 abbrev pub openKey : Jobs → ℕ → ℕ → ℕ
 openKey J t i = J .key i (below (J .rel i) t - 1)
 
--- Closings and releases in slot t, with l slots left before and x after: a job is kept or closed, and a fresh one has no more than its cost.
+-- Closings and releases in slot t, with l slots left before and x after: a job that is not fresh has no more than before, and a fresh one no more than its cost.
 pub record Opens (J : Jobs) (t : ℕ) (l x : ℕ → ℕ) : Type 0 where
   pub kept : (i : ℕ) → i < J .n → ((j : ℕ) → J .rel i j ≢ t) → x i ≤ l i
   pub fresh : (i j : ℕ) → i < J .n → J .rel i j ≡ t → x i ≤ J .cost i

@@ -1,4 +1,4 @@
--- HORIZON (`late-soon`): without overload, load exactly 1 included, a late deadline of a table that keeps its ranges lies within the horizon if there is one at all.
+-- HORIZON (`late-soon`): without overload, load exactly 1 included, if some deadline of a table that keeps its ranges is late, some deadline within the horizon is.
 use mathlib.Core.Path.{_≡_, sym, ap, subst}
 use Prim.Native.Nat.{ℕ, _+_, _-_, _*_, _≤_, _<_}
 use native.Mathlib.Nat.{sub-add-cancel}
@@ -10,7 +10,7 @@ use Rattle.model.specs.Tasks.{round, load, horizon}
 use Rattle.model.specs.Demand.{lateAt}
 use Rattle.counting.specs.Search.{strong}
 use Rattle.wellformed.specs.Ranges.{Ranged}
-use Rattle.backlog.specs.Streams.{Run, left}
+use Rattle.backlog.specs.Streams.{left}
 use Rattle.backlog.specs.Criterion.{Late, Over, late-of-left, left-of-late, late-iff-over}
 use Rattle.backlog.specs.System.{System, size, jobs, dues}
 use Rattle.backlog.specs.ModelRun.{servedOf, model-run}
@@ -18,15 +18,15 @@ use Rattle.backlog.specs.Shift.{Cycle, horizonOf, Light, left-later}
 use Rattle.backlog.specs.TableSystem.{tie-ranks, load-is, horizon-is, tieSystem, tieCycle}
 use Rattle.backlog.specs.EveryInstant.{over-iff}
 
-module _ (S : System) (Y : Cycle S) (light : Light S Y) (s : ℕ → ℕ → ℕ) (R : Run (jobs S) s) where
+module _ (S : System) (Y : Cycle S) (light : Light S Y) where
   abbrev LateBy : ℕ → Type 0
-  LateBy t = Late (jobs S) (dues S) s t
+  LateBy t = Late (jobs S) (dues S) (servedOf S) t
 
   -- What is late a round later was late now.
   late-down : (t : ℕ) → Y .start + Y .round ≤ t → LateBy (t + Y .round) → LateBy t
   late-down t h p =
       let e : (dues S) .cut (t + Y .round) ≡ (dues S) .cut t + size S * Y .round = omega arith in
-      late-of-left (jobs S) (dues S) s t (omega (arith, left-later S Y s R light ((dues S) .cut t) t h, left-of-late (jobs S) (dues S) s (t + Y .round) p, ap (λ (x : ℕ). left (jobs S) s x (t + Y .round)) e))
+      late-of-left (jobs S) (dues S) (servedOf S) t (omega (arith, left-later S Y (servedOf S) (model-run S) light ((dues S) .cut t) t h, left-of-late (jobs S) (dues S) (servedOf S) (t + Y .round) p, ap (λ (x : ℕ). left (jobs S) (servedOf S) x (t + Y .round)) e))
 
   soon : (t : ℕ) → LateBy t → (u : ℕ) × (u ≤ horizonOf S Y) × LateBy u
   soon = strong {P = λ t. LateBy t → (u : ℕ) × (u ≤ horizonOf S Y) × LateBy u} step
@@ -41,12 +41,12 @@ module _ (S : System) (Y : Cycle S) (light : Light S Y) (s : ℕ → ℕ → ℕ
   -- An interval that asks too much can be had that ends by the horizon.
   pub over-soon : (t : ℕ) → Over (jobs S) (dues S) t → (u : ℕ) × (u ≤ horizonOf S Y) × Over (jobs S) (dues S) u
   over-soon t p =
-      let (u, h, q) = soon t (late-iff-over (jobs S) (dues S) s R t .1 p) in
-      (u, h, late-iff-over (jobs S) (dues S) s R u .0 q)
+      let (u, h, q) = soon t (late-iff-over (jobs S) (dues S) (servedOf S) (model-run S) t .1 p) in
+      (u, h, late-iff-over (jobs S) (dues S) (servedOf S) (model-run S) u .0 q)
 
 module _ (t : Table) (r : Ranged t) where
   -- The same in the model's words.
   pub late-soon : load t ≤ round t → (to : ℕ) → T (lateAt t to) → (u : ℕ) × (u ≤ horizon t) × T (lateAt t u)
   late-soon light to h =
-      let (u, l, o) = over-soon (tieSystem t r) (tieCycle t r) (omega (arith, load-is t r _ (tie-ranks t))) (servedOf (tieSystem t r)) (model-run (tieSystem t r)) to (over-iff (tieSystem t r) to .0 h) in
+      let (u, l, o) = over-soon (tieSystem t r) (tieCycle t r) (omega (arith, load-is t r _ (tie-ranks t))) to (over-iff (tieSystem t r) to .0 h) in
       (u, omega (arith, horizon-is t r _ (tie-ranks t)), over-iff (tieSystem t r) u .1 o)

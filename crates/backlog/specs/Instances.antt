@@ -1,6 +1,6 @@
 -- NO THEOREM OF THIS CRATE IS EMPTY: what they ask for is met by tables of document 01.
 use mathlib.Core.Path.{_≡_, refl}
-use mathlib.Core.Logic.{inr, _⊎_}
+use mathlib.Core.Logic.{inr, _⊎_, _↔_}
 use mathlib.Core.List.{_∷_}
 use mathlib.Core.Bool.{Bool, false, true}
 use Prim.Native.Nat.{ℕ, suc, _+_, _-_, _≤_, _<_}
@@ -24,12 +24,13 @@ use Rattle.model.specs.Schedule.{none, job}
 use Rattle.wellformed.specs.Ranges.{Ranged}
 use Rattle.wellformed.specs.WellFormed.{well-formed}
 use Rattle.backlog.specs.Queue.{backlog, Busy, busy-from, backlog-mono}
-use Rattle.backlog.specs.Streams.{released, Run}
+use Rattle.backlog.specs.Streams.{released, Run, left}
 use Rattle.backlog.specs.RunUnique.{run-unique}
+use Rattle.backlog.specs.Finish.{DoneFirst, finish}
 use Rattle.backlog.specs.Criterion.{Met}
 use Rattle.backlog.specs.NoneLate.{none-late}
 use Rattle.backlog.specs.RunHistory.{run-history}
-use Rattle.backlog.specs.System.{System, dueOf, jobs, dues, constrained, Ranks, JobNoLater}
+use Rattle.backlog.specs.System.{System, dueOf, keyOf, jobs, dues, constrained, Ranks, JobNoLater}
 use Rattle.backlog.specs.ModelRun.{servedOf, model-run}
 use Rattle.backlog.specs.RunRule.{Waiting, run-rule}
 use Rattle.backlog.specs.Shift.{Light}
@@ -107,6 +108,10 @@ b-rule = run-rule (systemOf table-b b-ranged (λ i. 1 - i) b-reversed)
 b-worst-reversed : (w : ℕ) × Worst table-b (λ i. 1 - i) 0 w
 b-worst-reversed = worst-of table-b b-ranged 38 b-passes _ b-reversed 0 (lit< tt)
 
+-- In its run a job finishes where first no work up to its key is left.
+b-finish : (j u : ℕ) → DoneFirst (jobs b-system) (servedOf b-system) 0 j u ↔ Least (λ u. (release (task table-b 0) j < u) × (left (jobs b-system) (servedOf b-system) (keyOf b-system 0 j) u ≡ 0)) u
+b-finish j = finish (jobs b-system) (servedOf b-system) (model-run b-system) 0 j (lit< tt)
+
 -- There is no other run of its streams.
 b-one-run : (s : ℕ → ℕ → ℕ) → Run (jobs b-system) s → (u i : ℕ) → i < 2 → s u i ≡ servedOf b-system u i
 b-one-run s R = run-unique (jobs b-system) s (servedOf b-system) R (model-run b-system)
@@ -145,7 +150,7 @@ d-late = (tt, λ u l. none-before table-d u l)
 d-missed : Least (Missed (tieSystem table-d d-ranged)) 7
 d-missed = first-missed (tieSystem table-d d-ranged) 7 .1 d-late
 
--- So 7 is what it needs, and from its start some interval asks too much up to there.
+-- So 7 is what it needs, and the interval from its late start to there asks too much.
 d-needed : needed table-d ≡ 7
 unfolding horizon largest round first count
 d-needed = needed-is table-d 7 (lit≤ tt) (d-late .1) (λ h. d-late .0)
@@ -225,15 +230,6 @@ g-belongs = record { waits = refl; lefts = refl; each = lit≤ tt; ran = refl }
 g-belongs-after : Belongs table-g (after table-g other true)
 g-belongs-after = belongs-after table-g g-ranged other true g-belongs
 
--- Table c: late at 15, within its horizon of 38, and so with any longer budget; table b undecided at 37.
-c-ranged : Ranged table-c
-unfolding judged firstFaulty taskFault first round load horizon largest sum count
-c-ranged = well-formed table-c (record { round = 15; load = 12; horizon = 38 }) refl .ranged
-
-c-late-soon : (u : ℕ) × (u ≤ horizon table-c) × T (lateAt table-c u)
-unfolding first round load sum count demand jobsIn lateAt
-c-late-soon = late-soon table-c c-ranged (lit≤ tt) 15 tt
-
 -- Table f has load exactly 1 and is late at 5, past its horizon of 4; so it is late within it too.
 f-ranged : Ranged table-f
 unfolding judged firstFaulty taskFault first round load horizon largest sum count
@@ -242,6 +238,11 @@ f-ranged = well-formed table-f (record { round = 2; load = 2; horizon = 4 }) ref
 f-late-soon : (u : ℕ) × (u ≤ horizon table-f) × T (lateAt table-f u)
 unfolding first round load sum count demand jobsIn lateAt
 f-late-soon = late-soon table-f f-ranged (lit≤ tt) 5 tt
+
+-- Table c is late at 15 with a budget of 15, and so with any longer one.
+c-ranged : Ranged table-c
+unfolding judged firstFaulty taskFault first round load horizon largest sum count
+c-ranged = well-formed table-c (record { round = 15; load = 12; horizon = 38 }) refl .ranged
 
 c-late : verdict table-c 15 ≡ Verdict.Late 8 15 8
 unfolding verdict needed lateStart lateAt first last round load horizon largest sum count demand jobsIn
@@ -253,6 +254,7 @@ c-longer = longer table-c 15 1000 (lit≤ tt) (λ e. let z : _≡_ {A = ℕ} 0 1
 c-infeasible : Feasible table-c → ⊥
 c-infeasible = late-infeasible table-c c-ranged 15 8 15 8 c-late
 
+-- Table b is undecided at 37.
 b-undecided : (load table-b ≤ round table-b) × (37 < needed table-b)
 unfolding verdict needed lateStart lateAt first last round load horizon largest sum count demand jobsIn
 b-undecided = undecided-iff table-b 37 .0 refl

@@ -1,4 +1,4 @@
--- EVERY JOB IN TIME, IN ANY HISTORY (`on-time`): where each job is due by the next release, the run at full cost meets every deadline and no response of it is above w, a job is reported or has been given its cost within w of its release, if its next release is no earlier.
+-- EVERY JOB IN TIME, IN ANY HISTORY (`on-time`): where each job is due by the next release, the run at full cost meets every deadline and no response of a stream is above w, a job of that stream is reported or has been given its cost within w of its release, if its next release is no earlier.
 use mathlib.Core.Path.{_≡_, refl, ap, sym}
 use mathlib.Core.Logic.{_⊎_, inl, inr}
 use Prim.Native.Nat.{ℕ, zero, suc, _+_, _-_, _≤_, _<_}

@@ -1,16 +1,18 @@
--- THE STATE REPEATS (`repeats`): without overload, from one round after the start on, as much is left of a released job as will be of its twin a round later.
+-- THE STATE REPEATS (`repeats`): without overload, from one round after the start on, as much is left of a job as will be of its twin a round later.
 use mathlib.Core.Path.{_≡_, refl, sym, ap, _∙_}
 use mathlib.Core.Logic.{_≢_, _↔_}
 use Prim.Native.Nat.{ℕ, zero, suc, _+_, _-_, _*_, _≤_, _<_, min}
-use native.Mathlib.Nat.{mul-pos, min-eq-left}
+use native.Mathlib.Nat.{mul-pos, min-eq-left, mul-le-mul-left}
+use native.Mathlib.Decide.{decLt}
 use native.Mathlib.Omega.{arith}
 use Rattle.counting.specs.Sum.{sum-by}
-use Rattle.counting.specs.Below.{below, below-at, below-same, work-le}
+use Rattle.counting.specs.Below.{below, below-most, below-at, below-same, grows-lt, work-le}
 use Rattle.backlog.specs.Streams.{Jobs, Run, released, work, left, leftOf, work-at}
+use Rattle.backlog.specs.Left.{served-le}
 use Rattle.backlog.specs.System.{System, size, costOf, releaseOf, dueOf, keyOf, jobs}
 use Rattle.backlog.specs.Shift.{Cycle, Light, release-later, key-later, left-later}
 
--- What is left of job j of stream i, once it is released.
+-- What is left of job j of stream i: its whole cost until it is served.
 abbrev pub restOf : Jobs → (ℕ → ℕ → ℕ) → ℕ → ℕ → ℕ → ℕ
 restOf J s t i j = min (J .cost i) (J .cost i * suc j - s t i)
 
@@ -55,13 +57,18 @@ key-pos S i j l = let some : 0 < size S = omega arith in omega (arith, mul-pos (
     due-pos i j l = omega (arith, S .deadline-pos i l)
 
 module _ (S : System) (Y : Cycle S) (light : Light S Y) (s : ℕ → ℕ → ℕ) (R : Run (jobs S) s) where
+  -- Of a job that is not released nothing is served.
+  whole-before : (t i j : ℕ) → i < size S → t ≤ releaseOf S i j → restOf (jobs S) s t i j ≡ costOf S i
+  whole-before t i j l h = omega (arith, served-le (jobs S) s R t i l, mul-le-mul-left (costOf S i) (below-most (releaseOf S i) ((jobs S) .rel-grows i l) t j (λ k m. grows-lt (releaseOf S i) ((jobs S) .rel-grows i l) k j (omega arith))))
+
   -- What is left of a job, from one round after the start on, is left of its twin a round later.
-  pub repeats : (t i j : ℕ) → i < size S → Y .start + Y .round ≤ t → releaseOf S i j < t → restOf (jobs S) s t i j ≡ restOf (jobs S) s (t + Y .round) i (j + Y .times i)
-  repeats t i j l h r = go (keyOf S i j) refl
+  pub repeats : (t i j : ℕ) → i < size S → Y .start + Y .round ≤ t → restOf (jobs S) s t i j ≡ restOf (jobs S) s (t + Y .round) i (j + Y .times i)
+  repeats t i j l h = go (decLt (releaseOf S i j) t) (keyOf S i j) refl
     where
-      go : (k : ℕ) → keyOf S i j ≡ k → restOf (jobs S) s t i j ≡ restOf (jobs S) s (t + Y .round) i (j + Y .times i)
-      go zero e = absurd (omega (arith, key-pos S i j l))
-      go (suc κ) e =
+      go : Dec (releaseOf S i j < t) → (k : ℕ) → keyOf S i j ≡ k → restOf (jobs S) s t i j ≡ restOf (jobs S) s (t + Y .round) i (j + Y .times i)
+      go (no r) k e = whole-before t i j l (omega arith) ∙ sym (whole-before (t + Y .round) i (j + Y .times i) l (omega (arith, release-later S Y i l j)))
+      go (yes r) zero e = absurd (omega (arith, key-pos S i j l))
+      go (yes r) (suc κ) e =
           let f : suc (κ + size S * Y .round) ≡ keyOf S i (j + Y .times i) = omega (arith, key-later S Y i l j) in
           let k : left (jobs S) s (keyOf S i (j + Y .times i)) (t + Y .round) ≡ left (jobs S) s (keyOf S i j + size S * Y .round) (t + Y .round) = ap (λ (x : ℕ). left (jobs S) s x (t + Y .round)) (key-later S Y i l j) in
           omega (
@@ -73,8 +80,8 @@ module _ (S : System) (Y : Cycle S) (light : Light S Y) (s : ℕ → ℕ → ℕ
           )
 
   -- So one is done exactly if the other is a round later.
-  pub repeats-done : (t i j : ℕ) → i < size S → Y .start + Y .round ≤ t → releaseOf S i j < t → (costOf S i * suc j ≤ s t i) ↔ (costOf S i * suc (j + Y .times i) ≤ s (t + Y .round) i)
-  repeats-done t i j l h r = (
-    λ d. rest-done (jobs S) s (t + Y .round) i (j + Y .times i) l .0 (sym (repeats t i j l h r) ∙ rest-done (jobs S) s t i j l .1 d),
-    λ d. rest-done (jobs S) s t i j l .0 (repeats t i j l h r ∙ rest-done (jobs S) s (t + Y .round) i (j + Y .times i) l .1 d),
+  pub repeats-done : (t i j : ℕ) → i < size S → Y .start + Y .round ≤ t → (costOf S i * suc j ≤ s t i) ↔ (costOf S i * suc (j + Y .times i) ≤ s (t + Y .round) i)
+  repeats-done t i j l h = (
+    λ d. rest-done (jobs S) s (t + Y .round) i (j + Y .times i) l .0 (sym (repeats t i j l h) ∙ rest-done (jobs S) s t i j l .1 d),
+    λ d. rest-done (jobs S) s t i j l .0 (repeats t i j l h ∙ rest-done (jobs S) s (t + Y .round) i (j + Y .times i) l .1 d),
   )

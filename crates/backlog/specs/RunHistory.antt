@@ -11,13 +11,13 @@ use Rattle.backlog.specs.Criterion.{Met, Dues, Constrained}
 use Rattle.backlog.specs.Domination.{Releases, releases, openKey}
 use Rattle.backlog.specs.History.{History, Goes}
 
-module _ (J : Jobs) (D : Dues J) (due-first : Constrained J D) (s : ℕ → ℕ → ℕ) (R : Run J s) (met : Met J D s) where
+module _ (J : Jobs) (D : Dues J) (constrained : Constrained J D) (s : ℕ → ℕ → ℕ) (R : Run J s) (met : Met J D s) where
   -- The jobs before the last one released are done.
   earlier-done : (t i j : ℕ) → i < J .n → below (J .rel i) (suc t) ≡ suc j → J .cost i * j ≤ s t i
   earlier-done t i zero l e = omega arith
   earlier-done t i (suc j) l e =
       let r : J .rel i (suc j) < suc t = lt-below (J .rel i) (J .rel-grows i l) (suc t) (suc j) .0 (omega arith) in
-      omega (arith, met i j l, served-mono J s R i l (D .due i j) t (omega (arith, due-first i j l)))
+      omega (arith, met i j l, served-mono J s R i l (D .due i j) t (omega (arith, constrained i j l)))
 
   -- A stream with released work to do is at the last job that is released.
   at-last : (t i : ℕ) → i < J .n → s t i < released J (suc t) i → s t i / J .cost i ≡ below (J .rel i) (suc t) - 1

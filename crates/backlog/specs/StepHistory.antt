@@ -6,21 +6,21 @@ use Prim.Native.Nat.{ℕ, suc, _+_, _-_, _≤_, _<_}
 use native.Mathlib.Decide.{ℕ-discrete, decLt}
 use native.Mathlib.Omega.{arith}
 use borrow.Author.Tests.{eq-eqb, ne-eqb}
-use lib.Dec.{T, ltb, eqb, ltb→lt, lt→ltb}
+use lib.Dec.{T, eqb, ltb→lt, lt→ltb}
 use Rattle.values.specs.declared.Table.{Table}
 use Rattle.model.specs.Notation.{bit}
 use Rattle.model.specs.Tasks.{task}
 use Rattle.model.specs.Run.{tieOrder}
-use Rattle.model.specs.Dispatcher.{leftOf, waitReleased, leftReleased}
+use Rattle.model.specs.Dispatcher.{leftOf, leftReleased}
 use Rattle.model.specs.History.{stateAt, ownerAt, reported}
 use Rattle.counting.specs.Below.{below}
 use Rattle.wellformed.specs.Ranges.{Ranged}
 use Rattle.backlog.specs.Domination.{openKey}
 use Rattle.backlog.specs.History.{History, Keeps, Goes}
-use Rattle.backlog.specs.Choice.{NoLater, Chosen}
+use Rattle.backlog.specs.Choice.{NoLater}
 use Rattle.backlog.specs.System.{System, releaseOf, dueOf, keyOf, jobs, dues, keys-order}
 use Rattle.backlog.specs.TableSystem.{tieSystem}
-use Rattle.backlog.specs.Taken.{left-start, chosen, owner-ready}
+use Rattle.backlog.specs.Taken.{left-start, chosen, owner-ready, dueIn, Serves}
 use Rattle.backlog.specs.Stepping.{Fresh, Kept, finds, late-is, ready-is, left-next, sound}
 
 module _ (t : Table) (done : ℕ → Bool) where
@@ -47,16 +47,13 @@ module _ (t : Table) (r : Ranged t) (done : ℕ → Bool) where
   abbrev S : System
   S = tieSystem t r
 
-  abbrev Choice : ℕ → Type 0
-  Choice n = Chosen (λ i. ltb 0 (ready t done n i)) (λ i. waitReleased t (stateAt t done n) (done n) i - (task t i .period - task t i .deadline)) (tieOrder t) (t .count) (ownerAt t done n)
-
   -- In slot n task i's job is kept, or closed.
   abbrev pub Closing : ℕ → ℕ → Type 0
   Closing = Keeps (jobs S) (dues S) (told t done) (open' t done) (ready t done)
 
   -- The keys of the last released jobs are in the order of the waits.
   key-le : (n i k : ℕ) → i < t .count → k < t .count → 0 < ready t done n i → 0 < ready t done n k
-      → NoLater (λ i. waitReleased t (stateAt t done n) (done n) i - (task t i .period - task t i .deadline)) (tieOrder t) k i
+      → NoLater (dueIn t (stateAt t done n) (done n)) (tieOrder t) k i
       → openKey (jobs S) (suc n) k ≤ openKey (jobs S) (suc n) i
   key-le n i k l m p q c =
       let (a, x, y, z) = ready-is t r done n i (sound t r done n) l p in
@@ -65,9 +62,9 @@ module _ (t : Table) (r : Ranged t) (done : ℕ → Bool) where
       let f : below (releaseOf S k) (suc n) - 1 ≡ b = omega arith in
       rw (e, f) (go a b y v c)
     where
-      go : (a b : ℕ) → dueOf S i a ≡ n + (waitReleased t (stateAt t done n) (done n) i - (task t i .period - task t i .deadline))
-          → dueOf S k b ≡ n + (waitReleased t (stateAt t done n) (done n) k - (task t k .period - task t k .deadline))
-          → NoLater (λ i. waitReleased t (stateAt t done n) (done n) i - (task t i .period - task t i .deadline)) (tieOrder t) k i
+      go : (a b : ℕ) → dueOf S i a ≡ n + dueIn t (stateAt t done n) (done n) i
+          → dueOf S k b ≡ n + dueIn t (stateAt t done n) (done n) k
+          → NoLater (dueIn t (stateAt t done n) (done n)) (tieOrder t) k i
           → keyOf S k b ≤ keyOf S i a
       go a b y v (inl h) = keys-order S k b i a m (inl (omega arith))
       go a b y v (inr (h, o)) = keys-order S k b i a m (inr (omega arith, o))
@@ -96,7 +93,7 @@ module _ (t : Table) (r : Ranged t) (done : ℕ → Bool) where
       spent n i l (no e) = rw (left-next t r done n i (sound t r done n) l, ne-eqb (ownerAt t done n) i e) (omega arith)
       spent n i l (yes e) = rw (left-next t r done n i (sound t r done n) l, eq-eqb (ownerAt t done n) i e) (omega (arith, owner-ready t (stateAt t done n) (done n) (r .few) i l e))
 
-      slot : (n : ℕ) → Choice n → Goes (jobs S) (ready t done) (gave t done) n
+      slot : (n : ℕ) → Serves t (stateAt t done n) (done n) → Goes (jobs S) (ready t done) (gave t done) n
       slot n (inl c) = inl (λ i l. elim (decLt 0 (ready t done n i)) [ yes p ↦ absurd (c .shut i l (lt→ltb 0 (ready t done n i) p)) | no p ↦ omega arith ])
       slot n (inr c) =
           let p : 0 < ready t done n (ownerAt t done n) = ltb→lt 0 (ready t done n (ownerAt t done n)) (c .opened) in

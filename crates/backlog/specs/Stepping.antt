@@ -1,4 +1,4 @@
--- EVERY STATE IS SOUND (`sound`): from a start on a table that keeps its ranges a wait tells the next release, and an open job is the last released and not past its deadline.
+-- EVERY STATE IS SOUND (`sound`): from a start on a table that keeps its ranges every state belongs to it, a wait tells the next release, and an open job is the last released and not past its deadline.
 use mathlib.Core.Path.{_≡_, ap, _∙_}
 use mathlib.Core.Logic.{_⊎_, inl, inr, _≢_}
 use mathlib.Core.Bool.{Bool, cond}
@@ -18,7 +18,7 @@ use Rattle.wellformed.specs.Ranges.{Ranged}
 use Rattle.backlog.specs.Domination.{Releases, releases}
 use Rattle.backlog.specs.System.{System, releaseOf, dueOf, jobs, releasedBy}
 use Rattle.backlog.specs.TableSystem.{tieSystem}
-use Rattle.backlog.specs.Taken.{Belongs, KeptOrClosed, closed-late-iff, left-done-le, kept-or-closed, wait-start, left-start, belongs-start, wait-after, left-after, belongs-after, kept-open}
+use Rattle.backlog.specs.Taken.{Belongs, KeptOrClosed, closed-late-iff, left-done-le, kept-or-closed, wait-start, left-start, belongs-start, wait-after, left-after, belongs-after, kept-open, dueIn}
 
 module _ (t : Table) (r : Ranged t) (done : ℕ → Bool) where
   abbrev S : System
@@ -74,12 +74,12 @@ module _ (t : Table) (r : Ranged t) (done : ℕ → Bool) where
     | inr k ↦ omega (arith, k .wait, k .waited, s .next i l, ap (releaseOf S i) (k .passed))
   ]
 
-  -- A job that step n may serve is the last released, and its deadline is after slot n, as far as the wait says.
+  -- A job that step n may serve is the last released, and its deadline is as many slots after n as the wait says, and at least one.
   pub ready-is : (n i : ℕ) → Sound n → i < t .count → 0 < leftReleased t (before n) (done n) i
-      → (j : ℕ) × (releasedBy S i (suc n) ≡ suc j) × (dueOf S i j ≡ n + (waitReleased t (before n) (done n) i - (task t i .period - task t i .deadline))) × (n < dueOf S i j)
+      → (j : ℕ) × (releasedBy S i (suc n) ≡ suc j) × (dueOf S i j ≡ n + dueIn t (before n) (done n) i) × (n < dueOf S i j)
   ready-is n i s l p = go (finds n i s l)
     where
-      go : ((j : ℕ) × Fresh n i j) ⊎ Kept n i → (j : ℕ) × (releasedBy S i (suc n) ≡ suc j) × (dueOf S i j ≡ n + (waitReleased t (before n) (done n) i - (task t i .period - task t i .deadline))) × (n < dueOf S i j)
+      go : ((j : ℕ) × Fresh n i j) ⊎ Kept n i → (j : ℕ) × (releasedBy S i (suc n) ≡ suc j) × (dueOf S i j ≡ n + dueIn t (before n) (done n) i) × (n < dueOf S i j)
       go (inl (j, f)) = (j, f .passed, omega (arith, f .now, f .wait, r .each i l .deadline-le), omega (arith, f .now, r .each i l .deadline-pos))
       go (inr k) =
           let (some, apart) = kept-open t (before n) (done n) i l (λ e. absurd (omega (arith, k .waited))) p in

@@ -12,7 +12,7 @@ use Rattle.wellformed.specs.Round.{round-pos, period-divides}
 use Rattle.backlog.specs.System.{System, Ranks}
 use Rattle.backlog.specs.Shift.{Cycle, horizonOf, loadOf}
 
--- The base's order is such an order.
+-- The base's order is an order of the tasks.
 pub tie-ranks : (t : Table) → Ranks t (tieOrder t)
 tie-ranks t = record { low = λ i l. l; apart = λ i k a b e. e }
 

@@ -95,7 +95,7 @@ module _ (t : Table) where
         go (inl (e, f, never)) q = (omega arith, λ x. never (closed-late-iff .1 (l, omega arith, x)))
         go (inr (e, c)) q = absurd (omega arith)
 
-  -- A state that the tests of 8 let through, with an entry for each task.
+  -- A state that the tests of 8 let through, with 16 entries in each list.
   pub record Belongs (d : State) : Type 0 where
     pub waits : length (d .wait) ≡ taskLimit
     pub lefts : length (d .left) ≡ taskLimit
@@ -110,9 +110,15 @@ module _ (t : Table) where
   unfolding firstStrange
   none-strange d o = omega (arith, first-none (strange t d) 0 (t .count) (λ i x y h. let e = not-strange d i (o i (omega arith)) in rw e at h))
 
+  -- The slots from now to the deadline of task i's last released job.
+  abbrev pub dueIn : State → Bool → ℕ → ℕ
+  dueIn d done i = waitReleased t d done i - (task t i .period - task t i .deadline)
+
   -- The slot goes to the open job of the earliest deadline.
-  pub chosen : (d : State) (done : Bool) → t .count ≤ taskLimit
-      → Chosen (λ i. ltb 0 (leftReleased t d done i)) (λ i. waitReleased t d done i - (task t i .period - task t i .deadline)) (tieOrder t) (t .count) (ownerNow t d done)
+  abbrev pub Serves : State → Bool → Type 0
+  Serves d done = Chosen (λ i. ltb 0 (leftReleased t d done i)) (dueIn d done) (tieOrder t) (t .count) (ownerNow t d done)
+
+  pub chosen : (d : State) (done : Bool) → t .count ≤ taskLimit → Serves d done
   unfolding ownerNow
   chosen d done few = choose-is _ _ _ (t .count) few
 

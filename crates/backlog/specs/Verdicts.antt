@@ -13,7 +13,7 @@ use Rattle.model.specs.Demand.{demand, lateAt}
 use Rattle.model.specs.Verdict.{needed, lateStart, verdict, settledBy}
 use Rattle.counting.specs.Count.{is-true, is-false, decT}
 
--- A late verdict on this interval's end.
+-- The late verdict on a deadline.
 abbrev pub lateVerdict : Table → ℕ → Verdict
 lateVerdict t to = Verdict.Late (lateStart t to) to (demand t (lateStart t to) to)
 

@@ -2,7 +2,7 @@
 use mathlib.Core.Path.{_≡_, sym, ap, _∙_}
 use mathlib.Core.Logic.{_⊎_, inl, inr}
 use mathlib.Core.Bool.{Bool, false, cond}
-use Prim.Native.Nat.{ℕ, zero, suc, _+_, _-_, _*_, _/_, _<_}
+use Prim.Native.Nat.{ℕ, zero, suc, _+_, _-_, _*_, _<_}
 use native.Mathlib.Nat.{le-refl, le-step, div-eq-of-lt-le}
 use native.Mathlib.Decide.{ℕ-discrete, decLt}
 use native.Mathlib.Omega.{arith}
@@ -12,17 +12,17 @@ use Rattle.values.specs.declared.Table.{Table}
 use Rattle.model.specs.Tasks.{task}
 use Rattle.model.specs.Demand.{lateAt}
 use Rattle.model.specs.Run.{tieOrder, owner}
-use Rattle.model.specs.Dispatcher.{State, waitOf, leftOf, isLate, waitReleased}
+use Rattle.model.specs.Dispatcher.{State, waitOf, leftOf, isLate}
 use Rattle.model.specs.History.{stateAt, ownerAt}
 use Rattle.counting.specs.Below.{below-none}
 use Rattle.wellformed.specs.Ranges.{Ranged}
 use Rattle.backlog.specs.Choice.{NoLater, chosen-same}
 use Rattle.backlog.specs.System.{System, releaseOf, dueOf, releasedBy}
-use Rattle.backlog.specs.ModelRun.{servedOf, ready-iff, model-run, owner-served, others-served, owned}
+use Rattle.backlog.specs.ModelRun.{servedOf, ready-iff, model-run, owner-served, others-served, owned, at}
 use Rattle.backlog.specs.RunSchedule.{undone-iff}
 use Rattle.backlog.specs.TableSystem.{tieSystem}
 use Rattle.backlog.specs.EveryInstant.{missed-iff}
-use Rattle.backlog.specs.Taken.{closed-late-iff, chosen, owner-ready, released-le}
+use Rattle.backlog.specs.Taken.{closed-late-iff, chosen, owner-ready, released-le, dueIn}
 use Rattle.backlog.specs.Stepping.{Fresh, Kept, finds, late-is, ready-is, left-next, sound}
 use Rattle.backlog.specs.StepHistory.{ready, step-history}
 
@@ -78,18 +78,18 @@ module _ (t : Table) (r : Ranged t) where
       go (inl (j, f)) = fresh j f
       go (inr k) = kept k
 
-  -- A task that may be served is at its last released job, with the deadline that its wait says.
+  -- Of a task that the dispatcher may serve, the job that the run is at has the deadline that its wait says.
   at-job : (n : ℕ) → Agrees n → (T (lateAt t n) → ⊥) → (i : ℕ) → i < t .count → 0 < ready t quiet n i
-      → dueOf S i (servedOf S n i / task t i .cost) ≡ n + (waitReleased t (walked t n) false i - (task t i .period - task t i .deadline))
+      → dueOf S i (at S n i) ≡ n + dueIn t (walked t n) false i
   at-job n a never i l p =
       let (j, b, e, d) = ready-is t r quiet n i (sound t r quiet n) l p in
-      let q : servedOf S n i / task t i .cost ≡ j = div-eq-of-lt-le (task t i .cost) (omega (arith, ready-agrees n a never i l, released-le t (walked t n) false (sound t r quiet n .belongs) i l, ap (λ (y : ℕ). task t i .cost * y) b)) (omega (arith, ready-agrees n a never i l, ap (λ (y : ℕ). task t i .cost * y) b)) in
+      let q : at S n i ≡ j = div-eq-of-lt-le (task t i .cost) (omega (arith, ready-agrees n a never i l, released-le t (walked t n) false (sound t r quiet n .belongs) i l, ap (λ (y : ℕ). task t i .cost * y) b)) (omega (arith, ready-agrees n a never i l, ap (λ (y : ℕ). task t i .cost * y) b)) in
       ap (dueOf S i) q ∙ e
 
   -- The dispatcher gives the slot to the task that the run gives it to.
   pub owner-agrees : (n : ℕ) → Agrees n → (T (lateAt t n) → ⊥) → ownerAt t quiet n ≡ owner t (tieOrder t) n
   owner-agrees n a never =
-      chosen-same (λ i. ltb 0 (ready t quiet n i)) _ (λ i. waitReleased t (walked t n) false i - (task t i .period - task t i .deadline)) (λ i. dueOf S i (servedOf S n i / task t i .cost)) (tieOrder t) (t .count) (ownerAt t quiet n) (owner t (tieOrder t) n)
+      chosen-same (λ i. ltb 0 (ready t quiet n i)) _ (dueIn t (walked t n) false) (λ i. dueOf S i (at S n i)) (tieOrder t) (t .count) (ownerAt t quiet n) (owner t (tieOrder t) n)
       (S .ranks .apart)
       (λ i l p. ready-iff S i n (servedOf S n i) l .1 (omega (arith, ready-agrees n a never i l, ltb→lt 0 (ready t quiet n i) p)))
       (λ i l p. lt→ltb 0 (ready t quiet n i) (omega (arith, ready-agrees n a never i l, ready-iff S i n (servedOf S n i) l .0 p)))
@@ -97,10 +97,10 @@ module _ (t : Table) (r : Ranged t) where
       (chosen t (walked t n) false (r .few))
       (owned S n)
     where
-      alike : (i k : ℕ) → dueOf S i (servedOf S n i / task t i .cost) ≡ n + (waitReleased t (walked t n) false i - (task t i .period - task t i .deadline))
-          → dueOf S k (servedOf S n k / task t k .cost) ≡ n + (waitReleased t (walked t n) false k - (task t k .period - task t k .deadline))
-          → NoLater (λ i. dueOf S i (servedOf S n i / task t i .cost)) (tieOrder t) i k
-          → NoLater (λ i. waitReleased t (walked t n) false i - (task t i .period - task t i .deadline)) (tieOrder t) i k
+      alike : (i k : ℕ) → dueOf S i (at S n i) ≡ n + dueIn t (walked t n) false i
+          → dueOf S k (at S n k) ≡ n + dueIn t (walked t n) false k
+          → NoLater (λ i. dueOf S i (at S n i)) (tieOrder t) i k
+          → NoLater (dueIn t (walked t n) false) (tieOrder t) i k
       alike i k e f (inl x) = inl (omega arith)
       alike i k e f (inr (x, o)) = inr (omega arith, o)
 

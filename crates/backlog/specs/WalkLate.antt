@@ -1,4 +1,4 @@
--- THE FIRST LATE DEADLINE (`late-iff`): in a walk without done reports, with none before n, some open job is at its deadline at n exactly if n is late.
+-- THE FIRST LATE DEADLINE (`late-iff`): in a walk without done reports, with no late deadline before n, some open job is at its deadline at n exactly if n is late.
 use mathlib.Core.Path.{_≡_, ap}
 use mathlib.Core.Logic.{_↔_}
 use mathlib.Core.Bool.{false}

@@ -57,12 +57,12 @@ module _ (S : System) (Y : Cycle S) (s : ℕ → ℕ → ℕ) (R : Run (jobs S) 
                   down : Y .start + Y .round ≤ g → Seen j f
                   down p =
                       let (k', g', q', h', w') = ih k (omega (arith, times-pos S Y i l)) g q in
-                      (k', g', q', h', omega (arith, rel, j-done (g + Y .round) (repeats-done S Y light s R g i k l p a .0 (q .0))))
+                      (k', g', q', h', omega (arith, rel, j-done (g + Y .round) (repeats-done S Y light s R g i k l p .0 (q .0))))
 
                   early : ¬ (Y .start + Y .round ≤ g) → ⊥
                   early p =
                       let x = served-mono (jobs S) s R i l g (Y .start + Y .round) (omega arith) in
-                      let y = repeats-done S Y light s R (Y .start + Y .round) i k l (le-refl _) (omega arith) .0 (omega (arith, q .0)) in
+                      let y = repeats-done S Y light s R (Y .start + Y .round) i k l (le-refl _) .0 (omega (arith, q .0)) in
                       omega (arith, j-done (Y .start + Y .round + Y .round) y)
 
           go : Dec (f ≤ horizonOf S Y) → Seen j f
@@ -84,7 +84,7 @@ module _ (S : System) (met : Met (jobs S) (dues S) (servedOf S)) (i : ℕ) (l : 
   Ends j f = Finishes (S .table) (S .rank) i j f
 
   -- Every job finishes, after its release and by its deadline.
-  pub ends : (j : ℕ) → (f : ℕ) × Ends j f × (releaseOf S i j < f) × (f ≤ dueOf S i j)
+  ends : (j : ℕ) → (f : ℕ) × Ends j f × (releaseOf S i j < f) × (f ≤ dueOf S i j)
   ends j = let (f, d, a, b) = finishes (jobs S) (dues S) (servedOf S) (model-run S) met i j l in (f, finishes-iff S i j f l .1 d, a, b)
 
   -- A worst response is at least 1 and at most the deadline.
@@ -96,7 +96,7 @@ module _ (S : System) (met : Met (jobs S) (dues S) (servedOf S)) (i : ℕ) (l : 
       (omega arith, omega arith)
 
   module _ (Y : Cycle S) where
-    -- A response that is attained, and is the largest of those seen by the horizon, is the worst.
+    -- A response that some job has, and that no job which finishes by the horizon exceeds, is the worst.
     pub worst-is : (w j f : ℕ) → Ends j f → f - releaseOf S i j ≡ w
         → ((j f : ℕ) → Ends j f → f ≤ horizonOf S Y → f - releaseOf S i j ≤ w) → Worst (S .table) (S .rank) i w
     worst-is w j f d e h = record {
