@@ -1,21 +1,24 @@
 -- Document 01's tables and worked numbers, by computing. Each row of "Slips that look right" has one that would catch it.
 use mathlib.Core.Path.{_≡_, refl}
 use mathlib.Core.List.{List, [], _∷_, _++_, map}
+use mathlib.Core.Logic.{inl, inr}
 use mathlib.Core.Bool.{Bool, true, false}
 use Prim.Native.Nat.{ℕ, zero, suc, _-_, _/_, _%_}
-use lib.ListN.{length, replicate}
+use lib.Dec.{eqb, lit≤, lit<}
+use lib.ListN.{length, getD, replicate}
 use Rattle.model.specs.Values.{Task, Table, Measure, Judgement, Verdict, Outcome, Empty, Admission, Given, refusal, verdictSaid, judgementSaid, admissionSaid, givenSaid, emptySaid, outcomeSaid}
 use Rattle.model.specs.Notation.{sum, largest, count, first, last, bits, fill, text, digits, decimal}
 use Rattle.model.specs.Limits.{taskLimit, longestFile}
 use Rattle.model.specs.Tasks.{taskFault, firstFaulty, round, load, horizon, measure, judgedBy, judged}
 use Rattle.model.specs.Demand.{jobsIn, demand, asksTooMuch, lateAt}
-use Rattle.model.specs.Schedule.{given}
-use Rattle.model.specs.Run.{tieOrder, choose, ownerOf, served, owner, run, firstEmpty}
-use Rattle.model.specs.Verdict.{needed, lateStart, verdict, settledBy, emptyIn, brief}
-use Rattle.model.specs.TableFile.{eight, taskIn, tableOf, readFrom, formOf, loadedFrom}
+use Rattle.model.specs.Schedule.{none, given}
+use Rattle.model.specs.Run.{tieOrder, choose, ownerOf, served, owner, run, response, firstEmpty}
+use Rattle.model.specs.Verdict.{needed, lateStart, verdict, settledBy, emptyIn, brief, Permitted}
+use Rattle.model.specs.TableFile.{taskIn, tableOf, readFrom, formOf, loadedFrom}
 use Rattle.model.specs.Dispatcher.{State, firstStrange, startOf, started, ownerNow, after, turn, stepped}
-use Rattle.model.specs.Report.{worstLines, reportOf, refused, written, Checked, refusalLine}
-use Rattle.model.specs.StateBuffer.{bytesOf, bufferOf, stateIn, startExported, stepExported}
+use Rattle.model.specs.History.{stateAt, ownerAt, reported, had, Finished}
+use Rattle.model.specs.Report.{worstLines, reportOf, refused, written, Checked, Printed}
+use Rattle.model.specs.StateBuffer.{bytesOf, bufferOf, stateIn, startExported, stepExported, handed}
 
 -- A task as document 01 writes it, and its tables.
 abbrev pub of : ℕ → ℕ → ℕ → ℕ → Task
@@ -161,8 +164,8 @@ said-table = refl
 said-file : map admissionSaid (Admission.Refused (refusal 21 9) ∷ Admission.Admitted ∷ []) ≡ (21 ∷ 9 ∷ []) ∷ (0 ∷ []) ∷ []
 said-file = refl
 
--- The second step on f: none, with task 1 closed late.
-said-step : map givenSaid (Given.Refused (refusal 8 16) ∷ Given.Slot (record { owner = 16; late = 2; closed = 1; lowest = 1 }) ∷ []) ≡ (8 ∷ 16 ∷ []) ∷ (0 ∷ 16 ∷ 2 ∷ 1 ∷ 1 ∷ []) ∷ []
+-- A slot for none, with the tasks 1 and 2 closed late.
+said-step : map givenSaid (Given.Refused (refusal 8 16) ∷ Given.Slot (record { owner = 16; late = 6; closed = 2; lowest = 1 }) ∷ []) ≡ (8 ∷ 16 ∷ []) ∷ (0 ∷ 16 ∷ 6 ∷ 2 ∷ 1 ∷ []) ∷ []
 said-step = refl
 
 said-empty : map emptySaid (Empty.Slot 2 ∷ Empty.Nowhere ∷ []) ≡ (2 ∷ []) ∷ [] ∷ []
@@ -187,10 +190,10 @@ unfolding settledBy needed lateAt first round load horizon largest sum count dem
 settled-short = (refl, refl, refl)
 
 -- A quotient rounded toward zero counts one job by 2 here, where the closed formula is right if it is rounded down; there is none by 2,
--- and one by 3.
-rounding : (jobsIn (of 2 1 1 4) 0 2 ≡ 0) × (jobsIn (of 2 1 1 4) 0 3 ≡ 1)
+-- and one by 3. Job 3 is the one from 14 to 15.
+rounding : (jobsIn (of 2 1 1 4) 0 2 ≡ 0) × (jobsIn (of 2 1 1 4) 0 3 ≡ 1) × (jobsIn (of 2 1 1 4) 14 15 ≡ 1)
 unfolding jobsIn count
-rounding = (refl, refl)
+rounding = (refl, refl, refl)
 
 -- Table i keeps every deadline within its horizon of 12.
 overload-is-not-late : (needed table-i ≡ 12) × (lateAt table-i 12 ≡ false)
@@ -204,18 +207,34 @@ owners : map (owner table-b (tieOrder table-b)) (0 ∷ 1 ∷ 2 ∷ 8 ∷ 9 ∷ 1
 unfolding owner ownerOf served choose
 owners = refl
 
--- The slots of one job, between two instants: job 0 of task 0; from 5 to 7 job 1 of task 1 has both slots, and job 0 none.
+-- The slots of one job, between two instants: job 0 of task 0; from 10 to 12 job 2 of task 1 has both slots, and job 1 none. Where none has a
+-- slot, of 16 tasks too, the run says so.
 job-given :
     (map (λ u. given (run table-b (tieOrder table-b)) 0 0 u 15) (8 ∷ 9 ∷ 13 ∷ []) ≡ 5 ∷ 4 ∷ 2 ∷ [])
     × (map (given (run table-b (tieOrder table-b)) 0 0 0) (8 ∷ 14 ∷ 15 ∷ []) ≡ 0 ∷ 4 ∷ 5 ∷ [])
-    × (map (λ j. given (run table-b (tieOrder table-b)) 1 j 5 7) (0 ∷ 1 ∷ []) ≡ 0 ∷ 2 ∷ [])
+    × (map (λ j. given (run table-b (tieOrder table-b)) 1 j 10 12) (1 ∷ 2 ∷ []) ≡ 0 ∷ 2 ∷ [])
+    × (run (tableOf (replicate 16 (of 1 1 16 16))) (λ k. k) 0 ≡ none)
 unfolding given run owner ownerOf served choose count
-job-given = (refl, refl, refl)
+job-given = (refl, refl, refl, refl)
 
--- Ties go to the lower number, or to whichever task the order puts first.
-ties : (map (owner table-g (tieOrder table-g)) (0 ∷ 1 ∷ 2 ∷ 3 ∷ []) ≡ 0 ∷ 0 ∷ 1 ∷ 1 ∷ []) × (map (owner table-g (λ k. 1 - k)) (0 ∷ 1 ∷ 2 ∷ 3 ∷ []) ≡ 1 ∷ 1 ∷ 0 ∷ 0 ∷ [])
+-- A response is finish minus release: of job 0 of task 0 and job 1 of task 1 of b.
+responses : (response table-b 0 0 15 ≡ 7) × (response table-b 1 1 7 ≡ 2)
+responses = (refl, refl)
+
+-- Ties go to the lower number, or to whichever task the order puts first; of one rank to the lower number. The order decides ties alone.
+ties :
+    (map (λ order. map (owner table-g order) (0 ∷ 1 ∷ 2 ∷ 3 ∷ [])) (tieOrder table-g ∷ (λ k. 1 - k) ∷ (λ k. 0) ∷ []) ≡ (0 ∷ 0 ∷ 1 ∷ 1 ∷ []) ∷ (1 ∷ 1 ∷ 0 ∷ 0 ∷ []) ∷ (0 ∷ 0 ∷ 1 ∷ 1 ∷ []) ∷ [])
+    × (map (owner (tableOf (of 0 1 2 10 ∷ of 0 1 5 5 ∷ [])) (λ k. 1 - k)) (0 ∷ 1 ∷ []) ≡ 0 ∷ 1 ∷ [])
 unfolding owner ownerOf served choose
 ties = (refl, refl)
+
+-- The earliest deadline is that of the job, not the shortest of the tasks: at 4 the job of task 1, due by 6, goes before one due by 8.
+abbrev table-l : Table
+table-l = tableOf (of 0 2 4 4 ∷ of 0 3 6 6 ∷ [])
+
+job-deadlines : map (owner table-l (tieOrder table-l)) (0 ∷ 1 ∷ 2 ∷ 3 ∷ 4 ∷ 5 ∷ 6 ∷ []) ≡ 0 ∷ 0 ∷ 1 ∷ 1 ∷ 1 ∷ 0 ∷ 0 ∷ []
+unfolding owner ownerOf served choose
+job-deadlines = refl
 
 -- The first empty slots.
 empties : map emptyIn (table-a ∷ table-b ∷ table-e ∷ table-g ∷ table-j ∷ []) ≡ Empty.Nowhere ∷ Empty.Slot 2 ∷ Empty.Nowhere ∷ Empty.Nowhere ∷ Empty.Slot 0 ∷ []
@@ -240,7 +259,8 @@ rowsOfOne : ℕ → List ℕ
 rowsOfOne zero = []
 rowsOfOne (suc n) = rowOf (of 0 1 1 1) ++ rowsOfOne n
 
--- A file is read; of one whose table is refused nothing is kept; the longest legal file has 282 bytes, and is read.
+-- A file is read; of one whose table is refused nothing is kept; the longest legal file has 282 bytes, and is read. A table holds 16 tasks,
+-- of zeros past its last one.
 abbrev file-of-16 : List ℕ
 file-of-16 = budgetOf 0 ++ rowsOfOne 16 ++ (3 ∷ [])
 
@@ -250,8 +270,9 @@ files :
     × (loadedFrom file-of-16 .admission ≡ Admission.Admitted)
     × (length file-of-16 ≡ 282)
     × (longestFile ≡ 282)
+    × (tableOf (of 0 1 1 1 ∷ []) ≡ record { count = 1; tasks = of 0 1 1 1 ∷ replicate 15 (of 0 0 0 0) })
 unfolding loadedFrom formOf readFrom judged firstFaulty taskFault first round load horizon largest sum count rowsOfOne
-files = (refl, refl, refl, refl, refl)
+files = (refl, refl, refl, refl, refl, refl)
 
 abbrev refusalOf : List ℕ → Admission
 refusalOf s = loadedFrom s .admission
@@ -263,17 +284,17 @@ at n p = Admission.Refused (refusal n p)
 file-refusals :
     map refusalOf (
     []
-    ∷ (9 ∷ []) ∷ (2 ∷ []) ∷ (3 ∷ []) ∷ (1 ∷ 0 ∷ [])
+    ∷ (9 ∷ []) ∷ (2 ∷ []) ∷ (3 ∷ []) ∷ (1 ∷ 0 ∷ []) ∷ (1 ∷ replicate 7 0)
     ∷ budgetOf 0 ∷ (budgetOf 0 ++ (0 ∷ 1 ∷ [])) ∷ (budgetOf 0 ++ (1 ∷ [])) ∷ (budgetOf 0 ++ (2 ∷ 0 ∷ []))
-    ∷ (budgetOf 0 ++ (3 ∷ 9 ∷ [])) ∷ (budgetOf 0 ++ rowOf (of 0 0 0 0) ++ (3 ∷ 3 ∷ [])) ∷ (budgetOf 0 ++ rowOf (of 0 0 0 0) ++ (3 ∷ []))
+    ∷ (budgetOf 0 ++ (3 ∷ 9 ∷ [])) ∷ (budgetOf 0 ++ rowOf (of 0 0 0 0) ++ (3 ∷ 3 ∷ [])) ∷ (budgetOf 0 ++ rowsOfOne 1 ++ rowOf (of 0 0 0 0) ++ (3 ∷ []))
     ∷ (budgetOf 0 ++ (3 ∷ [])) ∷ (budgetOf 0 ++ rowsOfOne 16 ++ (2 ∷ [])) ∷ (budgetOf 0 ++ rowsOfOne 16)
-    ∷ (budgetOf 0 ++ rowsOfOne 1 ++ (9 ∷ [])) ∷ (budgetOf 0 ++ rowsOfOne 1 ++ (1 ∷ [])) ∷ (budgetOf 0 ++ rowsOfOne 1 ++ (2 ∷ 0 ∷ []))
+    ∷ (budgetOf 0 ++ rowsOfOne 1 ++ (9 ∷ [])) ∷ (budgetOf 0 ++ rowsOfOne 1 ++ (1 ∷ [])) ∷ (budgetOf 0 ++ rowsOfOne 1 ++ (2 ∷ replicate 15 0))
     ∷ (budgetOf 0 ++ (3 ∷ 9 ∷ 9 ∷ [])) ∷ (budgetOf 0 ++ rowsOfOne 17 ++ (3 ∷ [])) ∷ []
     )
     ≡ at 22 0
-    ∷ at 21 0 ∷ at 22 0 ∷ at 22 0 ∷ at 20 0
+    ∷ at 21 0 ∷ at 22 0 ∷ at 22 0 ∷ at 20 0 ∷ at 20 0
     ∷ at 26 9 ∷ at 21 9 ∷ at 23 9 ∷ at 20 9
-    ∷ at 24 10 ∷ at 24 27 ∷ at 3 0
+    ∷ at 24 10 ∷ at 24 27 ∷ at 3 1
     ∷ at 1 0 ∷ at 25 281 ∷ at 26 281
     ∷ at 21 26 ∷ at 23 26 ∷ at 20 26
     ∷ at 24 10 ∷ at 25 281 ∷ []
@@ -282,8 +303,9 @@ file-refusals = refl
 
 -- A budget of more than four bytes, and numbers of three and four.
 wide-numbers :
-    (eight (1 ∷ 1 ∷ 2 ∷ 3 ∷ 4 ∷ 5 ∷ 6 ∷ 7 ∷ 8 ∷ []) 1 ≡ 578437695752307201)
+    (formOf (1 ∷ 1 ∷ 2 ∷ 3 ∷ 4 ∷ 5 ∷ 6 ∷ 7 ∷ 8 ∷ 3 ∷ []) .budget ≡ 578437695752307201)
     × (taskIn (2 ∷ 1 ∷ 0 ∷ 0 ∷ 0 ∷ 0 ∷ 1 ∷ 0 ∷ 0 ∷ 0 ∷ 0 ∷ 1 ∷ 0 ∷ 0 ∷ 0 ∷ 0 ∷ 1 ∷ []) 1 ≡ of 1 256 65536 16777216)
+unfolding formOf readFrom
 wide-numbers = (refl, refl)
 
 -- ---- the dispatcher
@@ -307,17 +329,21 @@ hurried = tableOf (of 0 1 5 5 ∷ of 0 1 2 10 ∷ [])
 
 in-order :
     (steps hurried (startOf hurried) (false ∷ false ∷ []) ≡ 1 ∷ 0 ∷ [])
+    × (steps table-l (startOf table-l) (replicate 7 false) ≡ 0 ∷ 0 ∷ 1 ∷ 1 ∷ 1 ∷ 0 ∷ 0 ∷ [])
     × (turn table-g (record { wait = replicate 16 0; left = 1 ∷ replicate 15 0; last = 1 }) false ≡ record { owner = 0; late = 1; closed = 1; lowest = 0 })
 unfolding steps startOf after turn ownerNow choose fill bits sum count first
-in-order = (refl, refl)
+in-order = (refl, refl, refl)
 
--- Two jobs closed at once; where none is closed the lowest number is 16.
+-- Two jobs closed at once, and sixteen; where none is closed the lowest number is 16.
 abbrev both-late : State
 both-late = record { wait = 1 ∷ 1 ∷ replicate 14 0; left = 1 ∷ 1 ∷ replicate 14 0; last = 16 }
 
-closings : (turn table-f both-late false ≡ record { owner = 16; late = 3; closed = 2; lowest = 0 }) × (turn table-g (startOf table-g) true ≡ record { owner = 0; late = 0; closed = 0; lowest = 16 })
+closings :
+    (turn table-f both-late false ≡ record { owner = 16; late = 3; closed = 2; lowest = 0 })
+    × (turn (tableOf (replicate 16 (of 0 1 1 2))) (record { wait = replicate 16 1; left = replicate 16 1; last = 16 }) false ≡ record { owner = 16; late = 65535; closed = 16; lowest = 0 })
+    × (turn table-g (startOf table-g) true ≡ record { owner = 0; late = 0; closed = 0; lowest = 16 })
 unfolding turn startOf ownerNow choose fill bits sum count first
-closings = (refl, refl)
+closings = (refl, refl, refl)
 
 -- A start on a table: the waits are the offsets; a refused start; a step taken.
 starts :
@@ -359,9 +385,29 @@ strangers = refl
 at-deadline :
     (stepped two (record { wait = 1 ∷ 9 ∷ replicate 14 7; left = 1 ∷ 0 ∷ replicate 14 7; last = 0 }) false
     ≡ record { given = Given.Slot (record { owner = 16; late = 1; closed = 1; lowest = 0 }); state = record { wait = 0 ∷ 8 ∷ replicate 14 7; left = 0 ∷ 0 ∷ replicate 14 7; last = 16 } })
-    × (turn two (record { wait = 1 ∷ 9 ∷ replicate 14 0; left = 1 ∷ 0 ∷ replicate 14 7; last = 0 }) true .closed ≡ 0)
+    × (turn two (record { wait = 1 ∷ 9 ∷ replicate 14 0; left = 2 ∷ 0 ∷ replicate 14 7; last = 0 }) true .closed ≡ 0)
 unfolding stepped turn after ownerNow choose fill bits firstStrange judged firstFaulty taskFault first round load horizon largest sum count
 at-deadline = (refl, refl)
+
+-- ---- histories
+
+-- g with task 0 reported done after one slot: who owns the slots, which step is told of task 0, and the slots 1 to 4 and 2 to 4 that task 1 had.
+once-done : ℕ → Bool
+once-done n = eqb n 1
+
+history :
+    (map (ownerAt table-g once-done) (0 ∷ 1 ∷ 2 ∷ 3 ∷ 4 ∷ []) ≡ 0 ∷ 1 ∷ 1 ∷ 16 ∷ 0 ∷ [])
+    × (map (reported table-g once-done 0) (0 ∷ 1 ∷ 2 ∷ 5 ∷ []) ≡ false ∷ true ∷ false ∷ false ∷ [])
+    × (reported table-g once-done 1 1 ≡ false)
+    × (map (λ from. had table-g once-done 1 from 3) (0 ∷ 1 ∷ 2 ∷ []) ≡ 2 ∷ 2 ∷ 1 ∷ [])
+    × (map (had table-g once-done 1 0) (1 ∷ 2 ∷ []) ≡ 0 ∷ 1 ∷ [])
+unfolding once-done stateAt had startOf after ownerNow choose fill count
+history = (refl, refl, refl, refl, refl)
+
+-- A job is finished: reported done to step 1; by its slots; and so is the next one of task 0, whose slots are its own.
+finished : Finished table-g once-done 0 0 1 × Finished table-g once-done 1 0 3 × Finished table-g once-done 0 1 6
+unfolding once-done stateAt had startOf after ownerNow choose fill count
+finished = (inr (1, lit< tt, lit≤ tt, tt), inl refl, inl refl)
 
 -- ---- the report
 
@@ -397,6 +443,15 @@ report-a :
 unfolding reportOf worstLines text decimal digits
 report-a = refl
 
+-- The permitted answers: overload, late, undecided and a refusal. (`promises/specs/Tables.antt` has those that pass.)
+permitted :
+    Permitted table-i 5 (brief (Outcome.Tested Verdict.Overload) (measured 5 6 12) 0)
+    × Permitted table-c 15 (brief (Outcome.Tested (Verdict.Late 8 15 8)) (measured 15 12 38) 15)
+    × Permitted table-b 37 (record { outcome = Outcome.Tested Verdict.Undecided; measure = measured 15 11 38; settled = 37; worst = replicate 16 0; empty = Empty.Nowhere })
+    × Permitted (tableOf []) 5 (brief (Outcome.Refused (refusal 1 0)) (measured 0 0 0) 0)
+unfolding Permitted judged firstFaulty taskFault settledBy verdict needed lateStart lateAt first last round load horizon largest sum count demand jobsIn
+permitted = (refl, refl, refl, refl)
+
 -- The exported call: a short buffer is 30 at its length, and one of 512 bytes is not short; a refusal is 65,536 · number + place and writes
 -- nowhere; bytes behind a report stay.
 exported :
@@ -408,40 +463,64 @@ exported :
 unfolding loadedFrom formOf readFrom
 exported = (refl, refl, refl, refl, refl)
 
-refusal-line : refusalLine (refusal 21 9) ≡ text "refused 21 at 9\n"
-unfolding text decimal digits
-refusal-line = refl
+-- A whole report, of 59 bytes, in the buffer and as it is printed: b with a budget of 37.
+abbrev report-short : List ℕ
+report-short = text "tasks 2\nload 11/15\nhorizon 38\nverdict undecided\nsettled 37\n"
+
+abbrev file-short : List ℕ
+file-short = budgetOf 37 ++ rowOf (of 8 5 7 15) ++ rowOf (of 0 2 2 5) ++ (3 ∷ [])
+
+told : Checked file-short (replicate 512 7) (record { number = 59; buffer = report-short ++ replicate 453 7 }) × Printed file-short report-short
+unfolding loadedFrom formOf readFrom Permitted judged firstFaulty taskFault settledBy verdict needed lateStart lateAt first last round load horizon largest sum count demand jobsIn reportOf text decimal digits
+told =
+    let a = brief (Outcome.Tested Verdict.Undecided) (measured 15 11 38) 37 in
+    ((a, refl, refl), (a, refl, refl))
+
+-- The line of a refusal; the longest number of a report, a load of 16 times the largest H.
+refusal-lines : Printed (budgetOf 0 ++ (9 ∷ [])) (text "refused 21 at 9\n") × Printed (budgetOf 0 ++ (3 ∷ 3 ∷ [])) (text "refused 24 at 10\n") × (decimal 16000000000 ≡ text "16000000000")
+unfolding loadedFrom formOf readFrom text decimal digits
+refusal-lines = (refl, refl, refl)
 
 -- ---- the state buffer
 
--- The first wait stands at byte 0, the slots left from byte 64 on, the last-run task at 128, and behind it what the step told.
-layout :
-    bufferOf (record { wait = 67305985 ∷ replicate 15 0; left = 3 ∷ replicate 15 0; last = 4 }) (record { owner = 4; late = 5; closed = 6; lowest = 7 })
-    ≡ 1 ∷ 2 ∷ 3 ∷ 4 ∷ replicate 60 0 ++ word 3 ++ replicate 60 0 ++ word 4 ++ word 5 ++ word 6 ++ word 7
-unfolding bufferOf bytesOf
-layout = refl
+-- The first wait stands at byte 0, the slots left from byte 64 on, the last-run task at 128, and behind it what the step told. A step reads
+-- the same state from there.
+abbrev kept : State
+kept = record { wait = 67305985 ∷ replicate 14 0 ++ (8 ∷ []); left = 3 ∷ replicate 14 0 ++ (9 ∷ []); last = 4 }
 
--- A start on b; a buffer of another length is 50 at its length, also with a broken file; a damaged file and a table's refusal write nowhere.
+abbrev kept-bytes : List ℕ
+kept-bytes = 1 ∷ 2 ∷ 3 ∷ 4 ∷ replicate 56 0 ++ word 8 ++ word 3 ++ replicate 56 0 ++ word 9 ++ word 4 ++ word 5 ++ word 6 ++ word 7
+
+layout : (bufferOf kept (record { owner = 0; late = 5; closed = 6; lowest = 7 }) ≡ kept-bytes) × (stateIn kept-bytes ≡ kept)
+unfolding bufferOf bytesOf stateIn fill
+layout = (refl, refl)
+
+-- A start on b; a buffer of another length is 50 at its length, or at 65,535, also with a broken file; a damaged file and a table's refusal write nowhere.
 camera-starts :
     (startExported file-b (replicate 144 9) ≡ record { number = 0; buffer = word 8 ++ replicate 124 0 ++ word 16 ++ word 0 ++ word 0 ++ word 16 })
     × (startExported (9 ∷ []) (7 ∷ []) ≡ record { number = 3276801; buffer = 7 ∷ [] })
     × (startExported (9 ∷ []) (replicate 145 7) ≡ record { number = 3276945; buffer = replicate 145 7 })
+    × (startExported (9 ∷ []) (replicate 65536 7) .number ≡ 3342335)
     × (startExported (9 ∷ []) (replicate 144 7) ≡ record { number = 1376256; buffer = replicate 144 7 })
     × (startExported (budgetOf 0 ++ (3 ∷ [])) (replicate 144 7) ≡ record { number = 65536; buffer = replicate 144 7 })
 unfolding bufferOf bytesOf started startOf fill formOf readFrom judged firstFaulty taskFault first round load horizon largest sum count
-camera-starts = (refl, refl, refl, refl, refl)
+camera-starts = (refl, refl, refl, refl, refl, refl)
 
--- g with task 0 done after one slot, as above: a done report is any number but 0.
+-- The loop on g with task 0 done after one slot, as above: a done report is any number but 0. On f the second step leaves what it told.
 abbrev pub file-g : List ℕ
 file-g = budgetOf 0 ++ rowOf (of 0 2 4 4) ++ rowOf (of 0 2 4 4) ++ (3 ∷ [])
 
-camera-owners : List ℕ → List ℕ → List ℕ
-camera-owners buffer [] = []
-camera-owners buffer (done ∷ more) = let e = stepExported file-g buffer done in e .number ∷ camera-owners (e .buffer) more
+abbrev file-f : List ℕ
+file-f = budgetOf 0 ++ rowOf (of 0 1 1 2) ++ rowOf (of 0 1 1 2) ++ (3 ∷ [])
 
-camera-steps : camera-owners (startExported file-g (replicate 144 9) .buffer) (0 ∷ 2 ∷ 0 ∷ 0 ∷ 0 ∷ []) ≡ 0 ∷ 1 ∷ 1 ∷ 16 ∷ 0 ∷ []
-unfolding camera-owners stateIn bufferOf bytesOf started startOf stepped after turn ownerNow choose fill bits firstStrange formOf readFrom judged firstFaulty taskFault first round load horizon largest sum count
-camera-steps = refl
+reports : ℕ → ℕ
+reports n = getD (0 ∷ 2 ∷ []) n 0
+
+camera-steps :
+    (map (λ n. stepExported file-g (handed file-g (replicate 144 9) reports n) (reports n) .number) (0 ∷ 1 ∷ 2 ∷ 3 ∷ 4 ∷ []) ≡ 0 ∷ 1 ∷ 1 ∷ 16 ∷ 0 ∷ [])
+    × (handed file-f (replicate 144 9) (λ n. 0) 2 ≡ replicate 128 0 ++ word 16 ++ word 2 ++ word 1 ++ word 1)
+unfolding reports handed stateIn bufferOf bytesOf started startOf stepped after turn ownerNow choose fill bits firstStrange formOf readFrom judged firstFaulty taskFault first round load horizon largest sum count
+camera-steps = (refl, refl)
 
 -- A state that is not g's is 8, and stays.
 camera-stranger : stepExported file-g (replicate 144 7) 0 ≡ record { number = 524288; buffer = replicate 144 7 }
