@@ -108,7 +108,7 @@ b-rule = run-rule (systemOf table-b b-ranged (λ i. 1 - i) b-reversed)
 b-worst-reversed : (w : ℕ) × Worst table-b (λ i. 1 - i) 0 w
 b-worst-reversed = worst-of table-b b-ranged 38 b-passes _ b-reversed 0 (lit< tt)
 
--- In its run a job finishes where first no work up to its key is left.
+-- In its run a job finishes where, first after its release, no work up to its key is left.
 b-finish : (j u : ℕ) → DoneFirst (jobs b-system) (servedOf b-system) 0 j u ↔ Least (λ u. (release (task table-b 0) j < u) × (left (jobs b-system) (servedOf b-system) (keyOf b-system 0 j) u ≡ 0)) u
 b-finish j = finish (jobs b-system) (servedOf b-system) (model-run b-system) 0 j (lit< tt)
 
@@ -239,7 +239,7 @@ f-late-soon : (u : ℕ) × (u ≤ horizon table-f) × T (lateAt table-f u)
 unfolding first round load sum count demand jobsIn lateAt
 f-late-soon = late-soon table-f f-ranged (lit≤ tt) 5 tt
 
--- Table c is late at 15 with a budget of 15, and so with any longer one.
+-- Table c is late at 15 with a budget of 15, and so with one of 1000.
 c-ranged : Ranged table-c
 unfolding judged firstFaulty taskFault first round load horizon largest sum count
 c-ranged = well-formed table-c (record { round = 15; load = 12; horizon = 38 }) refl .ranged

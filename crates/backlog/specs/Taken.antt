@@ -110,7 +110,7 @@ module _ (t : Table) where
   unfolding firstStrange
   none-strange d o = omega (arith, first-none (strange t d) 0 (t .count) (λ i x y h. let e = not-strange d i (o i (omega arith)) in rw e at h))
 
-  -- The slots from now to the deadline of task i's last released job.
+  -- The slots from now to the deadline of task i's open job, if it has one.
   abbrev pub dueIn : State → Bool → ℕ → ℕ
   dueIn d done i = waitReleased t d done i - (task t i .period - task t i .deadline)
 

@@ -101,7 +101,7 @@ refused-by-round :
     (judgedBy (measured 999982506 63245 1999965012) within-limit ≡ Judgement.WellFormed (measured 999982506 63245 1999965012))
     × (judgedBy (measured 1000045752 63247 2000091504) above-limit ≡ refuse 7 0)
     × (judgedBy (measured 1000000001 71598 2000000002) (tableOf (once 19019 ∷ once 52579 ∷ [])) ≡ refuse 7 0)
-    × (judgedBy (measured 1000045752 63247 2000091504) (tableOf (once 31623 ∷ of 60001 1 1 31624 ∷ [])) ≡ refuse 6 1)
+    × (judgedBy (measured 1000045752 63247 2000151505) (tableOf (once 31623 ∷ of 60001 1 1 31624 ∷ [])) ≡ refuse 6 1)
 unfolding firstFaulty taskFault first
 refused-by-round = (refl, refl, refl, refl)
 
@@ -207,8 +207,8 @@ owners : map (owner table-b (tieOrder table-b)) (0 ∷ 1 ∷ 2 ∷ 8 ∷ 9 ∷ 1
 unfolding owner ownerOf served choose
 owners = refl
 
--- The slots of one job, between two instants: job 0 of task 0; from 10 to 12 job 2 of task 1 has both slots, and job 1 none. Where none has a
--- slot, of 16 tasks too, the run says so.
+-- The slots of one job, between two instants: job 0 of task 0; from 10 to 12 job 2 of task 1 has both slots, and job 1 none. Where none of 16
+-- tasks has a slot, the run says so.
 job-given :
     (map (λ u. given (run table-b (tieOrder table-b)) 0 0 u 15) (8 ∷ 9 ∷ 13 ∷ []) ≡ 5 ∷ 4 ∷ 2 ∷ [])
     × (map (given (run table-b (tieOrder table-b)) 0 0 0) (8 ∷ 14 ∷ 15 ∷ []) ≡ 0 ∷ 4 ∷ 5 ∷ [])
@@ -310,7 +310,7 @@ wide-numbers = (refl, refl)
 
 -- ---- the dispatcher
 
--- The owners of some steps from a start, with these done reports.
+-- The owners of some steps from a state, with these done reports.
 steps : Table → State → List Bool → List ℕ
 steps t d [] = []
 steps t d (done ∷ more) = turn t d done .owner ∷ steps t (after t d done) more
@@ -391,7 +391,8 @@ at-deadline = (refl, refl)
 
 -- ---- histories
 
--- g with task 0 reported done after one slot: who owns the slots, which step is told of task 0, and the slots 1 to 4 and 2 to 4 that task 1 had.
+-- g with task 0 reported done after one slot: who owns the slots, which step is told of task 0, and how many slots task 1 had from 0, 1
+-- and 2 up to 3, and from 0 up to 1 and 2.
 once-done : ℕ → Bool
 once-done n = eqb n 1
 
@@ -476,7 +477,7 @@ told =
     let a = brief (Outcome.Tested Verdict.Undecided) (measured 15 11 38) 37 in
     ((a, refl, refl), (a, refl, refl))
 
--- The line of a refusal; the longest number of a report, a load of 16 times the largest H.
+-- The line of a refusal; a number as long as the longest of a report, 16 times the limit of H.
 refusal-lines : Printed (budgetOf 0 ++ (9 ∷ [])) (text "refused 21 at 9\n") × Printed (budgetOf 0 ++ (3 ∷ 3 ∷ [])) (text "refused 24 at 10\n") × (decimal 16000000000 ≡ text "16000000000")
 unfolding loadedFrom formOf readFrom text decimal digits
 refusal-lines = (refl, refl, refl)
