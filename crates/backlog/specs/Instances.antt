@@ -5,7 +5,7 @@ use mathlib.Core.List.{_∷_}
 use mathlib.Core.Bool.{Bool, false, true}
 use Prim.Native.Nat.{ℕ, suc, _+_, _-_, _≤_, _<_}
 use native.Mathlib.Omega.{arith}
-use lib.ListN.{replicate}
+use lib.ListN.{getD, replicate}
 use lib.Dec.{T, lit≤, lit<, eqb}
 use Rattle.model.specs.Notation.{sum, largest, count, first, last, fill, Least}
 use Rattle.values.specs.declared.Verdict.{Verdict}
@@ -50,6 +50,7 @@ use Rattle.backlog.specs.PassedWorst.{met-of-passed, worst-of}
 use Rattle.backlog.specs.Unique.{permitted-unique}
 use Rattle.backlog.specs.AnswersSay.{answers-say}
 use Rattle.backlog.specs.Taken.{Belongs, belongs-after}
+use Rattle.backlog.specs.Stepping.{past-none}
 use Rattle.backlog.specs.NeverRefused.{never-refused}
 use Rattle.backlog.specs.NoneEarly.{owned-ready}
 use Rattle.backlog.specs.NeverMore.{never-more}
@@ -208,6 +209,9 @@ g-none-after = none-after table-g g-ranged reports 1 0 0 (lit< tt) (lit≤ tt) (
 g-owned : (j : ℕ) × (release (task table-g 1) j ≤ 1) × (1 < due (task table-g 1) j)
 unfolding reports stateAt startOf after ownerNow choose fill
 g-owned = owned-ready table-g g-ranged reports 1 1 (lit< tt) refl
+
+g-past : (getD (stateAt table-g reports 5 .wait) 2 0 ≡ 0) × (getD (stateAt table-g reports 5 .left) 2 0 ≡ 0)
+g-past = past-none table-g reports 5 2 (lit≤ tt)
 
 g-never-more : had table-g reports 0 0 4 ≤ 2
 g-never-more = never-more table-g g-ranged reports 0 0 4 (lit< tt) (lit≤ tt)

@@ -20,7 +20,7 @@ use Rattle.backlog.specs.History.{History, Keeps, Goes}
 use Rattle.backlog.specs.Choice.{NoLater}
 use Rattle.backlog.specs.System.{System, releaseOf, dueOf, keyOf, jobs, dues, keys-order}
 use Rattle.backlog.specs.TableSystem.{tieSystem}
-use Rattle.backlog.specs.Taken.{left-start, chosen, owner-ready, dueIn, Serves}
+use Rattle.backlog.specs.Taken.{left-start, chosen, owner-ready, dueIn, Picks}
 use Rattle.backlog.specs.Stepping.{Fresh, Kept, finds, late-is, ready-is, left-next, sound}
 
 module _ (t : Table) (done : ℕ → Bool) where
@@ -93,7 +93,7 @@ module _ (t : Table) (r : Ranged t) (done : ℕ → Bool) where
       spent n i l (no e) = rw (left-next t r done n i (sound t r done n) l, ne-eqb (ownerAt t done n) i e) (omega arith)
       spent n i l (yes e) = rw (left-next t r done n i (sound t r done n) l, eq-eqb (ownerAt t done n) i e) (omega (arith, owner-ready t (stateAt t done n) (done n) (r .few) i l e))
 
-      slot : (n : ℕ) → Serves t (stateAt t done n) (done n) → Goes (jobs S) (ready t done) (gave t done) n
+      slot : (n : ℕ) → Picks t (stateAt t done n) (done n) → Goes (jobs S) (ready t done) (gave t done) n
       slot n (inl c) = inl (λ i l. elim (decLt 0 (ready t done n i)) [ yes p ↦ absurd (c .shut i l (lt→ltb 0 (ready t done n i) p)) | no p ↦ omega arith ])
       slot n (inr c) =
           let p : 0 < ready t done n (ownerAt t done n) = ltb→lt 0 (ready t done n (ownerAt t done n)) (c .opened) in

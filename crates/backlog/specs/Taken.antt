@@ -115,10 +115,10 @@ module _ (t : Table) where
   dueIn d done i = waitReleased t d done i - (task t i .period - task t i .deadline)
 
   -- The slot goes to the open job of the earliest deadline.
-  abbrev pub Serves : State → Bool → Type 0
-  Serves d done = Chosen (λ i. ltb 0 (leftReleased t d done i)) (dueIn d done) (tieOrder t) (t .count) (ownerNow t d done)
+  abbrev pub Picks : State → Bool → Type 0
+  Picks d done = Chosen (λ i. ltb 0 (leftReleased t d done i)) (dueIn d done) (tieOrder t) (t .count) (ownerNow t d done)
 
-  pub chosen : (d : State) (done : Bool) → t .count ≤ taskLimit → Serves d done
+  pub chosen : (d : State) (done : Bool) → t .count ≤ taskLimit → Picks d done
   unfolding ownerNow
   chosen d done few = choose-is _ _ _ (t .count) few
 
