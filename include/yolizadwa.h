@@ -1,13 +1,14 @@
 /*
  * Yolizadwa for C (from C99 on) and C++: judge a table of tasks, then give out time slot by slot.
  *
- * Three calls, in the static library that `rt staticlib yolizadwa` writes for x86-64:
+ * Four calls, in the static library that `rt staticlib yolizadwa` writes for x86-64:
  *
+ *   yolizadwa_write   writes a table file from the numbers of its tasks
  *   yolizadwa_check   judges a table file and writes its report as text
  *   yolizadwa_start   makes the dispatcher's first state for a table file
  *   yolizadwa_step    gives out one slot and makes the next state
  *
- * What holds for all three:
+ * What holds for all four:
  *   - They keep nothing between calls, allocate nothing, and may run in several threads at once on different buffers.
  *   - Of the C library they need memcpy and memset alone. The host tests hold the stack of each call to 16 KiB.
  *   - A result below 65,536 is an answer. Any other is a refusal: 65,536 x number + place. A refusal changes no byte.
@@ -65,13 +66,34 @@ enum yolizadwa_refusal {
     YOLIZADWA_SEVENTEENTH_TASK = 25,/* a seventeenth task; place: where it begins */
     YOLIZADWA_NO_END = 26,          /* the file ends after a whole record, without an end record; place: its length */
     YOLIZADWA_SHORT_REPORT = 30,    /* the report buffer has fewer than 512 bytes; place: its length */
-    YOLIZADWA_STATE_LENGTH = 50     /* the state buffer has not 144 bytes; place: its length, 65,535 if it is longer */
+    YOLIZADWA_SHORT_FILE = 31,      /* the file buffer is shorter than the file; place: its length */
+    YOLIZADWA_STATE_LENGTH = 50,    /* the state buffer has not 144 bytes; place: its length, 65,535 if it is longer */
+    YOLIZADWA_BROKEN_ROWS = 51,     /* the words of a table are no whole rows; place: their number, at most 65,535 */
+    YOLIZADWA_STRANGE_ROW = 52      /* a row of a table is no task; place: the first such row, at most 65,535 */
 };
 
 /* Whether a result is a refusal, and then its number and its place. */
 static inline int yolizadwa_refused(uint64_t result) { return result >= 65536; }
 static inline uint32_t yolizadwa_number(uint64_t result) { return (uint32_t)(result / 65536); }
 static inline uint32_t yolizadwa_place(uint64_t result) { return (uint32_t)(result % 65536); }
+
+/*
+ * Writes the table file of a table and a budget at the beginning of a buffer. The result is the file's length, at most
+ * YOLIZADWA_LONGEST_FILE; the bytes behind it stay as they were. The table is handed over as rows of YOLIZADWA_ROW_WORDS
+ * words, one row for each task: YOLIZADWA_KIND_TASK, offset, cost, deadline, period. `count` is the number of words.
+ *
+ *   const uint32_t table[] = {2, 8, 5, 7, 15,
+ *                             2, 0, 2, 2, 5};
+ *   uint8_t file[YOLIZADWA_LONGEST_FILE];
+ *   uint64_t length = yolizadwa_write(table, 10, 1000, file, sizeof file);
+ *
+ * writes the 44 bytes of a file with budget 1,000. What was written is read as the same budget and tasks, and what was
+ * read from a file that is not refused is written as the same bytes.
+ *
+ * Refusals, in this order: 51; 52; 1 to 7; 31.
+ */
+#define YOLIZADWA_ROW_WORDS 5
+uint64_t yolizadwa_write(const uint32_t *words, size_t count, uint64_t budget, uint8_t *file, size_t file_len);
 
 /*
  * Judges a table file. The result is the length of the report, 1 to 512. The report stands at the beginning of the

@@ -6,7 +6,7 @@ use mathlib.Core.Bool.{Bool, true, false}
 use Prim.Native.Nat.{ℕ, zero, suc, _-_, _/_, _%_}
 use lib.Dec.{eqb, lit≤, lit<}
 use lib.ListN.{length, getD, replicate}
-use Rattle.model.specs.Values.{Task, Table, Measure, Judgement, Verdict, Outcome, Empty, Admission, Given, refusal, verdictSaid, judgementSaid, admissionSaid, givenSaid, emptySaid, outcomeSaid}
+use Rattle.model.specs.Values.{Task, Table, Measure, Judgement, Verdict, Outcome, Empty, Admission, Given, Writing, refusal, verdictSaid, judgementSaid, admissionSaid, givenSaid, emptySaid, outcomeSaid}
 use Rattle.model.specs.Notation.{sum, largest, count, first, last, bits, fill, text, digits, decimal}
 use Rattle.model.specs.Limits.{taskLimit, longestFile}
 use Rattle.model.specs.Tasks.{taskFault, firstFaulty, round, load, horizon, measure, judgedBy, judged}
@@ -14,11 +14,12 @@ use Rattle.model.specs.Demand.{jobsIn, demand, asksTooMuch, lateAt}
 use Rattle.model.specs.Schedule.{none, given}
 use Rattle.model.specs.Run.{tieOrder, choose, ownerOf, served, owner, run, response, firstEmpty}
 use Rattle.model.specs.Verdict.{needed, lateStart, verdict, settledBy, emptyIn, brief, Permitted}
-use Rattle.model.specs.TableFile.{taskIn, tableOf, readFrom, formOf, loadedFrom}
+use Rattle.model.specs.TableFile.{taskIn, tableOf, bytesOf, taskRecords, fileOf, readFrom, formOf, loadedFrom}
 use Rattle.model.specs.Dispatcher.{State, firstStrange, startOf, started, ownerNow, after, turn, stepped}
 use Rattle.model.specs.History.{stateAt, ownerAt, reported, had, Finished}
 use Rattle.model.specs.Report.{worstLines, reportOf, refused, written, Checked, Printed}
-use Rattle.model.specs.StateBuffer.{bytesOf, bufferOf, stateIn, startExported, stepExported, handed}
+use Rattle.model.specs.StateBuffer.{bufferOf, stateIn, startExported, stepExported, handed}
+use Rattle.model.specs.Writer.{fileWritten, firstStranger, tableIn, writeExported}
 
 -- A task as document 01 writes it, and its tables.
 abbrev pub of : ℕ → ℕ → ℕ → ℕ → Task
@@ -527,3 +528,29 @@ camera-steps = (refl, refl)
 camera-stranger : stepExported file-g (replicate 144 7) 0 ≡ record { number = 524288; buffer = replicate 144 7 }
 unfolding stateIn stepped fill firstStrange formOf readFrom judged firstFaulty taskFault first round load horizon largest sum count
 camera-stranger = refl
+
+-- ---- the writer
+
+-- The file of table b is written, and bytes behind it stay; a buffer one byte short is 31 at its length, and stays; the table's refusal comes first.
+-- A budget of eight bytes has its lowest byte first.
+writes :
+    (fileWritten table-b 1000 (replicate 46 7) ≡ record { said = Writing.Bytes 44; buffer = file-b ++ (7 ∷ 7 ∷ []) })
+    × (fileWritten table-b 1000 (replicate 43 7) ≡ record { said = Writing.Refused (refusal 31 43); buffer = replicate 43 7 })
+    × (fileWritten (tableOf []) 1000 [] ≡ record { said = Writing.Refused (refusal 1 0); buffer = [] })
+    × (fileOf 578437695752307201 [] ≡ 1 ∷ 1 ∷ 2 ∷ 3 ∷ 4 ∷ 5 ∷ 6 ∷ 7 ∷ 8 ∷ 3 ∷ [])
+unfolding fileWritten judged firstFaulty taskFault first round load horizon largest sum count bytesOf taskRecords
+writes = (refl, refl, refl, refl)
+
+-- The rows of table b, and what C is told: 51 at the number of words, 52 at the first row of another kind, then the table, then 31.
+abbrev rows-b : List ℕ
+rows-b = 2 ∷ 8 ∷ 5 ∷ 7 ∷ 15 ∷ 2 ∷ 0 ∷ 2 ∷ 2 ∷ 5 ∷ []
+
+exported-writes :
+    (tableIn rows-b ≡ table-b)
+    × (writeExported rows-b 1000 (replicate 45 7) ≡ record { number = 44; buffer = file-b ++ (7 ∷ []) })
+    × (writeExported rows-b 1000 (replicate 43 7) ≡ record { number = 2031659; buffer = replicate 43 7 })
+    × (writeExported (9 ∷ rows-b) 1000 [] .number ≡ 3342347)
+    × (writeExported (rows-b ++ (1 ∷ 0 ∷ 2 ∷ 2 ∷ 5 ∷ [])) 1000 [] .number ≡ 3407874)
+    × (writeExported [] 1000 [] .number ≡ 65536)
+unfolding firstStranger tableIn fileWritten judged firstFaulty taskFault first round load horizon largest sum count fill bytesOf taskRecords
+exported-writes = (refl, refl, refl, refl, refl, refl)

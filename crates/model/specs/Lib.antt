@@ -12,4 +12,5 @@ pub mod Dispatcher
 pub mod History
 pub mod Report
 pub mod StateBuffer
+pub mod Writer
 pub mod Examples

@@ -17,6 +17,13 @@ roundLimit = 1000000000
 abbrev pub reportBytes : ℕ
 reportBytes = 512
 
+-- A number of four bytes is below this, and a budget, of eight, below its square.
+abbrev pub wordLimit : ℕ
+wordLimit = 4294967296
+
+abbrev pub budgetLimit : ℕ
+budgetLimit = wordLimit * wordLimit
+
 -- The bytes of a budget and of a task: the kind and the body. The longest legal file: a budget, every task, the kind of the end.
 abbrev pub budgetBytes : ℕ
 budgetBytes = 1 + 8

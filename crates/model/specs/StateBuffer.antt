@@ -1,22 +1,14 @@
 -- The dispatcher's state in a lent buffer, and the exported start and step of a camera's own loop.
-use Rattle.model.specs.Notation.{List, [], _∷_, _++_, cond, not, ℕ, zero, suc, _+_, _*_, _/_, _%_, min, eqb, length, replicate, fill}
+use Rattle.model.specs.Notation.{List, [], _∷_, _++_, cond, not, ℕ, zero, suc, _+_, _*_, min, eqb, length, replicate, fill}
 use Rattle.model.specs.Values.{Table, Admission, Turn, Given, refusal}
 use Rattle.model.specs.Limits.{taskLimit}
-use Rattle.model.specs.TableFile.{four, formOf}
+use Rattle.model.specs.TableFile.{four, bytesOf, formOf}
 use Rattle.model.specs.Dispatcher.{State, started, stepped}
 use Rattle.model.specs.Report.{Exported, refused}
 
 -- The bytes of a state buffer: four for each wait, for each number of slots left, and for the four words after them.
 abbrev pub stateBytes : ℕ
 stateBytes = 4 * (taskLimit + taskLimit + 4)
-
--- A word in four bytes, the lowest first; words one after another.
-abbrev pub wordBytes : ℕ → List ℕ
-wordBytes x = x % 256 ∷ x / 256 % 256 ∷ x / 65536 % 256 ∷ x / 16777216 % 256 ∷ []
-
-unfoldable pub bytesOf : List ℕ → List ℕ
-bytesOf [] = []
-bytesOf (x ∷ w) = wordBytes x ++ bytesOf w
 
 -- The waits, the slots left, which task ran last; and what the step said: the late set, its count and its lowest task.
 unfoldable pub bufferOf : State → Turn → List ℕ

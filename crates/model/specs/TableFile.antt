@@ -1,15 +1,25 @@
--- The table file: for any list of bytes the refusal, or the budget and the tasks.
-use Rattle.model.specs.Notation.{List, [], _∷_, _++_, cond, _||_, ℕ, zero, suc, _+_, _-_, _*_, ltb, leb, eqb, getD, length, replicate}
+-- The table file: for any list of bytes the refusal, or the budget and the tasks; and the file of a budget and tasks.
+use Rattle.model.specs.Notation.{List, [], _∷_, _++_, cond, _||_, ℕ, zero, suc, _+_, _-_, _*_, _/_, _%_, ltb, leb, eqb, getD, length, replicate}
 use Rattle.model.specs.Values.{Task, Table, Judgement, Admission, Loaded, refusal}
-use Rattle.model.specs.Limits.{taskLimit, budgetBytes, taskBytes}
+use Rattle.model.specs.Limits.{taskLimit, wordLimit, budgetBytes, taskBytes}
 use Rattle.model.specs.Tasks.{noTask, judged}
+
+-- The kinds of records.
+abbrev pub budgetKind : ℕ
+budgetKind = 1
+
+abbrev pub taskKind : ℕ
+taskKind = 2
+
+abbrev pub endKind : ℕ
+endKind = 3
 
 -- Four bytes, and eight, from a place on: numbers, the lowest byte first.
 abbrev pub four : List ℕ → ℕ → ℕ
 four s at = getD s at 0 + 256 * getD s (at + 1) 0 + 65536 * getD s (at + 2) 0 + 16777216 * getD s (at + 3) 0
 
 abbrev pub eight : List ℕ → ℕ → ℕ
-eight s at = four s at + 4294967296 * four s (at + 4)
+eight s at = four s at + wordLimit * four s (at + 4)
 
 -- A task's body: O, C, D, T.
 abbrev pub taskIn : List ℕ → ℕ → Task
@@ -29,14 +39,14 @@ admit b ks = record { admission = Admission.Admitted; budget = b; table = tableO
 abbrev pub whole : List ℕ → ℕ → ℕ → Loaded → Loaded
 whole s at bytes go = cond (ltb (length s) (at + bytes)) (refuseFile 20 at) go
 
--- The record at a place after the budget b and the tasks ks: kind 1 is a budget, 2 a task, which leads to `go`, 3 the end. A kind is known,
--- or 21; then allowed here, or 23 or 25; then its body is whole, or 20. Where the file stops it is 26. Whatever follows the end is 24.
+-- The record at a place after the budget b and the tasks ks; a task leads to `go`. A kind is known, or 21; then allowed here, or 23 or 25;
+-- then its body is whole, or 20. Where the file stops it is 26. Whatever follows the end is 24.
 abbrev pub readRecord : List ℕ → ℕ → List Task → ℕ → Loaded → Loaded
 readRecord s b ks at go =
     cond (leb (length s) at) (refuseFile 26 (length s))
-    (cond (eqb (getD s at 0) 1) (refuseFile 23 at)
-    (cond (eqb (getD s at 0) 2) go
-    (cond (eqb (getD s at 0) 3) (cond (ltb (at + 1) (length s)) (refuseFile 24 (at + 1)) (admit b ks)) (refuseFile 21 at))))
+    (cond (eqb (getD s at 0) budgetKind) (refuseFile 23 at)
+    (cond (eqb (getD s at 0) taskKind) go
+    (cond (eqb (getD s at 0) endKind) (cond (ltb (at + 1) (length s)) (refuseFile 24 (at + 1)) (admit b ks)) (refuseFile 21 at))))
 
 -- The records after the budget, with room for this many more tasks.
 unfoldable pub readFrom : List ℕ → ℕ → List Task → ℕ → ℕ → Loaded
@@ -48,8 +58,8 @@ readFrom s b ks (suc room) at =
 unfoldable pub formOf : List ℕ → Loaded
 formOf s =
     cond (eqb (length s) 0) (refuseFile 22 0)
-    (cond (eqb (getD s 0 0) 1) (whole s 0 budgetBytes (readFrom s (eight s 1) [] taskLimit budgetBytes))
-    (cond (eqb (getD s 0 0) 2 || eqb (getD s 0 0) 3) (refuseFile 22 0) (refuseFile 21 0)))
+    (cond (eqb (getD s 0 0) budgetKind) (whole s 0 budgetBytes (readFrom s (eight s 1) [] taskLimit budgetBytes))
+    (cond (eqb (getD s 0 0) taskKind || eqb (getD s 0 0) endKind) (refuseFile 22 0) (refuseFile 21 0)))
 
 -- The table of a file is judged only after the file's form is good.
 abbrev pub judgedTable : Loaded → Judgement → Loaded
@@ -62,3 +72,26 @@ judgedForm l Admission.Admitted = judgedTable l (judged (l .table))
 
 unfoldable pub loadedFrom : List ℕ → Loaded
 loadedFrom s = judgedForm (formOf s) (formOf s .admission)
+
+-- A word in four bytes, the lowest first; words one after another.
+abbrev pub wordBytes : ℕ → List ℕ
+wordBytes x = x % 256 ∷ x / 256 % 256 ∷ x / 65536 % 256 ∷ x / 16777216 % 256 ∷ []
+
+unfoldable pub bytesOf : List ℕ → List ℕ
+bytesOf [] = []
+bytesOf (x ∷ w) = wordBytes x ++ bytesOf w
+
+-- The record of a budget, its lower word first; of a task: O, C, D, T; of tasks, in their order.
+abbrev pub budgetRecord : ℕ → List ℕ
+budgetRecord b = budgetKind ∷ bytesOf (b % wordLimit ∷ b / wordLimit ∷ [])
+
+abbrev pub taskRecord : Task → List ℕ
+taskRecord k = taskKind ∷ bytesOf (k .offset ∷ k .cost ∷ k .deadline ∷ k .period ∷ [])
+
+unfoldable pub taskRecords : List Task → List ℕ
+taskRecords [] = []
+taskRecords (k ∷ ks) = taskRecord k ++ taskRecords ks
+
+-- The file of a budget and tasks: the budget, the tasks, the end.
+abbrev pub fileOf : ℕ → List Task → List ℕ
+fileOf b ks = budgetRecord b ++ (taskRecords ks ++ (endKind ∷ []))

@@ -11,6 +11,7 @@ pub use Rattle.values.specs.declared.Empty.{Empty}
 pub use Rattle.values.specs.declared.Answer.{Answer}
 pub use Rattle.values.specs.declared.Admission.{Admission}
 pub use Rattle.values.specs.declared.Loaded.{Loaded}
+pub use Rattle.values.specs.declared.Writing.{Writing}
 pub use Rattle.values.specs.declared.Turn.{Turn}
 pub use Rattle.values.specs.declared.Given.{Given}
 
@@ -42,10 +43,14 @@ abbrev pub judgementSaid : Judgement → List ℕ
 judgementSaid (Judgement.Refused r) = refusalSaid r
 judgementSaid (Judgement.WellFormed m) = 0 ∷ m .round ∷ m .load ∷ m .horizon ∷ []
 
--- Of a file or a start: a refusal, or 0. Of a step: a refusal, or 0 with the owner, the late set, its count and its lowest task.
+-- Of a file or a start: a refusal, or 0. Of a writer: a refusal, or 0 with the bytes written. Of a step: a refusal, or 0 with the owner, the late set, its count and its lowest task.
 abbrev pub admissionSaid : Admission → List ℕ
 admissionSaid (Admission.Refused r) = refusalSaid r
 admissionSaid Admission.Admitted = 0 ∷ []
+
+abbrev pub writingSaid : Writing → List ℕ
+writingSaid (Writing.Refused r) = refusalSaid r
+writingSaid (Writing.Bytes n) = 0 ∷ n ∷ []
 
 abbrev pub givenSaid : Given → List ℕ
 givenSaid (Given.Refused r) = refusalSaid r

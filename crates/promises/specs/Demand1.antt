@@ -22,11 +22,11 @@ use Rattle.values.specs.declared.Admission.{Admission}
 use Rattle.values.specs.declared.Given.{Given}
 use Rattle.values.specs.declared.Answer.{Answer}
 use Rattle.values.specs.declared.Loaded.{Loaded}
-use Rattle.model.specs.Limits.{taskLimit, slotLimit, roundLimit, reportBytes, budgetBytes, taskBytes, longestFile}
+use Rattle.model.specs.Limits.{taskLimit, slotLimit, roundLimit, reportBytes, budgetLimit, budgetBytes, taskBytes, longestFile}
 use Rattle.model.specs.Values.{refusal, refusalSaid, judgementSaid, admissionSaid, givenSaid, outcomeSaid}
 use Rattle.model.specs.Tasks.{task, round, measure, judged, load, horizon}
 use Rattle.model.specs.Verdict.{verdict, brief, Permitted}
-use Rattle.model.specs.TableFile.{admit, formOf, loadedFrom}
+use Rattle.model.specs.TableFile.{admit, fileOf, formOf, loadedFrom}
 use Rattle.model.specs.Dispatcher as model
 use Rattle.model.specs.Dispatcher.{State, firstStrange, lastStrange, turn, after, stepJudged, started, stepped, isLate, ownerNow}
 use Rattle.dispatch.specs.declared.Dispatcher.{Dispatcher}
@@ -48,7 +48,7 @@ use Rattle.tablefile.specs.Said.{recordSaid, numbersAt, Has, record-said}
 use Rattle.tablefile.specs.Admitted.{admitted}
 use Rattle.tablefile.specs.Longer.{first-form, first-bytes}
 use Rattle.tablefile.specs.Refused.{AdmissionTellable, load-tellable}
-use Rattle.tablefile.specs.Written.{fileOf, budgetLimit, AllFit, form-length, written-read, read-written}
+use Rattle.tablefile.specs.Written.{AllFit, form-length, written-read, read-written}
 use Rattle.report.specs.Permitted.{Fitting, permitted-fits}
 use Rattle.statebuffer.specs.Told.{Apart}
 use Rattle.promises.specs.Demand2.{answer-exactly}
@@ -204,11 +204,11 @@ pub started-said : (t : Table) (m : Measure) → judged t ≡ Judgement.WellForm
 unfolding started
 started-said t m well = rw well refl
 
--- What the plain writer `fileOf` writes of any budget of eight bytes and of at most 16 tasks, each number below 2^32, has a good form and holds these.
+-- The file of any budget of eight bytes and of at most 16 tasks, each number below 2^32, has a good form and holds these.
 pub written-is-read : (b : ℕ) (ks : List Task) → b < budgetLimit → AllFit ks → length ks ≤ taskLimit → formOf (fileOf b ks) ≡ admit b ks
 written-is-read = written-read
 
--- A list of bytes whose form is good is what this writer writes of its budget and of the tasks of its table: there is no other good form.
+-- A list of bytes whose form is good is the file of its budget and of the tasks of its table: there is no other good form.
 pub read-was-written : (file : List ℕ) → ((i : ℕ) → getD file i 0 < 256) → formOf file .admission ≡ Admission.Admitted
     → (formOf file .budget < budgetLimit)
     × ((ks : List Task) × (length ks ≤ taskLimit) × AllFit ks × (file ≡ fileOf (formOf file .budget) ks) × (formOf file ≡ admit (formOf file .budget) ks))

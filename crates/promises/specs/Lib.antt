@@ -4,3 +4,4 @@ pub mod Demand2
 pub mod Demand3
 pub mod Tables
 pub mod Camera
+pub mod Writer

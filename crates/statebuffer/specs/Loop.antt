@@ -14,7 +14,7 @@ use Rattle.values.specs.declared.Measure.{Measure}
 use Rattle.values.specs.declared.Judgement.{Judgement}
 use Rattle.values.specs.declared.Admission.{Admission}
 use Rattle.values.specs.declared.Turn.{Turn}
-use Rattle.model.specs.Limits.{taskLimit}
+use Rattle.model.specs.Limits.{taskLimit, wordLimit}
 use Rattle.model.specs.Tasks.{judged}
 use Rattle.model.specs.TableFile.{formOf}
 use Rattle.model.specs.Dispatcher.{started, stepped, turn}
@@ -27,7 +27,6 @@ use Rattle.wellformed.specs.WellFormed.{well-formed}
 use Rattle.backlog.specs.Taken.{known}
 use Rattle.backlog.specs.Stepping.{sound, past-none}
 use Rattle.backlog.specs.NeverRefused.{never-refused}
-use Rattle.tablefile.specs.Word.{wordLimit}
 use Rattle.statebuffer.specs.RoundTrip.{Fits, state-back, buffer-size}
 
 -- Every state of a history fits its buffer.

@@ -6,13 +6,13 @@ use native.Mathlib.Omega.{arith}
 use lib.ListN.{length, getD, replicate, length-append, length-replicate, List·getD-append}
 use lib.Seq.{ext-getD, getD-append-add}
 use Rattle.values.specs.declared.Turn.{Turn}
-use Rattle.model.specs.Limits.{taskLimit}
-use Rattle.model.specs.TableFile.{four}
+use Rattle.model.specs.Limits.{taskLimit, wordLimit}
+use Rattle.model.specs.TableFile.{four, wordBytes, bytesOf}
 use Rattle.model.specs.Dispatcher.{State}
-use Rattle.model.specs.StateBuffer.{stateBytes, wordBytes, bytesOf, bufferOf, wordsIn, stateIn}
+use Rattle.model.specs.StateBuffer.{stateBytes, bufferOf, wordsIn, stateIn}
 use Rattle.counting.specs.Fill.{fill-length, fill-passed}
-use Rattle.tablefile.specs.Word.{wordLimit, word-back}
-use Rattle.statebuffer.specs.Words.{bytes-append, bytes-length}
+use Rattle.words.specs.Word.{word-back}
+use Rattle.words.specs.Bytes.{bytes-append, bytes-length}
 
 -- Behind a word the next one is read four bytes further on.
 behind : (a b c d : ℕ) (s : List ℕ) (at : ℕ) → getD (a ∷ b ∷ c ∷ d ∷ s) (4 + at) 0 ≡ getD s at 0

@@ -1,9 +1,10 @@
 // The dispatcher's state in a lent buffer: words of four bytes, the lowest byte first.
 ghost use mathlib.Core.Path.{_≡_};
-ghost use Prim.Native.Nat.{_+_, _*_, _%_, _≤_};
+ghost use Prim.Native.Nat.{_+_, _*_, _≤_};
 ghost use lib.ListN.{length};
 ghost use Rattle.model.specs.Limits.{taskLimit};
-ghost use Rattle.model.specs.StateBuffer.{stateBytes, wordBytes, bytesOf, bufferOf, wordsIn, stateIn};
+ghost use Rattle.model.specs.TableFile.{bytesOf};
+ghost use Rattle.model.specs.StateBuffer.{stateBytes, bufferOf, wordsIn, stateIn};
 ghost use Rattle.counting.specs.Put.{Put};
 ghost use Rattle.dispatch.specs.State.{stateOf};
 use dispatch::Dispatcher;
@@ -22,7 +23,7 @@ pub fn state_in(buffer: &[u8]) -> Dispatcher
     Dispatcher {
         wait,
         left,
-        last: tablefile::word_at(buffer, 2 * TASK_LIMIT * WORD_BYTES),
+        last: words::word_at(buffer, 2 * TASK_LIMIT * WORD_BYTES),
     }
 }
 
@@ -32,7 +33,7 @@ fn words_in(buffer: &[u8], at: usize) -> Numbers
 {
     let mut words = [0u32; TASK_LIMIT];
     for i in 0..TASK_LIMIT {
-        words[i] = tablefile::word_at(buffer, at + WORD_BYTES * i);
+        words[i] = words::word_at(buffer, at + WORD_BYTES * i);
     }
     words
 }
@@ -45,10 +46,10 @@ pub fn write_state(buffer: &mut [u8], d: Dispatcher, turn: Turn)
     let left = d.left;
     let at = put_words(buffer, 0, wait);
     let at = put_words(buffer, at, left);
-    let at = put_word(buffer, at, d.last);
-    let at = put_word(buffer, at, turn.late);
-    let at = put_word(buffer, at, turn.closed);
-    put_word(buffer, at, turn.lowest);
+    let at = words::put_word(buffer, at, d.last);
+    let at = words::put_word(buffer, at, turn.late);
+    let at = words::put_word(buffer, at, turn.closed);
+    words::put_word(buffer, at, turn.lowest);
 }
 
 fn put_words(buffer: &mut [u8], at: usize, words: Numbers) -> usize
@@ -58,25 +59,7 @@ fn put_words(buffer: &mut [u8], at: usize, words: Numbers) -> usize
 {
     let mut next = at;
     for i in 0..TASK_LIMIT {
-        next = put_word(buffer, next, words[i]);
+        next = words::put_word(buffer, next, words[i]);
     }
     next
-}
-
-fn put_word(buffer: &mut [u8], at: usize, word: u32) -> usize
-    requires { ⌜ at + 4 ≤ length (now buffer) ⌝ }
-    ensures { λ r. ⌜ Put (wordBytes word) at (now (buffer .entry)) (now (buffer .exit)) r ⌝ }
-    ensures { λ r. ⌜ r ≡ at + 4 ⌝ }
-{
-    buffer[at] = low_byte(word);
-    buffer[at + 1] = low_byte(word / 256);
-    buffer[at + 2] = low_byte(word / 65536);
-    buffer[at + 3] = low_byte(word / 16777216);
-    at + 4
-}
-
-fn low_byte(word: u32) -> u8
-    ensures { λ r. ⌜ r ≡ word % 256 ⌝ }
-{
-    (word % 256) as u8
 }

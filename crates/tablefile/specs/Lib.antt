@@ -1,7 +1,6 @@
 -- What reading at a place comes to, and the laws by which reading on and on comes to the form of the file.
 pub mod Reading
 pub mod Part
-pub mod Word
 pub mod Said
 pub mod Built
 pub mod Steps

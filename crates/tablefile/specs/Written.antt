@@ -1,4 +1,4 @@
--- The reader takes exactly what a plain writer writes: a budget, tasks in their order, the end.
+-- The reader takes exactly the files of a budget and tasks: a budget, tasks in their order, the end.
 use mathlib.Core.Path.{_≡_, refl, sym, ap, _∙_}
 use mathlib.Core.Bool.{Bool, true, false, cond, _||_}
 use mathlib.Core.List.{List, [], _∷_, _++_, append-nil}
@@ -12,32 +12,11 @@ use lib.Seq.{append-snoc, drop-cons, getD-drop, drop-drop}
 use Rattle.values.specs.declared.Task.{Task}
 use Rattle.values.specs.declared.Admission.{Admission}
 use Rattle.values.specs.declared.Loaded.{Loaded}
-use Rattle.model.specs.Limits.{taskLimit, budgetBytes, taskBytes}
+use Rattle.model.specs.Limits.{taskLimit, wordLimit, budgetLimit, budgetBytes, taskBytes}
 use Rattle.model.specs.Tasks.{noTask}
-use Rattle.model.specs.TableFile.{four, eight, taskIn, refuseFile, admit, whole, readRecord, readFrom, formOf}
-use Rattle.model.specs.StateBuffer.{bytesOf}
-use Rattle.model.specs.Examples.{of, file-b}
+use Rattle.model.specs.TableFile.{endKind, four, eight, taskIn, refuseFile, admit, whole, readRecord, readFrom, formOf, bytesOf, taskRecord, taskRecords, fileOf}
 use Rattle.tablefile.specs.Part.{task-part}
-use Rattle.tablefile.specs.Word.{wordLimit, word-back, word-fits, word-here}
-
--- ---- The writer
-
--- A task's record: its kind, then O, C, D and T.
-abbrev pub taskRecord : Task → List ℕ
-taskRecord k = 2 ∷ bytesOf (k .offset ∷ k .cost ∷ k .deadline ∷ k .period ∷ [])
-
--- The records of these tasks in their order, then the end.
-abbrev pub taskRecords : List Task → List ℕ
-taskRecords [] = 3 ∷ []
-taskRecords (k ∷ ks) = taskRecord k ++ taskRecords ks
-
--- The file of a budget and tasks: the kind of a budget, its lower and its upper word, then these records.
-abbrev pub fileOf : ℕ → List Task → List ℕ
-fileOf b ks = 1 ∷ bytesOf (b % wordLimit ∷ b / wordLimit ∷ []) ++ taskRecords ks
-
--- A budget fits eight bytes.
-abbrev pub budgetLimit : ℕ
-budgetLimit = wordLimit * wordLimit
+use Rattle.words.specs.Word.{word-back, word-fits, word-here}
 
 -- Each number of a task fits a word; and so for each of these tasks.
 abbrev pub Fits32 : Task → Type 0
@@ -162,12 +141,12 @@ module _ (s : List ℕ) (at : ℕ) where
   behind : (n : ℕ) {r : List ℕ} → drop at s ≡ r → drop (at + n) s ≡ drop n r
   behind n e = sym (drop-drop n at s) ∙ ap (λ (r : List ℕ). drop n r) e
 
-written-stands : (s : List ℕ) (at : ℕ) (ks : List Task) → AllFit ks → drop at s ≡ taskRecords ks → Stand s at ks
-unfolding bytesOf
+written-stands : (s : List ℕ) (at : ℕ) (ks : List Task) → AllFit ks → drop at s ≡ taskRecords ks ++ (endKind ∷ []) → Stand s at ks
+unfolding bytesOf taskRecords
 written-stands s at [] fits e = (kind-at s at e, omega (arith, length-drop at s, ap (λ (r : List ℕ). length r) e))
 written-stands s at (k ∷ ks) fits e =
-    let body : taskIn s (at + 1) ≡ taskIn (drop 1 (taskRecords (k ∷ ks))) 0 = sym (task-part s (at + 1)) ∙ ap (λ (r : List ℕ). taskIn r 0) (behind s at 1 e) in
-    let task : taskIn s (at + 1) ≡ k = body ∙ task-back k (taskRecords ks) (fits 0 (omega arith)) in
+    let body : taskIn s (at + 1) ≡ taskIn (drop 1 (taskRecords (k ∷ ks) ++ (endKind ∷ []))) 0 = sym (task-part s (at + 1)) ∙ ap (λ (r : List ℕ). taskIn r 0) (behind s at 1 e) in
+    let task : taskIn s (at + 1) ≡ k = body ∙ task-back k (taskRecords ks ++ (endKind ∷ [])) (fits 0 (omega arith)) in
     (kind-at s at e, task, written-stands s (at + taskBytes) ks (λ i l. fits (suc i) (omega arith)) (behind s at taskBytes e))
 
 pub written-read : (b : ℕ) (ks : List Task) → b < budgetLimit → AllFit ks → length ks ≤ taskLimit → formOf (fileOf b ks) ≡ admit b ks
@@ -198,7 +177,8 @@ module _ (s : List ℕ) (bytes : (i : ℕ) → getD s i 0 < 256) where
       let period = word-here s bytes (at + 1 + 12) (at + taskBytes) (omega arith) (omega arith) in
       rw (drop-cons s at 0 (omega arith), kind, body, offset, cost, deadline, period)
 
-  stand-written : (at : ℕ) (ks : List Task) → Stand s at ks → drop at s ≡ taskRecords ks
+  stand-written : (at : ℕ) (ks : List Task) → Stand s at ks → drop at s ≡ taskRecords ks ++ (endKind ∷ [])
+  unfolding bytesOf taskRecords
   stand-written at [] (kind, stop) =
       let none : drop (suc at) s ≡ [] = drop-of-length-le s {i = suc at} (omega arith) in
       rw (drop-cons s at 0 (omega arith), kind, none)
@@ -226,8 +206,3 @@ module _ (s : List ℕ) (bytes : (i : ℕ) → getD s i 0 < 256) where
       let (kind, (ks, few, stand, same)) = form-holds s h in
       let limit : eight s 1 < budgetLimit = omega (arith, word-fits s bytes 1, word-fits s bytes (1 + 4)) in
       rw same (limit, (ks, few, stand-fits budgetBytes ks stand, file-written ks kind stand, refl))
-
--- The model's file of table b is what the writer writes of its budget and tasks.
-b-written : fileOf 1000 (of 8 5 7 15 ∷ of 0 2 2 5 ∷ []) ≡ file-b
-unfolding bytesOf
-b-written = refl

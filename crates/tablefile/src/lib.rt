@@ -11,7 +11,7 @@ ghost use mathlib.Core.List.{[]};
 ghost use Prim.Native.Nat.{_+_, _<_, _≤_};
 ghost use lib.ListN.{length};
 ghost use Rattle.model.specs.Limits.{taskLimit, longestFile};
-ghost use Rattle.model.specs.TableFile.{four, eight, taskIn, tableOf, refuseFile, formOf, loadedFrom};
+ghost use Rattle.model.specs.TableFile.{eight, taskIn, tableOf, refuseFile, formOf, loadedFrom};
 ghost use Rattle.tablefile.specs.Reading.{budgetBody, taskBody, refused, budgetReading, taskReading, endReading, readingAt};
 ghost use Rattle.tablefile.specs.Built.{withTask};
 
@@ -56,34 +56,18 @@ pub enum Reading {
     Whole(Record),
 }
 
-// A cast by a function of its own: who reads a byte or a word has nothing to show of its width.
-fn to_u32(x: u8) -> u32
-    ensures { λ r. ⌜ (r ≡ x) × (x < 256) ⌝ }
-{
-    x as u32
-}
-
+// A cast by a function of its own: who reads a word has nothing to show of its width.
 fn to_u64(x: u32) -> u64
     ensures { λ r. ⌜ (r ≡ x) × (x < 4294967296) ⌝ }
 {
     x as u64
 }
 
-pub fn word_at(s: &[u8], at: usize) -> u32
-    requires { ⌜ at + 4 ≤ length (now s) ⌝ }
-    ensures { λ r. ⌜ r ≡ four (now (s .entry)) at ⌝ }
-{
-    to_u32(s[at])
-        + 256 * to_u32(s[at + 1])
-        + 65536 * to_u32(s[at + 2])
-        + 16777216 * to_u32(s[at + 3])
-}
-
 fn budget_in(body: &[u8]) -> u64
     requires { ⌜ budgetBody ≤ length (now body) ⌝ }
     ensures { λ r. ⌜ r ≡ eight (now (body .entry)) 0 ⌝ }
 {
-    to_u64(word_at(body, 0)) + 4294967296 * to_u64(word_at(body, 4))
+    to_u64(words::word_at(body, 0)) + 4294967296 * to_u64(words::word_at(body, 4))
 }
 
 fn task_in(body: &[u8]) -> Task
@@ -91,10 +75,10 @@ fn task_in(body: &[u8]) -> Task
     ensures { λ r. ⌜ r ≡ taskIn (now (body .entry)) 0 ⌝ }
 {
     Task {
-        offset: word_at(body, 0),
-        cost: word_at(body, 4),
-        deadline: word_at(body, 8),
-        period: word_at(body, 12),
+        offset: words::word_at(body, 0),
+        cost: words::word_at(body, 4),
+        deadline: words::word_at(body, 8),
+        period: words::word_at(body, 12),
     }
 }
 

@@ -190,6 +190,6 @@ fn say_words(state: State) {
 
 fn say_word(state: State, n: usize) {
     if n < WORDS {
-        say::small(tablefile::word_at(&state, 4 * n));
+        say::small(words::word_at(&state, 4 * n));
     }
 }

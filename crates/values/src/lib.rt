@@ -88,6 +88,12 @@ pub struct Loaded {
     pub table: Table,
 }
 
+// What a writer into a lent buffer says: a refusal, or how many bytes it wrote at the buffer's front.
+pub enum Writing {
+    Refused(Refusal),
+    Bytes(usize),
+}
+
 // What a step says: the task that owns the slot, or 16; the tasks closed late as a set of bits, how many they are, and
 // the lowest of them, or 16.
 pub struct Turn {

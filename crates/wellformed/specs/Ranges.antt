@@ -3,14 +3,15 @@ use mathlib.Core.Path.{_≡_, refl}
 use mathlib.Core.Logic.{_↔_, _≢_}
 use mathlib.Core.Bool.{Bool, true, false, cond, not}
 use Prim.Native.Nat.{ℕ, suc, _≤_, _<_}
-use native.Mathlib.Decide.{ℕ-discrete}
+use native.Mathlib.Decide.{ℕ-discrete, decLe}
 use native.Mathlib.Omega.{arith}
 use borrow.Author.Tests.{ne-eqb}
 use lib.Dec.{T, leb, eqb, leb→le, le→leb}
+use lib.ListN.{length, List·getD-eq-default}
 use Rattle.values.specs.declared.Task.{Task}
 use Rattle.values.specs.declared.Table.{Table}
 use Rattle.model.specs.Limits.{taskLimit, slotLimit}
-use Rattle.model.specs.Tasks.{task, within, taskFault, firstFaulty}
+use Rattle.model.specs.Tasks.{noTask, task, within, taskFault, firstFaulty}
 use Rattle.counting.specs.Count.{and-iff}
 use Rattle.counting.specs.Search.{first-before, first-none}
 
@@ -29,6 +30,15 @@ pub record Ranged (t : Table) : Type 0 where
   pub some : 0 < t .count
   pub few : t .count ≤ taskLimit
   pub each : (i : ℕ) → i < t .count → InRange (task t i)
+
+-- Such a table holds every task that it counts: what stands past the end of a list is no task in range.
+pub holds-all : (t : Table) → Ranged t → t .count ≤ length (t .tasks)
+holds-all t r = elim (decLe (t .count) (length (t .tasks))) [
+  | yes h ↦ h
+  | no h ↦
+      let past : task t (length (t .tasks)) ≡ noTask = List·getD-eq-default (t .tasks) noTask {n = length (t .tasks)} (omega arith) in
+      absurd (omega (arith, rw past at (r .each (length (t .tasks)) (omega arith) .period-pos)))
+]
 
 -- The test of a range, by its two ends.
 within-iff : (a b x : ℕ) → T (within a b x) ↔ ((a ≤ x) × (x ≤ b))

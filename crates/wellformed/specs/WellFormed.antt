@@ -1,11 +1,12 @@
 -- What holds of a table that is judged well-formed.
-use mathlib.Core.Path.{_≡_, refl, sym, ap, _∙_}
+use mathlib.Core.Path.{_≡_, refl, sym, ap, subst, _∙_}
 use mathlib.Core.Logic.{_↔_}
 use mathlib.Core.Bool.{Bool, true, false, cond}
-use Prim.Native.Nat.{ℕ, _+_, _*_, _≤_, _<_}
+use Prim.Native.Nat.{ℕ, _+_, _*_, _≤_, _<_, _∣_}
 use native.Mathlib.Omega.{arith}
 use lib.Dec.{eqb, ltb}
 use borrow.Author.Tests.{eqb-false, ltb-false, ne-eqb, le-ltb, lt-ltb}
+use Rattle.values.specs.declared.Task.{Task}
 use Rattle.values.specs.declared.Table.{Table}
 use Rattle.values.specs.declared.Measure.{Measure}
 use Rattle.values.specs.declared.Judgement.{Judgement}
@@ -14,7 +15,7 @@ use Rattle.model.specs.Limits.{taskLimit, slotLimit, roundLimit}
 use Rattle.model.specs.Tasks.{task, taskFault, firstFaulty, round, load, horizon, measure, judged}
 use Rattle.counting.specs.Search.{le-largest, largest-le}
 use Rattle.wellformed.specs.Ranges.{Ranged, ranged, none-faulty}
-use Rattle.wellformed.specs.Round.{round-pos}
+use Rattle.wellformed.specs.Round.{round-pos, period-divides, round-least}
 
 -- The largest horizon of a well-formed table.
 abbrev pub horizonLimit : ℕ
@@ -85,3 +86,11 @@ well-formed t m e =
       offset-le = offset-bound t;
       horizon-le = horizon-bound t r h;
     }
+
+-- Tables with the same tasks are well-formed together, whatever stands behind their tasks.
+pub same-well-formed : (t u : Table) (m : Measure) → u .count ≡ t .count → ((i : ℕ) → i < t .count → task u i ≡ task t i) → judged t ≡ Judgement.WellFormed m → judged u ≡ Judgement.WellFormed (measure u)
+same-well-formed t u m size same well =
+    let (r, h, _) = judged-iff t m .0 well in
+    let u-ranged : Ranged u = record { some = omega (arith, r .some); few = omega (arith, r .few); each = λ i l. rw (same i (omega arith)) (r .each i (omega arith)) } in
+    let le : round u ≤ round t = round-least u u-ranged (round t) (round-pos t r) (λ i l. subst (λ (k : Task). k .period ∣ round t) (sym (same i (omega arith))) (period-divides t r i (omega arith))) in
+    judged-of u u-ranged (omega arith)

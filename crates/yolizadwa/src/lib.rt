@@ -1,4 +1,4 @@
-// The exported calls: the check of a table file into a report buffer, and the start and the step of a camera's own loop.
+// The exported calls: the check of a table file into a report buffer, the writer of one, and the start and the step of a camera's own loop.
 ghost use mathlib.Core.Path.{_≡_};
 ghost use mathlib.Core.Bool.{not};
 ghost use Prim.Native.Nat.{_+_, _*_, _<_, _≤_, min};
@@ -9,6 +9,7 @@ ghost use Rattle.model.specs.TableFile.{loadedFrom};
 ghost use Rattle.model.specs.Dispatcher.{started, stepped};
 ghost use Rattle.model.specs.Report.{Checked};
 ghost use Rattle.model.specs.StateBuffer.{stateBytes, stateIn, quiet, startWritten, stepWritten, startExported, stepExported};
+ghost use Rattle.model.specs.Writer.{fileWritten, fillTold, writeExported};
 ghost use Rattle.report.specs.Put.{exported};
 ghost use Rattle.yolizadwa.specs.Outcomes.{FileExported, exportOf};
 use dispatch::Dispatcher;
@@ -22,10 +23,15 @@ use values::Refusal;
 use values::STATE_BYTES;
 use values::Table;
 use values::Turn;
+use values::Writing;
 
 const SHORT_BUFFER: u32 = 30;
 
 const STRANGE_BUFFER: u32 = 50;
+
+const BROKEN_ROWS: u32 = 51;
+
+const STRANGE_ROW: u32 = 52;
 
 const LARGEST_PLACE: usize = 65535;
 
@@ -209,4 +215,37 @@ pub extern "C" fn yolizadwa_step(file: &[u8], state: &mut [u8], done: u32) -> u6
         return refused_state(state.len());
     }
     step_file(file, state, done)
+}
+
+fn refused_at(number: u32, place: usize) -> u64
+    ensures { λ r. ⌜ r ≡ 65536 * number + min place 65535 ⌝ }
+{
+    refused(Refusal {
+        number,
+        place: place_of(place),
+    })
+}
+
+fn write_table(table: Table, budget: u64, file: &mut [u8]) -> u64
+    ensures { λ r. ⌜ exported r (now (file .exit)) ≡ (let f = fileWritten table budget (now (file .entry)) in fillTold (f .buffer) (f .said)) ⌝ }
+{
+    match writer::write(table, budget, file) {
+        Writing::Refused(why) => refused(why),
+        Writing::Bytes(bytes) => bytes as u64,
+    }
+}
+
+// Any words, budget and buffer: the rows are looked at before the table, the buffer's length last.
+#[no_mangle]
+pub extern "C" fn yolizadwa_write(words: &[u32], budget: u64, file: &mut [u8]) -> u64
+    ensures { λ r. ⌜ record { number = r; buffer = now (file .exit) } ≡ writeExported (now (words .entry)) budget (now (file .entry)) ⌝ }
+{
+    if rows::broken(words.len()) {
+        return refused_at(BROKEN_ROWS, words.len());
+    }
+    let stranger = rows::first_stranger(words);
+    if stranger < rows::count(words.len()) {
+        return refused_at(STRANGE_ROW, stranger);
+    }
+    write_table(rows::table_in(words), budget, file)
 }

@@ -6,9 +6,9 @@ use lib.ListN.{length, take}
 use lib.Seq.{take-length}
 use borrow.Author.Needs.{needs}
 use Rattle.model.specs.Limits.{taskLimit}
-use Rattle.model.specs.StateBuffer.{bytesOf}
+use Rattle.model.specs.TableFile.{bytesOf}
 use Rattle.counting.specs.Put.{Put, nothing}
-use Rattle.statebuffer.specs.Words.{one-more}
+use Rattle.words.specs.Bytes.{one-more}
 use Rattle.statebuffer.proofs.put_words.Statement.{statement}
 use Rattle.statebuffer.proofs.put_words.Tie as tie
 

@@ -5,12 +5,8 @@ use Prim.Native.Nat.{ℕ, suc, _+_, _*_, _/_, _%_, _≤_, _<_}
 use native.Mathlib.Omega.{arith}
 use lib.ListN.{length, getD, drop}
 use lib.Seq.{drop-cons}
-use Rattle.model.specs.TableFile.{four}
-use Rattle.model.specs.StateBuffer.{wordBytes}
-
--- A word fits four bytes.
-abbrev pub wordLimit : ℕ
-wordLimit = 4294967296
+use Rattle.model.specs.Limits.{wordLimit}
+use Rattle.model.specs.TableFile.{four, wordBytes}
 
 pub word-back : (x : ℕ) → x < wordLimit → x % 256 + 256 * (x / 256 % 256) + 65536 * (x / 65536 % 256) + 16777216 * (x / 16777216 % 256) ≡ x
 word-back x h =

@@ -3,9 +3,9 @@ use mathlib.Core.Path.{refl}
 use native.Mathlib.Omega.{arith}
 use borrow.Author.Needs.{needs}
 use lib.ListN.{length-set}
-use Rattle.statebuffer.specs.Words.{four-put}
-use Rattle.statebuffer.proofs.put_word.Statement.{statement}
-use Rattle.statebuffer.proofs.put_word.Tie as tie
+use Rattle.words.specs.Bytes.{four-put}
+use Rattle.words.proofs.put_word.Statement.{statement}
+use Rattle.words.proofs.put_word.Tie as tie
 
 low-byte-requires : tie.Need-low-byte-requires
 low-byte-requires c κs = search needs

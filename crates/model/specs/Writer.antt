@@ -1,0 +1,68 @@
+-- The writer: a table and a budget as a table file in a lent buffer, and the exported call.
+use Rattle.model.specs.Notation.{List, _++_, cond, not, ℕ, _+_, _*_, _/_, _%_, min, ltb, eqb, getD, length, replicate, take, drop, first, fill}
+use Rattle.model.specs.Values.{Task, Table, Judgement, Writing, refusal}
+use Rattle.model.specs.Limits.{taskLimit}
+use Rattle.model.specs.Tasks.{noTask, judged}
+use Rattle.model.specs.TableFile.{taskKind, fileOf}
+use Rattle.model.specs.Report.{Exported, refused}
+
+-- What a writer does: what it says, and what the buffer then holds.
+pub record Filled : Type 0 where
+  pub said : Writing
+  pub buffer : List ℕ
+
+-- A refusal writes nowhere.
+abbrev pub unwritten : ℕ → ℕ → List ℕ → Filled
+unwritten n p buffer = record { said = Writing.Refused (refusal n p); buffer = buffer }
+
+-- Bytes are written at the front of the buffer, and their number told; those behind them stay as found. A shorter buffer is refused by 31 at its length.
+abbrev pub fitted : List ℕ → List ℕ → Filled
+fitted bytes buffer =
+    cond (ltb (length buffer) (length bytes)) (unwritten 31 (length buffer) buffer)
+    (record { said = Writing.Bytes (length bytes); buffer = bytes ++ drop (length bytes) buffer })
+
+-- The tasks of a table, in their order.
+abbrev pub tasksOf : Table → List Task
+tasksOf t = take (t .count) (t .tasks)
+
+-- The file of a table and a budget is written after the table's own refusals.
+abbrev pub fileWrittenBy : Table → ℕ → List ℕ → Judgement → Filled
+fileWrittenBy t budget buffer (Judgement.Refused r) = unwritten (r .number) (r .place) buffer
+fileWrittenBy t budget buffer (Judgement.WellFormed m) = fitted (fileOf budget (tasksOf t)) buffer
+
+-- The one permitted result of the writer on any table, budget and buffer.
+unfoldable pub fileWritten : Table → ℕ → List ℕ → Filled
+fileWritten t budget buffer = fileWrittenBy t budget buffer (judged t)
+
+-- From C a table is handed over as words, five for each task: its kind, O, C, D, T.
+abbrev pub rowWords : ℕ
+rowWords = 5
+
+abbrev pub rows : List ℕ → ℕ
+rows words = length words / rowWords
+
+abbrev pub rowTask : List ℕ → ℕ → Task
+rowTask words i =
+    let at = rowWords * i in
+    record { offset = getD words (at + 1) 0; cost = getD words (at + 2) 0; deadline = getD words (at + 3) 0; period = getD words (at + 4) 0 }
+
+-- The first row that is no task, or the number of rows.
+unfoldable pub firstStranger : List ℕ → ℕ
+firstStranger words = first (λ i. not (eqb (getD words (rowWords * i) 0) taskKind)) 0 (rows words)
+
+-- The table of the rows: it counts them all, and holds as many as a table can.
+unfoldable pub tableIn : List ℕ → Table
+tableIn words = record { count = rows words; tasks = fill (min (rows words) taskLimit) (rowTask words) (replicate taskLimit noTask) }
+
+-- What C is told of a writer.
+abbrev pub fillTold : List ℕ → Writing → Exported
+fillTold buffer (Writing.Refused r) = refused r buffer
+fillTold buffer (Writing.Bytes n) = record { number = n; buffer = buffer }
+
+-- The one permitted result of the exported call. The form of the words comes before the table: 51 where they are no whole rows, at their
+-- number, then 52 at the first row that is no task; a place is at most 65,535.
+abbrev pub writeExported : List ℕ → ℕ → List ℕ → Exported
+writeExported words budget buffer =
+    cond (not (eqb (length words % rowWords) 0)) (refused (refusal 51 (min (length words) 65535)) buffer)
+    (cond (ltb (firstStranger words) (rows words)) (refused (refusal 52 (min (firstStranger words) 65535)) buffer)
+    (let f = fileWritten (tableIn words) budget buffer in fillTold (f .buffer) (f .said)))

@@ -1,0 +1,67 @@
+-- DEMAND 1 at the writer: one permitted result for every table, budget and buffer, from C for all words; a refusal changes no byte; what was
+-- written is loaded as the same budget and tasks, and what was loaded is written as the same bytes.
+use mathlib.Core.Path.{_≡_, refl, sym, ap, _∙_}
+use mathlib.Core.Logic.{_⊎_}
+use mathlib.Core.List.{List, [], _∷_, _++_}
+use Prim.Native.Nat.{ℕ, _≤_, _<_}
+use lib.ListN.{length, getD, take, drop}
+use Rattle.values.specs.declared.Table.{Table}
+use Rattle.values.specs.declared.Refusal.{Refusal}
+use Rattle.values.specs.declared.Measure.{Measure}
+use Rattle.values.specs.declared.Judgement.{Judgement}
+use Rattle.values.specs.declared.Admission.{Admission}
+use Rattle.values.specs.declared.Loaded.{Loaded}
+use Rattle.values.specs.declared.Writing.{Writing}
+use Rattle.model.specs.Limits.{budgetLimit, longestFile}
+use Rattle.model.specs.Values.{refusalSaid, writingSaid}
+use Rattle.model.specs.Tasks.{judged}
+use Rattle.model.specs.TableFile.{fileOf, loadedFrom}
+use Rattle.model.specs.Report.{Exported, refused}
+use Rattle.model.specs.Writer.{Filled, tasksOf, fileWritten, tableIn, writeExported}
+use Rattle.writer.specs.RoundTrip as round
+use Rattle.writer.specs.Told as told
+
+-- Writing has one permitted result for every table, budget and buffer, and the exported call for all words.
+pub one-writing : (t : Table) (budget : ℕ) (buffer : List ℕ) (a b : Filled) → a ≡ fileWritten t budget buffer → b ≡ fileWritten t budget buffer → a ≡ b
+one-writing t budget buffer a b e f = e ∙ sym f
+
+pub one-write-export : (words : List ℕ) (budget : ℕ) (buffer : List ℕ) (a b : Exported) → a ≡ writeExported words budget buffer → b ≡ writeExported words budget buffer → a ≡ b
+one-write-export words budget buffer a b e f = e ∙ sym f
+
+-- A refused table is refused by its number and place, whatever the buffer, and the buffer stays as it was.
+pub refused-writing : (t : Table) (budget : ℕ) (buffer : List ℕ) (r : Refusal) → judged t ≡ Judgement.Refused r
+    → let f = fileWritten t budget buffer in (writingSaid (f .said) ≡ refusalSaid r) × (f .buffer ≡ buffer)
+unfolding fileWritten
+refused-writing t budget buffer r e = rw e (refl, refl)
+
+-- A buffer that is shorter than the file of a well-formed table is refused by 31 at its length, and stays as it was.
+pub short-writing : (t : Table) (m : Measure) (budget : ℕ) (buffer : List ℕ) → judged t ≡ Judgement.WellFormed m → length buffer < length (fileOf budget (tasksOf t))
+    → let f = fileWritten t budget buffer in (writingSaid (f .said) ≡ 31 ∷ length buffer ∷ []) × (f .buffer ≡ buffer)
+short-writing t m budget buffer well h = rw (told.short-writing t m budget buffer well h) (refl, refl)
+
+-- Any other gets the file at its front, of at most 282 bytes, and its length is told; the bytes behind it stay as they were.
+pub long-writing : (t : Table) (m : Measure) (budget : ℕ) (buffer : List ℕ) → judged t ≡ Judgement.WellFormed m → length (fileOf budget (tasksOf t)) ≤ length buffer
+    → let f = fileWritten t budget buffer in
+    let file = fileOf budget (tasksOf t) in
+    (writingSaid (f .said) ≡ 0 ∷ length file ∷ []) × (f .buffer ≡ file ++ drop (length file) buffer) × (length file ≤ longestFile)
+long-writing t m budget buffer well h = let (e, few) = told.long-writing t m budget buffer well h in rw e (refl, refl, few)
+
+-- What was written is loaded: it is not refused, and has the same budget and the same tasks in their order.
+pub written-loads : (t : Table) (budget : ℕ) (buffer : List ℕ) (n : ℕ) → budget < budgetLimit → fileWritten t budget buffer .said ≡ Writing.Bytes n
+    → let l = loadedFrom (take n (fileWritten t budget buffer .buffer)) in (l .admission ≡ Admission.Admitted) × (l .budget ≡ budget) × (tasksOf (l .table) ≡ tasksOf t)
+written-loads t budget buffer n limit e =
+    let same = round.written-loads t budget buffer n limit e in
+    (ap (λ (l : Loaded). l .admission) same, ap (λ (l : Loaded). l .budget) same, ap (λ (l : Loaded). tasksOf (l .table)) same ∙ round.tasks-back (tasksOf t))
+
+-- What was loaded from a file that is not refused is written as the same bytes, if the buffer is not shorter.
+pub loaded-writes : (file buffer : List ℕ) → ((i : ℕ) → getD file i 0 < 256) → loadedFrom file .admission ≡ Admission.Admitted → length file ≤ length buffer
+    → fileWritten (loadedFrom file .table) (loadedFrom file .budget) buffer ≡ record { said = Writing.Bytes (length file); buffer = file ++ drop (length file) buffer }
+loaded-writes = told.loaded-writes
+
+-- The exported call writes the file of the rows' table and returns its length, at most 282, or it refuses by a number above 0 and a place below
+-- 65,536 and changes no byte.
+pub write-or-refusal : (words : List ℕ) (budget : ℕ) (buffer : List ℕ)
+    → let file = fileOf budget (tasksOf (tableIn words)) in
+    ((writeExported words budget buffer ≡ record { number = length file; buffer = file ++ drop (length file) buffer }) × (length file ≤ longestFile))
+    ⊎ ((r : Refusal) × (writeExported words budget buffer ≡ refused r buffer) × ((0 < r .number) × (r .place < 65536)))
+write-or-refusal words budget buffer = told.write-apart buffer words budget

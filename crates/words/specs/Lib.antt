@@ -1,0 +1,3 @@
+-- A number and its four bytes; words put one after another.
+pub mod Word
+pub mod Bytes

@@ -1,0 +1,41 @@
+// Numbers of four bytes, the lowest byte first, read and written where they lie.
+ghost use mathlib.Core.Path.{_≡_};
+ghost use Prim.Native.Nat.{_+_, _%_, _<_, _≤_};
+ghost use lib.ListN.{length};
+ghost use Rattle.model.specs.TableFile.{four, wordBytes};
+ghost use Rattle.counting.specs.Put.{Put};
+
+// A cast by a function of its own: who reads a byte has nothing to show of its width.
+fn to_u32(x: u8) -> u32
+    ensures { λ r. ⌜ (r ≡ x) × (x < 256) ⌝ }
+{
+    x as u32
+}
+
+pub fn word_at(s: &[u8], at: usize) -> u32
+    requires { ⌜ at + 4 ≤ length (now s) ⌝ }
+    ensures { λ r. ⌜ r ≡ four (now (s .entry)) at ⌝ }
+{
+    to_u32(s[at])
+        + 256 * to_u32(s[at + 1])
+        + 65536 * to_u32(s[at + 2])
+        + 16777216 * to_u32(s[at + 3])
+}
+
+pub fn put_word(buffer: &mut [u8], at: usize, word: u32) -> usize
+    requires { ⌜ at + 4 ≤ length (now buffer) ⌝ }
+    ensures { λ r. ⌜ Put (wordBytes word) at (now (buffer .entry)) (now (buffer .exit)) r ⌝ }
+    ensures { λ r. ⌜ r ≡ at + 4 ⌝ }
+{
+    buffer[at] = low_byte(word);
+    buffer[at + 1] = low_byte(word / 256);
+    buffer[at + 2] = low_byte(word / 65536);
+    buffer[at + 3] = low_byte(word / 16777216);
+    at + 4
+}
+
+fn low_byte(word: u32) -> u8
+    ensures { λ r. ⌜ r ≡ word % 256 ⌝ }
+{
+    (word % 256) as u8
+}

@@ -1,0 +1,48 @@
+-- The length of the file decides.
+use borrow.Author.Needs.{needs}
+use mathlib.Core.Path.{_≡_}
+use native.Mathlib.Omega.{arith}
+use lib.ListN.{length}
+use Rattle.model.specs.TableFile.{fileOf}
+use Rattle.model.specs.Writer.{tasksOf}
+use Rattle.writer.specs.Records.{fileBytes, table-length, short, fits}
+use Rattle.writer.proofs.write_file.Statement.{statement}
+use Rattle.writer.proofs.write_file.Tie as tie
+
+-- The file is as long as its tasks say.
+size : (c : tie.Start) → length (fileOf (c .args .budget) (tasksOf (c .args .table))) ≡ fileBytes (c .args .table .count)
+size c = table-length _ _ (c .pre .1)
+
+file-bytes-requires : tie.Need-file-bytes-requires
+file-bytes-requires c κs = search needs
+
+short-buffer-requires : tie.Need-short-buffer-requires
+short-buffer-requires c κs = search needs
+
+returns : tie.Need-returns
+returns c =
+    let start = c .before .before .before .before in
+    short (fileOf (start .args .budget) (tasksOf (start .args .table))) (start .args .buffer .now) (omega (arith, size start)) (c .short-buffer .ensures)
+
+put-file-requires : tie.Need-put-file-requires
+put-file-requires c κs = search needs
+
+same-length : tie.Need-same-length
+same-length c = search needs
+
+returns-2 : tie.Need-returns-2
+returns-2 c =
+    let put = c .before .before in
+    let start = put .before .before .before .before .before in
+    fits (put .put-file .ensures) (omega (arith, size start))
+
+pub write-file-spec : {M : Type 1} → statement M
+write-file-spec =
+    tie.close
+    (tie.spec
+    file-bytes-requires
+    short-buffer-requires
+    returns
+    put-file-requires
+    same-length
+    returns-2)

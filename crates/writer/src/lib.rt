@@ -1,0 +1,134 @@
+// The table file of a table and a budget, written into a lent buffer.
+ghost use mathlib.Core.Path.{_≡_};
+ghost use mathlib.Core.List.{[], _∷_};
+ghost use Prim.Native.Nat.{_+_, _*_, _/_, _%_, _≤_, _<_};
+ghost use lib.ListN.{length};
+ghost use Rattle.model.specs.Limits.{taskLimit, wordLimit, budgetBytes, taskBytes};
+ghost use Rattle.model.specs.TableFile.{budgetRecord, taskRecord, taskRecords, fileOf};
+ghost use Rattle.model.specs.Writer.{tasksOf, fitted, fileWritten};
+ghost use Rattle.counting.specs.Put.{Put};
+ghost use Rattle.writer.specs.Records.{filled, fileBytes};
+use values::Judgement;
+use values::Refusal;
+use values::Table;
+use values::Task;
+use values::Writing;
+
+const BUDGET: u8 = 1;
+
+const TASK: u8 = 2;
+
+const END: u8 = 3;
+
+const BUDGET_BYTES: usize = 1 + 8;
+
+const TASK_BYTES: usize = 1 + 16;
+
+const SHORT_BUFFER: u32 = 31;
+
+// Any table, budget and buffer: the table is judged first, then the buffer's length.
+pub fn write(table: Table, budget: u64, buffer: &mut [u8]) -> Writing
+    ensures { λ r. ⌜ filled r (now (buffer .exit)) ≡ fileWritten table budget (now (buffer .entry)) ⌝ }
+{
+    match table::judge(table) {
+        Judgement::Refused(why) => Writing::Refused(why),
+        Judgement::WellFormed(_) => write_file(table, budget, buffer),
+    }
+}
+
+fn write_file(table: Table, budget: u64, buffer: &mut [u8]) -> Writing
+    requires { ⌜ table .count ≤ taskLimit ⌝ }
+    requires { ⌜ table .count ≤ length (table .tasks) ⌝ }
+    ensures { λ r. ⌜ filled r (now (buffer .exit)) ≡ fitted (fileOf budget (tasksOf table)) (now (buffer .entry)) ⌝ }
+{
+    if buffer.len() < file_bytes(table.count) {
+        return short_buffer(buffer.len());
+    }
+    Writing::Bytes(put_file(table, budget, buffer))
+}
+
+fn file_bytes(tasks: usize) -> usize
+    requires { ⌜ tasks ≤ taskLimit ⌝ }
+    ensures { λ r. ⌜ r ≡ fileBytes tasks ⌝ }
+{
+    BUDGET_BYTES + tasks * TASK_BYTES + 1
+}
+
+fn short_buffer(bytes: usize) -> Writing
+    requires { ⌜ bytes < fileBytes taskLimit ⌝ }
+    ensures { λ r. ⌜ r ≡ Writing.Refused (record { number = 31; place = bytes }) ⌝ }
+{
+    Writing::Refused(Refusal {
+        number: SHORT_BUFFER,
+        place: bytes as u32,
+    })
+}
+
+fn put_file(table: Table, budget: u64, buffer: &mut [u8]) -> usize
+    requires { ⌜ table .count ≤ taskLimit ⌝ }
+    requires { ⌜ table .count ≤ length (table .tasks) ⌝ }
+    requires { ⌜ fileBytes (table .count) ≤ length (now buffer) ⌝ }
+    ensures { λ r. ⌜ Put (fileOf budget (tasksOf table)) 0 (now (buffer .entry)) (now (buffer .exit)) r ⌝ }
+{
+    let at = put_budget(buffer, budget);
+    let at = put_tasks(buffer, at, table);
+    put_kind(buffer, at, END)
+}
+
+fn put_budget(buffer: &mut [u8], budget: u64) -> usize
+    requires { ⌜ budgetBytes ≤ length (now buffer) ⌝ }
+    ensures { λ r. ⌜ Put (budgetRecord budget) 0 (now (buffer .entry)) (now (buffer .exit)) r ⌝ }
+    ensures { λ r. ⌜ r ≡ budgetBytes ⌝ }
+{
+    let at = put_kind(buffer, 0, BUDGET);
+    let at = words::put_word(buffer, at, low_word(budget));
+    words::put_word(buffer, at, high_word(budget))
+}
+
+fn low_word(budget: u64) -> u32
+    ensures { λ r. ⌜ r ≡ budget % wordLimit ⌝ }
+{
+    (budget % 4294967296) as u32
+}
+
+fn high_word(budget: u64) -> u32
+    ensures { λ r. ⌜ r ≡ budget / wordLimit ⌝ }
+{
+    (budget / 4294967296) as u32
+}
+
+fn put_tasks(buffer: &mut [u8], at: usize, table: Table) -> usize
+    requires { ⌜ table .count ≤ taskLimit ⌝ }
+    requires { ⌜ table .count ≤ length (table .tasks) ⌝ }
+    requires { ⌜ at + table .count * taskBytes ≤ length (now buffer) ⌝ }
+    ensures { λ r. ⌜ Put (taskRecords (tasksOf table)) at (now (buffer .entry)) (now (buffer .exit)) r ⌝ }
+    ensures { λ r. ⌜ r ≡ at + table .count * taskBytes ⌝ }
+{
+    let count = table.count;
+    let mut next = at;
+    for i in 0..count {
+        next = put_task(buffer, next, table.tasks[i]);
+    }
+    next
+}
+
+fn put_task(buffer: &mut [u8], at: usize, task: Task) -> usize
+    requires { ⌜ at + taskBytes ≤ length (now buffer) ⌝ }
+    ensures { λ r. ⌜ Put (taskRecord task) at (now (buffer .entry)) (now (buffer .exit)) r ⌝ }
+    ensures { λ r. ⌜ r ≡ at + taskBytes ⌝ }
+{
+    let at = put_kind(buffer, at, TASK);
+    let at = words::put_word(buffer, at, task.offset);
+    let at = words::put_word(buffer, at, task.cost);
+    let at = words::put_word(buffer, at, task.deadline);
+    words::put_word(buffer, at, task.period)
+}
+
+fn put_kind(buffer: &mut [u8], at: usize, kind: u8) -> usize
+    requires { ⌜ at < length (now buffer) ⌝ }
+    ensures { λ r. ⌜ Put (kind ∷ []) at (now (buffer .entry)) (now (buffer .exit)) r ⌝ }
+    ensures { λ r. ⌜ r ≡ at + 1 ⌝ }
+{
+    buffer[at] = kind;
+    at + 1
+}
