@@ -3,6 +3,7 @@ ghost use mathlib.Core.Path.{_≡_};
 ghost use mathlib.Core.Bool.{not};
 ghost use Prim.Native.Nat.{_/_, _%_, _<_, min};
 ghost use lib.Dec.{eqb};
+ghost use Rattle.model.specs.Limits.{taskLimit};
 ghost use Rattle.model.specs.Tasks.{noTask};
 ghost use Rattle.model.specs.Writer.{rowWords, rows, rowTask, firstStranger, tableIn};
 use values::TASK_LIMIT;
@@ -63,7 +64,7 @@ fn no_task() -> Task
 
 // A table holds no more rows than this.
 fn held(count: usize) -> usize
-    ensures { λ r. ⌜ r ≡ min count 16 ⌝ }
+    ensures { λ r. ⌜ r ≡ min count taskLimit ⌝ }
 {
     if count < TASK_LIMIT {
         return count;

@@ -106,12 +106,12 @@ fn place_of(bytes: usize) -> u32
     LARGEST_PLACE as u32
 }
 
-fn refused_state(bytes: usize) -> u64
-    ensures { λ r. ⌜ r ≡ 65536 * 50 + min bytes 65535 ⌝ }
+fn refused_at(number: u32, place: usize) -> u64
+    ensures { λ r. ⌜ r ≡ 65536 * number + min place 65535 ⌝ }
 {
     refused(Refusal {
-        number: STRANGE_BUFFER,
-        place: place_of(bytes),
+        number,
+        place: place_of(place),
     })
 }
 
@@ -163,7 +163,7 @@ pub extern "C" fn yolizadwa_start(file: &[u8], state: &mut [u8]) -> u64
     ensures { λ r. ⌜ record { number = r; buffer = now (state .exit) } ≡ startExported (now (file .entry)) (now (state .entry)) ⌝ }
 {
     if strange_length(state.len()) {
-        return refused_state(state.len());
+        return refused_at(STRANGE_BUFFER, state.len());
     }
     start_file(file, state)
 }
@@ -212,18 +212,9 @@ pub extern "C" fn yolizadwa_step(file: &[u8], state: &mut [u8], done: u32) -> u6
     ensures { λ r. ⌜ record { number = r; buffer = now (state .exit) } ≡ stepExported (now (file .entry)) (now (state .entry)) done ⌝ }
 {
     if strange_length(state.len()) {
-        return refused_state(state.len());
+        return refused_at(STRANGE_BUFFER, state.len());
     }
     step_file(file, state, done)
-}
-
-fn refused_at(number: u32, place: usize) -> u64
-    ensures { λ r. ⌜ r ≡ 65536 * number + min place 65535 ⌝ }
-{
-    refused(Refusal {
-        number,
-        place: place_of(place),
-    })
 }
 
 fn write_table(table: Table, budget: u64, file: &mut [u8]) -> u64

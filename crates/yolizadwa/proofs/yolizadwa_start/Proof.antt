@@ -9,13 +9,13 @@ use Rattle.yolizadwa.proofs.yolizadwa_start.Tie as tie
 strange-length-requires : tie.Need-strange-length-requires
 strange-length-requires c κs = search needs
 
-refused-state-requires : tie.Need-refused-state-requires
-refused-state-requires c κs = search needs
+refused-at-requires : tie.Need-refused-at-requires
+refused-at-requires c κs = search needs
 
 returns : tie.Need-returns
 returns c =
     let tested = c .before .before in
-    rw (strange (tested .before .before .before .args .state .now) (tested .strange-length .ensures) (c .before .if1 .taken), c .refused-state .ensures, onFile)
+    rw (strange (tested .before .before .before .args .state .now) (tested .strange-length .ensures) (c .before .if1 .taken), c .refused-at .ensures, onFile)
 
 start-file-requires : tie.Need-start-file-requires
 start-file-requires c κs =
@@ -33,7 +33,7 @@ yolizadwa-start-spec =
     tie.close
     (tie.spec
     strange-length-requires
-    refused-state-requires
+    refused-at-requires
     returns
     start-file-requires
     same-length
