@@ -1,10 +1,11 @@
 //! Puts requests to the library and holds what comes back to what is permitted.
 
-use crate::calls::{Call, Calls, Reply, Request};
+use crate::calls::{Calls, Reply, Request, CALLS};
 use crate::reference;
 
 const BATCH: usize = 2_000;
 const SHOWN: u64 = 5;
+const BYTES_SHOWN: usize = 600;
 
 /// The result and the buffer that a request must give.
 pub type Permitted = (u64, Vec<u8>);
@@ -14,12 +15,12 @@ pub struct Bench {
     queue: Vec<(Request, Permitted)>,
     group: (u64, u64),
     total: (u64, u64),
-    asked: [u64; 3],
+    asked: [u64; CALLS.len()],
 }
 
 impl Bench {
     pub fn new() -> Bench {
-        Bench { calls: Calls::open(), queue: Vec::new(), group: (0, 0), total: (0, 0), asked: [0; 3] }
+        Bench { calls: Calls::open(), queue: Vec::new(), group: (0, 0), total: (0, 0), asked: [0; CALLS.len()] }
     }
 
     pub fn count(&mut self, good: bool, what: impl FnOnce() -> String) {
@@ -73,23 +74,24 @@ impl Bench {
     }
 
     pub fn end(self) -> bool {
-        let asked = |call: Call| self.asked[call as usize];
-        println!("calls made: check {}, start {}, step {}", asked(Call::Check), asked(Call::Start), asked(Call::Step));
+        let asked = CALLS.map(|(call, name)| format!("{name} {}", self.asked[call as usize]));
+        println!("calls made: {}", asked.join(", "));
         println!("host tests: {} passed, {} failed", self.total.0, self.total.1);
         self.total.1 == 0
     }
 }
 
 fn hex(bytes: &[u8]) -> String {
-    bytes.iter().map(|byte| format!("{byte:02x}")).collect()
+    bytes.iter().take(BYTES_SHOWN).map(|byte| format!("{byte:02x}")).collect()
 }
 
 fn story(request: &Request, permitted: &Permitted, reply: &Reply) -> String {
     let place = (0..reply.buffer.len()).find(|&at| reply.buffer[at] != permitted.1[at]);
     format!(
-        "{:?} done {} file {} buffer of {} {}\n  result {} permitted {}, first other byte {:?}, intact {}\n  got {:?}",
+        "{:?} {} file of {} {} buffer of {} {}\n  result {} permitted {}, first other byte {:?}, intact {}\n  got {:?}",
         request.call,
-        request.done,
+        request.number,
+        request.file.len(),
         hex(&request.file),
         request.buffer.len(),
         hex(&request.buffer[..request.buffer.len().min(reference::STATE_BYTES)]),

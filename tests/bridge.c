@@ -1,9 +1,9 @@
 /*
  * Makes the calls for a host test that runs on another processor than x86-64.
  *
- * A batch on standard input is its length and then requests; a request is five words (call, whether to measure the
- * stack, done, length of the file, length of the buffer), the file and the buffer. For each of them come back eight bytes
- * of result or depth, one byte that is 1 if nothing but the buffer has changed, and the buffer. All little-endian.
+ * A batch on standard input is its length and then requests; a request is a head, the file and the buffer. For each of them
+ * come back eight bytes of result or depth, one byte that is 1 if nothing but the buffer has changed, and the buffer. All
+ * little-endian.
  */
 #include <stdio.h>
 #include <stdlib.h>
@@ -12,7 +12,15 @@
 #include "stack.h"
 
 /* An odd guard, so that file and buffer lie at no even address. */
-enum { WORDS = 5, GUARD = 61, GUARD_BYTE = 0xC3 };
+enum { GUARD = 61, GUARD_BYTE = 0xC3 };
+
+struct head {
+    uint64_t number;
+    uint32_t call;
+    uint32_t measure;
+    uint32_t file_len;
+    uint32_t buffer_len;
+};
 
 struct guarded {
     uint8_t *room;
@@ -51,12 +59,12 @@ static int guards_hold(const struct guarded *guarded)
     return 1;
 }
 
-static void answer(const uint32_t *words, const uint8_t *file_bytes, const uint8_t *buffer_bytes)
+static void answer(const struct head *head, const uint8_t *file_bytes, const uint8_t *buffer_bytes)
 {
-    struct guarded file = guard(file_bytes, words[3]);
-    struct guarded buffer = guard(buffer_bytes, words[4]);
-    call_maker *make = words[1] ? stack_depth : plain_call;
-    uint64_t result = make(words[0], file.bytes, file.len, buffer.bytes, buffer.len, words[2]);
+    struct guarded file = guard(file_bytes, head->file_len);
+    struct guarded buffer = guard(buffer_bytes, head->buffer_len);
+    call_maker *make = head->measure ? stack_depth : plain_call;
+    uint64_t result = make(head->call, file.bytes, file.len, buffer.bytes, buffer.len, head->number);
     uint8_t intact = guards_hold(&file) && guards_hold(&buffer) && memcmp(file.bytes, file_bytes, file.len) == 0;
     fwrite(&result, 1, sizeof result, stdout);
     fwrite(&intact, 1, 1, stdout);
@@ -67,13 +75,13 @@ static void answer(const uint32_t *words, const uint8_t *file_bytes, const uint8
 
 static void answer_batch(const uint8_t *batch, size_t len)
 {
-    uint32_t words[WORDS];
+    struct head head;
     size_t at = 0;
     while (at < len) {
-        memcpy(words, batch + at, sizeof words);
-        at += sizeof words;
-        answer(words, batch + at, batch + at + words[3]);
-        at += (size_t)words[3] + words[4];
+        memcpy(&head, batch + at, sizeof head);
+        at += sizeof head;
+        answer(&head, batch + at, batch + at + head.file_len);
+        at += (size_t)head.file_len + head.buffer_len;
     }
     fflush(stdout);
 }

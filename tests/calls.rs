@@ -2,7 +2,7 @@
 //!
 //! Either way stack.c makes them, which is compiled against include/yolizadwa.h.
 
-use crate::reference::{REPORT_BYTES, STATE_BYTES};
+use crate::reference::{LONGEST_FILE, REPORT_BYTES, STATE_BYTES};
 
 /// In the order of stack.h.
 #[derive(Clone, Copy, PartialEq, Eq, Debug)]
@@ -10,27 +10,38 @@ pub enum Call {
     Check,
     Start,
     Step,
+    Write,
 }
+
+pub const CALLS: [(Call, &str); 4] =
+    [(Call::Check, "check"), (Call::Start, "start"), (Call::Step, "step"), (Call::Write, "write")];
 
 #[derive(Clone, Debug)]
 pub struct Request {
     pub call: Call,
+    /// To write: the bytes of the words.
     pub file: Vec<u8>,
     pub buffer: Vec<u8>,
-    pub done: u32,
+    /// A step's done, the budget to write.
+    pub number: u64,
 }
 
 impl Request {
     pub fn check(file: Vec<u8>) -> Request {
-        Request { call: Call::Check, file, buffer: vec![0xE7; REPORT_BYTES + 8], done: 0 }
+        Request { call: Call::Check, file, buffer: vec![0xE7; REPORT_BYTES + 8], number: 0 }
     }
 
     pub fn start(file: Vec<u8>) -> Request {
-        Request { call: Call::Start, file, buffer: vec![0xE7; STATE_BYTES], done: 0 }
+        Request { call: Call::Start, file, buffer: vec![0xE7; STATE_BYTES], number: 0 }
     }
 
     pub fn step(file: Vec<u8>, state: Vec<u8>, done: u32) -> Request {
-        Request { call: Call::Step, file, buffer: state, done }
+        Request { call: Call::Step, file, buffer: state, number: u64::from(done) }
+    }
+
+    pub fn write(words: &[u32], budget: u64) -> Request {
+        let file = words.iter().flat_map(|word| word.to_le_bytes()).collect();
+        Request { call: Call::Write, file, buffer: vec![0xE7; LONGEST_FILE + 8], number: budget }
     }
 }
 
@@ -48,8 +59,8 @@ mod way {
     use super::{Reply, Request};
 
     extern "C" {
-        fn plain_call(call: u32, file: *const u8, file_len: usize, buffer: *mut u8, buffer_len: usize, done: u32) -> u64;
-        fn stack_depth(call: u32, file: *const u8, file_len: usize, buffer: *mut u8, buffer_len: usize, done: u32) -> u64;
+        fn plain_call(call: u32, file: *const u8, file_len: usize, buffer: *mut u8, buffer_len: usize, number: u64) -> u64;
+        fn stack_depth(call: u32, file: *const u8, file_len: usize, buffer: *mut u8, buffer_len: usize, number: u64) -> u64;
     }
 
     /// Odd, so that file and buffer lie at no even address.
@@ -71,7 +82,7 @@ mod way {
             let (file, mut buffer) = (guard(&request.file), guard(&request.buffer));
             let (file_len, buffer_len) = (request.file.len(), request.buffer.len());
             let (from, into) = (file[GUARD..].as_ptr(), buffer[GUARD..].as_mut_ptr());
-            unsafe { stack_depth(request.call as u32, from, file_len, into, buffer_len, request.done) }
+            unsafe { stack_depth(request.call as u32, from, file_len, into, buffer_len, request.number) }
         }
     }
 
@@ -87,7 +98,7 @@ mod way {
         let (file, mut buffer) = (guard(&request.file), guard(&request.buffer));
         let (file_len, buffer_len) = (request.file.len(), request.buffer.len());
         let (from, into) = (file[GUARD..].as_ptr(), buffer[GUARD..].as_mut_ptr());
-        let result = unsafe { plain_call(request.call as u32, from, file_len, into, buffer_len, request.done) };
+        let result = unsafe { plain_call(request.call as u32, from, file_len, into, buffer_len, request.number) };
         let intact = file == guard(&request.file) && guards_hold(&buffer);
         Reply { result, intact, buffer: buffer[GUARD..GUARD + buffer_len].to_vec() }
     }
@@ -137,7 +148,8 @@ mod way {
 
     fn put_request(batch: &mut Vec<u8>, request: &Request, measure: bool) {
         let lengths = [request.file.len() as u32, request.buffer.len() as u32];
-        for word in [request.call as u32, measure as u32, request.done, lengths[0], lengths[1]] {
+        batch.extend(request.number.to_le_bytes());
+        for word in [request.call as u32, measure as u32, lengths[0], lengths[1]] {
             batch.extend(word.to_le_bytes());
         }
         batch.extend(&request.file);

@@ -3,7 +3,7 @@
 use crate::bench::Bench;
 use crate::calls::Request;
 use crate::files::ask_all;
-use crate::inputs::{file_of, table_of};
+use crate::inputs::{file_of, rows_of, table_of};
 use crate::reference::{self, State, Task, NONE};
 
 type Rows = &'static [(u32, u32, u32, u32)];
@@ -156,4 +156,45 @@ pub fn refusals(bench: &mut Bench) {
         refused_with(bench, Request::step(vec![9], vec![0xE7; length], 0), 50, place);
     }
     bench.end_group("every refusal, number and place");
+}
+
+/// Rows that are refused, with number and place: each fault beside later ones, which must not be told.
+fn refused_rows() -> Vec<(Vec<u32>, u64, u64)> {
+    let good = [2, 0, 1, 17, 17];
+    let (bad, strange) = ([2, 60_001, 7, 6, 5], [3, 60_001, 7, 6, 5]);
+    let rows = |rows: &[[u32; 5]]| rows.concat();
+    vec![
+        (vec![3], 51, 1),
+        ([&strange[..], &[2; 4]].concat(), 51, 9),
+        (vec![3; 65_536], 51, 65_535),
+        (rows(&[bad, strange, strange]), 52, 1),
+        (rows(&[[0; 5]; 17]), 52, 0),
+        (rows(&[&[good; 65_535][..], &[strange]].concat()), 52, 65_535),
+        (rows(&[&[good; 65_536][..], &[strange]].concat()), 52, 65_535),
+        (Vec::new(), 1, 0),
+        (rows(&[bad; 17]), 2, 16),
+        (rows(&[good; 18]), 2, 16),
+        (rows(&[good, [2, 60_001, 9, 9, 0]]), 3, 1),
+        (rows(&[good, bad, [2, 0, 0, 0, 0]]), 4, 1),
+        (rows(&[[2, 60_001, 5, 4, 5]]), 5, 0),
+        (rows(&[[2, 60_001, 1, 4, 5]]), 6, 0),
+        (rows_of(&table_of(TOO_LONG)), 7, 0),
+    ]
+}
+
+/// The tables of document 01 as their files lie in tables/, and what is refused, into a buffer that is too short too.
+pub fn written(bench: &mut Bench) {
+    for (rows, name) in [A, B, C, D, E, F, G, H, I, J].into_iter().zip('a'..='j') {
+        let file = std::fs::read(format!("tables/{name}.table")).expect("tables/ is there");
+        let request = Request { buffer: vec![0xE7; file.len()], ..Request::write(&rows_of(&table_of(rows)), 1_000) };
+        for length in 0..file.len() {
+            refused_with(bench, Request { buffer: vec![0xE7; length], ..request.clone() }, 31, length as u64);
+        }
+        bench.ask_knowing(request, (file.len() as u64, file));
+    }
+    for (words, number, place) in refused_rows() {
+        refused_with(bench, Request::write(&words, 0), number, place);
+        refused_with(bench, Request { buffer: Vec::new(), ..Request::write(&words, 1_000) }, number, place);
+    }
+    bench.end_group("document 01's tables, written");
 }

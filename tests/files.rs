@@ -6,7 +6,22 @@ use crate::document::{B, J, TOO_LONG};
 use crate::inputs::*;
 use crate::reference::{self, Task, TASKS};
 
-/// All three calls on one file, the step from the table's start where it has one.
+/// What was read from a file, written: the same bytes, if the table is not refused.
+pub fn ask_rewritten(bench: &mut Bench, file: &[u8]) {
+    if let Ok((budget, tasks)) = reference::read_file(file) {
+        let request = Request::write(&rows_of(&tasks), budget);
+        match reference::judge(&tasks) {
+            Ok(()) => {
+                let behind = &request.buffer[file.len()..];
+                let permitted = (file.len() as u64, [file, behind].concat());
+                bench.ask_knowing(request, permitted);
+            }
+            Err(_) => bench.ask(request),
+        }
+    }
+}
+
+/// All calls on one file, the step from the table's start where it has one.
 pub fn ask_all(bench: &mut Bench, file: &[u8]) {
     let tasks = reference::read_file(file).map_or(Vec::new(), |(_, tasks)| tasks);
     if affordable(file) {
@@ -14,6 +29,7 @@ pub fn ask_all(bench: &mut Bench, file: &[u8]) {
     }
     bench.ask(Request::start(file.to_vec()));
     bench.ask(Request::step(file.to_vec(), reference::start(&tasks).to_bytes(), 1));
+    ask_rewritten(bench, file);
 }
 
 fn sixteen(rng: &mut Rng) -> Vec<Task> {
@@ -103,7 +119,7 @@ pub fn buffers(bench: &mut Bench, rng: &mut Rng) {
         for call in [Call::Check, Call::Start, Call::Step] {
             let file = rng.pick(&[0, 0, 1, 2, 3, 4]);
             let buffer = (0..length).map(|_| rng.below(3) as u8).collect();
-            bench.ask(Request { call, file: files[file as usize].clone(), buffer, done: 0 });
+            bench.ask(Request { call, file: files[file as usize].clone(), buffer, number: 0 });
         }
     }
     bench.end_group("buffers of every length");

@@ -34,9 +34,12 @@ impl Rng {
 
 // Files.
 
+fn numbers(task: &Task) -> [u32; 4] {
+    [task.offset, task.cost, task.deadline, task.period]
+}
+
 pub fn task_record(task: &Task) -> Vec<u8> {
-    let words = [task.offset, task.cost, task.deadline, task.period];
-    std::iter::once(2).chain(words.iter().flat_map(|word| word.to_le_bytes())).collect()
+    std::iter::once(2).chain(numbers(task).iter().flat_map(|word| word.to_le_bytes())).collect()
 }
 
 pub fn budget_record(budget: u64) -> Vec<u8> {
@@ -48,6 +51,11 @@ pub fn file_of(budget: u64, tasks: &[Task]) -> Vec<u8> {
     file.extend(tasks.iter().flat_map(task_record));
     file.push(3);
     file
+}
+
+/// A table as the writer takes it.
+pub fn rows_of(tasks: &[Task]) -> Vec<u32> {
+    tasks.iter().flat_map(|task| std::iter::once(2).chain(numbers(task))).collect()
 }
 
 pub fn table_of(rows: &[(u32, u32, u32, u32)]) -> Vec<Task> {
@@ -90,6 +98,10 @@ fn pick_count(rng: &mut Rng) -> usize {
     }
 }
 
+fn light(period: u32) -> Task {
+    Task { offset: 0, cost: 1, deadline: period, period }
+}
+
 fn divisors(round: u32) -> Vec<u32> {
     (1..=round).filter(|divisor| round % divisor == 0).collect()
 }
@@ -108,7 +120,7 @@ fn seedlings(rng: &mut Rng, round: u32) -> Vec<Task> {
         let period = rng.pick(&periods);
         let fits = asked(&tasks, round) + round / period <= round;
         if tasks.len() < count && (tasks.is_empty() || fits) {
-            tasks.push(Task { offset: 0, cost: 1, deadline: period, period });
+            tasks.push(light(period));
         }
     }
     tasks
@@ -196,7 +208,28 @@ pub fn long_round(rng: &mut Rng) -> Vec<Task> {
     let periods = [31_621, 31_622, 31_623, 31_624, 59_999, 60_000, 50_000, 16_384, 46_656, 1_000, 1];
     let count = 1 + rng.below(4) as usize;
     let long = |rng: &mut Rng| if rng.chance(60) { rng.pick(&periods) } else { rng.range(1, 60_000) };
-    (0..count).map(|_| long(rng)).map(|period| Task { offset: 0, cost: 1, deadline: period, period }).collect()
+    (0..count).map(|_| light(long(rng))).collect()
+}
+
+/// A table of so many tasks, well-formed if there are not too many: short and long periods, numbers often at their ends.
+pub fn sized(rng: &mut Rng, count: usize) -> Vec<Task> {
+    let families: [&[u32]; 4] = [
+        &[1, 2, 3, 4, 5, 6, 60, 1_000, 7_500, 30_000, 60_000],
+        &[7, 11, 13, 16, 27, 1_001, 40_040, 55_440],
+        &[1, 2, 31_622, 31_623],
+        &[1, 59_999],
+    ];
+    let periods = rng.pick(&families);
+    let mut tasks: Vec<Task> = (0..count).map(|_| light(rng.pick(periods))).collect();
+    any_fields(rng, &mut tasks);
+    for task in &mut tasks {
+        if rng.chance(30) {
+            task.offset = rng.pick(&[0, 1, 59_999, 60_000]);
+            task.deadline = rng.pick(&[1, task.period]);
+            task.cost = rng.pick(&[1, task.deadline]);
+        }
+    }
+    tasks
 }
 
 /// Costs, deadlines and offsets of any legal size for the periods that a table has.
@@ -263,6 +296,11 @@ pub fn budget_about(rng: &mut Rng, tasks: &[Task]) -> u64 {
         7 => rng.next() | 1 << 63,
         _ => u64::MAX,
     }
+}
+
+pub fn any_budget(rng: &mut Rng) -> u64 {
+    let (small, large) = (rng.below(1_000), rng.next());
+    rng.pick(&[0, 1, u64::from(u32::MAX), 1 << 32, u64::MAX, small, large, large])
 }
 
 /// Some bytes of a good file changed, taken out or put in.

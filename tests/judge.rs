@@ -4,7 +4,7 @@ use crate::bench::Bench;
 use crate::document::B;
 use crate::inputs::*;
 use crate::program;
-use crate::reference;
+use crate::reference::{self, LONGEST_FILE};
 use crate::whole::hard_files;
 use std::fs::File;
 use std::io::Write;
@@ -15,8 +15,6 @@ use std::process::{Child, Command, Output, Stdio};
 const JUDGE: &str = "target/bin/judge";
 const GOOD_FILES: u64 = 150;
 const DAMAGED_FILES: u64 = 150;
-/// The bytes of a file of sixteen tasks, the longest legal one.
-const LONGEST_FILE: usize = 282;
 
 /// What the judge must print.
 fn permitted(input: &[u8]) -> String {

@@ -14,6 +14,7 @@ mod randoms;
 mod reference;
 mod runs;
 mod whole;
+mod writer;
 
 use std::process::{Command, ExitCode};
 
@@ -41,6 +42,7 @@ fn main() -> ExitCode {
     document::tables(&mut bench);
     document::steps(&mut bench);
     document::refusals(&mut bench);
+    document::written(&mut bench);
     randoms::reference_itself(&mut bench, &mut rng);
     randoms::field_borders(&mut bench);
     files::damaged_one_by_one(&mut bench, &mut rng);
@@ -52,6 +54,11 @@ fn main() -> ExitCode {
     randoms::starts(&mut bench, &mut rng, count);
     randoms::steps(&mut bench, &mut rng, count);
     runs::runs(&mut bench, &mut rng, count);
+    writer::rows(&mut bench, &mut rng);
+    writer::buffers(&mut bench, &mut rng);
+    writer::round_trips(&mut bench, &mut rng, count / 2);
+    writer::rewritten(&mut bench, &mut rng, count / 4);
+    writer::spoilt(&mut bench, &mut rng, count / 4);
     whole::stack(&mut bench);
     whole::needs(&mut bench);
     whole::example_host(&mut bench);

@@ -1,11 +1,15 @@
 //! Document 01 once more, written from its text alone: lists of jobs and counted demand.
 
 use crate::calls::{Call, Request};
+use crate::inputs::file_of;
 
 pub const TASKS: usize = 16;
 pub const NONE: u32 = 16;
 pub const REPORT_BYTES: usize = 512;
 pub const STATE_BYTES: usize = 144;
+/// The bytes of a file of sixteen tasks, the longest legal one.
+pub const LONGEST_FILE: usize = 282;
+const LARGEST_PLACE: usize = 65_535;
 const LONGEST: u32 = 60_000;
 const LARGEST_ROUND: u64 = 1_000_000_000;
 
@@ -126,6 +130,9 @@ pub fn round(tasks: &[Task]) -> Option<u64> {
 pub fn judge(tasks: &[Task]) -> Result<(), Refusal> {
     if tasks.is_empty() {
         return refuse(1, 0);
+    }
+    if tasks.len() > TASKS {
+        return refuse(2, TASKS);
     }
     for (number, task) in tasks.iter().enumerate() {
         if let Some(fault) = fault(task) {
@@ -484,24 +491,60 @@ fn check_buffer(request: &Request) -> Result<(), Refusal> {
     let length = request.buffer.len();
     match request.call {
         Call::Check if length < REPORT_BYTES => refuse(30, length),
-        Call::Start | Call::Step if length != STATE_BYTES => refuse(50, length.min(65_535)),
+        Call::Start | Call::Step if length != STATE_BYTES => refuse(50, length.min(LARGEST_PLACE)),
         _ => Ok(()),
     }
 }
 
-fn answered(request: &Request) -> Result<(u64, Vec<u8>), Refusal> {
+fn read_table(request: &Request) -> Result<(u64, Vec<Task>), Refusal> {
     check_buffer(request)?;
     let (budget, tasks) = read_file(&request.file)?;
     judge(&tasks)?;
+    Ok((budget, tasks))
+}
+
+/// The table that is handed over as rows of words: its kind, then a task's numbers.
+fn table_from(rows: &[u8]) -> Result<Vec<Task>, Refusal> {
+    const ROW_WORDS: usize = 5;
+    let words = rows.len() / 4;
+    if words % ROW_WORDS != 0 {
+        return refuse(51, words.min(LARGEST_PLACE));
+    }
+    let mut tasks = Vec::new();
+    for (number, row) in rows.chunks(4 * ROW_WORDS).enumerate() {
+        if word(row, 0) != 2 {
+            return refuse(52, number.min(LARGEST_PLACE));
+        }
+        tasks.push(task_from(&row[4..]));
+    }
+    Ok(tasks)
+}
+
+/// What is to be written, unless the buffer is shorter.
+fn fitting(request: &Request, bytes: Vec<u8>) -> Result<(u64, Vec<u8>), Refusal> {
+    if request.buffer.len() < bytes.len() {
+        return refuse(31, request.buffer.len());
+    }
+    Ok((bytes.len() as u64, bytes))
+}
+
+fn answered(request: &Request) -> Result<(u64, Vec<u8>), Refusal> {
     match request.call {
         Call::Check => {
+            let (budget, tasks) = read_table(request)?;
             let text = report(&tasks, budget).into_bytes();
             Ok((text.len() as u64, text))
         }
-        Call::Start => Ok((0, start(&tasks).to_bytes())),
+        Call::Start => Ok((0, start(&read_table(request)?.1).to_bytes())),
         Call::Step => {
-            let state = step(&tasks, &State::from_bytes(&request.buffer), request.done != 0)?;
+            let (_, tasks) = read_table(request)?;
+            let state = step(&tasks, &State::from_bytes(&request.buffer), request.number != 0)?;
             Ok((u64::from(state.last), state.to_bytes()))
+        }
+        Call::Write => {
+            let tasks = table_from(&request.file)?;
+            judge(&tasks)?;
+            fitting(request, file_of(request.number, &tasks))
         }
     }
 }

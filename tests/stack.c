@@ -9,9 +9,10 @@
 
 #include "yolizadwa.h"
 
-enum { ROOM = 1 << 18 };
+enum { ROOM = 1 << 18, MOST_WORDS = 400000 };
 
 static _Alignas(16) uint8_t room[ROOM];
+static uint32_t words[MOST_WORDS];
 
 static struct {
     uint32_t call;
@@ -19,21 +20,35 @@ static struct {
     size_t file_len;
     uint8_t *buffer;
     size_t buffer_len;
-    uint32_t done;
+    uint64_t number;
 } wanted;
 
-uint64_t plain_call(uint32_t call, const uint8_t *file, size_t file_len, uint8_t *buffer, size_t buffer_len, uint32_t done)
+/* From a copy, since words are aligned and the bytes of a request are not. */
+static uint64_t write_words(const uint8_t *bytes, size_t len, uint64_t budget, uint8_t *file, size_t file_len)
+{
+    uint64_t result;
+    if (len > sizeof words || len % sizeof words[0] != 0) {
+        abort();
+    }
+    memcpy(words, bytes, len);
+    result = yolizadwa_write(words, len / sizeof words[0], budget, file, file_len);
+    return memcmp(words, bytes, len) == 0 ? result : UINT64_MAX;
+}
+
+uint64_t plain_call(uint32_t call, const uint8_t *file, size_t file_len, uint8_t *buffer, size_t buffer_len,
+                    uint64_t number)
 {
     switch (call) {
     case CHECK: return yolizadwa_check(file, file_len, buffer, buffer_len);
     case START: return yolizadwa_start(file, file_len, buffer, buffer_len);
-    default: return yolizadwa_step(file, file_len, buffer, buffer_len, done);
+    case STEP: return yolizadwa_step(file, file_len, buffer, buffer_len, (uint32_t)number);
+    default: return write_words(file, file_len, number, buffer, buffer_len);
     }
 }
 
 static void make_wanted_call(void)
 {
-    plain_call(wanted.call, wanted.file, wanted.file_len, wanted.buffer, wanted.buffer_len, wanted.done);
+    plain_call(wanted.call, wanted.file, wanted.file_len, wanted.buffer, wanted.buffer_len, wanted.number);
 }
 
 static void on_own_stack(void (*run)(void))
@@ -74,7 +89,8 @@ static uint8_t *copy_of(const uint8_t *bytes, size_t len)
  * Over two paints, since a byte may be written that equals one of them. The buffer is put back between them, so that both
  * measure the same call: a step would otherwise begin the second time from the state that the first has left.
  */
-uint64_t stack_depth(uint32_t call, const uint8_t *file, size_t file_len, uint8_t *buffer, size_t buffer_len, uint32_t done)
+uint64_t stack_depth(uint32_t call, const uint8_t *file, size_t file_len, uint8_t *buffer, size_t buffer_len,
+                     uint64_t number)
 {
     uint64_t one, other;
     uint8_t *before = copy_of(buffer, buffer_len);
@@ -83,7 +99,7 @@ uint64_t stack_depth(uint32_t call, const uint8_t *file, size_t file_len, uint8_
     wanted.file_len = file_len;
     wanted.buffer = buffer;
     wanted.buffer_len = buffer_len;
-    wanted.done = done;
+    wanted.number = number;
     one = depth_over(0xA5);
     memcpy(buffer, before, buffer_len);
     other = depth_over(0x5A);

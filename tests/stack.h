@@ -5,12 +5,13 @@
 #include <stddef.h>
 #include <stdint.h>
 
-enum call { CHECK, START, STEP };
+enum call { CHECK, START, STEP, WRITE };
 
+/* What is read, what is written, and a number besides: a step's done, the budget to write. */
 typedef uint64_t call_maker(uint32_t call, const uint8_t *file, size_t file_len, uint8_t *buffer, size_t buffer_len,
-                            uint32_t done);
+                            uint64_t number);
 
-/* Tells the call's result. */
+/* Tells the call's result. To write, the file is the bytes of the words; if the call changed those, tells UINT64_MAX. */
 call_maker plain_call;
 
 /*

@@ -2,7 +2,7 @@
 
 use crate::bench::Bench;
 use crate::calls::Request;
-use crate::inputs::file_of;
+use crate::inputs::{file_of, rows_of};
 use crate::program;
 use crate::reference::{self, Task, TASKS};
 use std::process::Command;
@@ -64,9 +64,11 @@ pub fn stack(bench: &mut Bench) {
     let checks: Vec<Request> = files.iter().cloned().map(Request::check).collect();
     let starts: Vec<Request> = files.iter().cloned().map(Request::start).collect();
     let steps: Vec<Request> = files.iter().cloned().flat_map(hard_steps).collect();
+    let writes: Vec<Request> = hard_tables().iter().flat_map(|tasks| hard_writes(tasks)).collect();
     deepest(bench, "check", &checks);
     deepest(bench, "start", &starts);
     deepest(bench, "step", &steps);
+    deepest(bench, "write", &writes);
     bench.end_group("stack of each call, on the hardest inputs");
 }
 
@@ -81,6 +83,17 @@ fn hard_steps(file: Vec<u8>) -> Vec<Request> {
     }
     strange.last = 99;
     [first, due, strange].iter().map(|state| Request::step(file.clone(), state.to_bytes(), 1)).collect()
+}
+
+/// Whole, into a short buffer, without the last word, with a last row of another kind, and with a task more.
+fn hard_writes(tasks: &[Task]) -> Vec<Request> {
+    let row = [2, 0, 1, 60_000, 60_000];
+    let rows = rows_of(tasks);
+    let (more, strange) = ([&rows[..], &row].concat(), [&rows[..], &[3; 5]].concat());
+    let mut requests =
+        [&rows[..], &more[..], &more[..more.len() - 1], &strange].map(|words| Request::write(words, u64::MAX)).to_vec();
+    requests.push(Request { buffer: vec![0xE7; 9], ..Request::write(&rows, u64::MAX) });
+    requests
 }
 
 /// What nm finds undefined must be what the header says. gcc's binutils bring nm; on Arm it reads the archive too.
