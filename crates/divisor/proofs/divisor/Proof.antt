@@ -1,33 +1,39 @@
--- The greatest common divisor of the pair at hand is that of the pair that came in. The rest falls at each turn.
+-- The divisor of the odd parts, doubled as often as both numbers are, is that of the numbers.
 use mathlib.Core.Path.{_≡_}
-use Prim.Native.Nat.{ℕ}
-use native.Mathlib.Nat.{mod-lt}
 use native.Mathlib.Omega.{arith}
 use borrow.Author.Needs.{needs}
-use Rattle.counting.specs.Divisors.{IsGcd, gcd-zero, gcd-step}
+use Rattle.counting.specs.Divisors.{gcd-zero}
+use Rattle.divisor.specs.Halves.{gcd-none, gcd-shifted, zeros-lt}
 use Rattle.divisor.proofs.divisor.Statement.{statement}
 use Rattle.divisor.proofs.divisor.Tie as tie
 
-abbrev Inv-loop : tie.InvT-loop
-Inv-loop a b dividend₀ rest₀ dividend rest = (g : ℕ) → IsGcd dividend rest g → IsGcd a b g
+returns : tie.Need-returns
+returns c = gcd-none (omega arith) (omega arith)
 
-abbrev μ-loop : tie.MeasureT-loop
-μ-loop a b dividend₀ rest₀ dividend rest = rest
+returns-2 : tie.Need-returns-2
+returns-2 c = let none : c .before .before .args .b ≡ 0 = omega arith in rw none (gcd-zero _)
 
-loop-holds : tie.Need-loop-holds Inv-loop μ-loop
-loop-holds c g h = h
+odd-part-requires : tie.Need-odd-part-requires
+odd-part-requires c κs = search needs
 
-rem-next : tie.Need-rem-next Inv-loop μ-loop
-rem-next c = search needs
+odd-part-requires-2 : tie.Need-odd-part-requires-2
+odd-part-requires-2 c κs = search needs
 
-loop-less : tie.Need-loop-less Inv-loop μ-loop
-loop-less c = mod-lt _ (omega arith)
+odd-divisor-requires : tie.Need-odd-divisor-requires
+odd-divisor-requires c κs = search needs
 
-loop-again : tie.Need-loop-again Inv-loop μ-loop
-loop-again c g h = c .before .loop .inv g (gcd-step h)
+shared-twos-requires : tie.Need-shared-twos-requires
+shared-twos-requires c κs = search needs
 
-returns : tie.Need-returns Inv-loop μ-loop
-returns c = let done : c .before .loop .rest ≡ 0 = omega arith in c .before .loop .inv _ (rw done (gcd-zero _))
+cast-result : tie.Need-cast-result
+cast-result c = search needs
+
+shl-result : tie.Need-shl-result
+shl-result c = omega (arith, c .shared-twos .ensures, zeros-lt 64 (c .before .before .before .before .before .before .args .a) (omega arith) (omega arith))
+
+returns-3 : tie.Need-returns-3
+returns-3 c =
+    gcd-shifted (omega arith) (c .before .before .before .odd-part .ensures) (c .before .before .odd-part2 .ensures) (c .before .odd-divisor .ensures) (omega (arith, c .shared-twos .ensures))
 
 pub divisor-spec : {M : Type 1} → statement M
-divisor-spec = tie.close (tie.spec Inv-loop μ-loop loop-holds rem-next loop-less loop-again returns)
+divisor-spec = tie.close (tie.spec returns returns-2 odd-part-requires odd-part-requires-2 odd-divisor-requires shared-twos-requires cast-result shl-result returns-3)
