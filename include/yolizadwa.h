@@ -1,14 +1,16 @@
 /*
  * Yolizadwa for C (from C99 on) and C++: judge a table of tasks, then give out time slot by slot.
  *
- * Four calls, in the static library that `rt staticlib yolizadwa` writes for x86-64:
+ * Six calls, in the static library that `rt staticlib yolizadwa` writes for x86-64:
  *
  *   yolizadwa_write   writes a table file from the numbers of its tasks
+ *   yolizadwa_from_text   writes the table file of a table in plain text
+ *   yolizadwa_to_text     writes the plain text of a table file
  *   yolizadwa_check   judges a table file and writes its report as text
  *   yolizadwa_start   makes the dispatcher's first state for a table file
  *   yolizadwa_step    gives out one slot and makes the next state
  *
- * What holds for all four:
+ * What holds for all six:
  *   - They keep nothing between calls, allocate nothing, and may run in several threads at once on different buffers.
  *   - Of the C library they need memcpy and memset alone. The host tests hold the stack of each call to 16 KiB.
  *   - A result below 65,536 is an answer. Any other is a refusal: 65,536 x number + place. A refusal changes no byte.
@@ -66,10 +68,18 @@ enum yolizadwa_refusal {
     YOLIZADWA_SEVENTEENTH_TASK = 25,/* a seventeenth task; place: where it begins */
     YOLIZADWA_NO_END = 26,          /* the file ends after a whole record, without an end record; place: its length */
     YOLIZADWA_SHORT_REPORT = 30,    /* the report buffer has fewer than 512 bytes; place: its length */
-    YOLIZADWA_SHORT_FILE = 31,      /* the file buffer is shorter than the file; place: its length */
+    YOLIZADWA_SHORT_BUFFER = 31,    /* the buffer is shorter than what is to be written; place: its length */
     YOLIZADWA_STATE_LENGTH = 50,    /* the state buffer has not 144 bytes; place: its length, 65,535 if it is longer */
     YOLIZADWA_BROKEN_ROWS = 51,     /* the words of a table are no whole rows; place: their number, at most 65,535 */
-    YOLIZADWA_STRANGE_ROW = 52      /* a row of a table is no task; place: the first such row, at most 65,535 */
+    YOLIZADWA_STRANGE_ROW = 52,     /* a row of a table is no task; place: the first such row, at most 65,535 */
+    /* Of a text; place: the line, counted from 1, at most 65,535. */
+    YOLIZADWA_UNKNOWN_WORD = 60,    /* a line's first word is neither `budget` nor `task` */
+    YOLIZADWA_NO_NUMBER = 61,       /* a word that should be a number has a byte that is no digit */
+    YOLIZADWA_LARGE_NUMBER = 62,    /* a number of a task is 2^32 or more, or the budget 2^64 or more */
+    YOLIZADWA_NUMBERS_DUE = 63,     /* a line has too few numbers or too many */
+    YOLIZADWA_NO_BUDGET = 64,       /* a task comes before the budget, or the text ends without one (place: its last line) */
+    YOLIZADWA_BUDGET_AGAIN = 65,    /* a second budget */
+    YOLIZADWA_TASK_TOO_MANY = 66    /* a seventeenth task */
 };
 
 /* Whether a result is a refusal, and then its number and its place. */
@@ -94,6 +104,31 @@ static inline uint32_t yolizadwa_place(uint64_t result) { return (uint32_t)(resu
  */
 #define YOLIZADWA_ROW_WORDS 5
 uint64_t yolizadwa_write(const uint32_t *words, size_t count, uint64_t budget, uint8_t *file, size_t file_len);
+
+/*
+ * A table in plain text: one line for the budget, first and once, then a line for each task.
+ *
+ *   # the bench, Tuesday
+ *   budget 1000
+ *   task 8 5 7 15     # offset, cost, deadline, period
+ *   task 0 2 2 5
+ *
+ * A line ends with a line feed, the last one also with the text; a carriage return at a line's end is ignored. `#` begins a
+ * comment up to the line's end. Words are parted by blanks and tabs. A line without a word says nothing. Numbers are
+ * decimal. Any bytes of any length may be handed over; the text is read where it lies.
+ *
+ * yolizadwa_from_text writes the table file of a text at the beginning of a buffer; the result is the file's length, at most
+ * YOLIZADWA_LONGEST_FILE. Refusals: the text's first fault (60 to 66; in a line from left to right), then 1 to 7, then 31.
+ *
+ * yolizadwa_to_text writes the text of a table file, without comments and with one blank between words; the result is the
+ * text's length, at most YOLIZADWA_LONGEST_TEXT, with no zero byte at its end. Refusals: 20 to 26; 1 to 7; 31. The file of
+ * that text is the same file, byte for byte.
+ *
+ * Bytes behind what is written stay as they were.
+ */
+#define YOLIZADWA_LONGEST_TEXT 492
+uint64_t yolizadwa_from_text(const uint8_t *text, size_t text_len, uint8_t *file, size_t file_len);
+uint64_t yolizadwa_to_text(const uint8_t *file, size_t file_len, uint8_t *text, size_t text_len);
 
 /*
  * Judges a table file. The result is the length of the report, 1 to 512. The report stands at the beginning of the

@@ -20,6 +20,7 @@ use Rattle.model.specs.History.{stateAt, ownerAt, reported, had, Finishe
 use Rattle.model.specs.Report.{worstLines, reportOf, refused, written, Checked, Printed}
 use Rattle.model.specs.StateBuffer.{bufferOf, stateIn, startExported, stepExported, handed}
 use Rattle.model.specs.Writer.{fileWritten, firstStranger, tableIn, writeExported}
+use Rattle.model.specs.PlainText.{split, filled, allDigits, valueAfter, numbersFault, same, budgetLine, taskLine, lineOf, readLines, textForm, textLoaded, taskTexts, textOf, textWritten, fromTextExported, toTextExported}
 
 -- A task as document 01 writes it, and its tables.
 abbrev pub of : ℕ → ℕ → ℕ → ℕ → Task
@@ -554,3 +555,43 @@ exported-writes :
     × (writeExported [] 1000 [] .number ≡ 65536)
 unfolding firstStranger tableIn fileWritten judged firstFaulty taskFault first round load horizon largest sum count fill bytesOf taskRecords
 exported-writes = (refl, refl, refl, refl, refl, refl)
+
+-- ---- plain text
+
+-- Words are parted by blanks and tabs; a carriage return at a line's end and a comment say nothing; the last line may lack its line feed.
+text-b : textLoaded (text "# the bench\n\n budget 1000\r\ntask 8\t5  7 015# camera\ntask 0 2 2 5") ≡ record { admission = Admission.Admitted; budget = 1000; table = table-b }
+unfolding textLoaded textForm readLines lineOf budgetLine taskLine numbersFault valueAfter allDigits same filled split text judged firstFaulty taskFault first round load horizon largest sum count
+text-b = refl
+
+-- The text of table b; from text to file and back.
+text-of-b :
+    (textOf 1000 (of 8 5 7 15 ∷ of 0 2 2 5 ∷ []) ≡ text "budget 1000\ntask 8 5 7 15\ntask 0 2 2 5\n")
+    × (fromTextExported (text "budget 1000\ntask 8 5 7 15\ntask 0 2 2 5\n") (replicate 45 7) ≡ record { number = 44; buffer = file-b ++ (7 ∷ []) })
+    × (toTextExported file-b (replicate 40 7) ≡ record { number = 39; buffer = text "budget 1000\ntask 8 5 7 15\ntask 0 2 2 5\n" ++ (7 ∷ []) })
+    × (toTextExported file-b (replicate 38 7) ≡ record { number = 2031654; buffer = replicate 38 7 })
+unfolding taskTexts textForm readLines lineOf budgetLine taskLine numbersFault valueAfter allDigits same filled split text decimal digits fileWritten textWritten formOf readFrom judged firstFaulty taskFault first round load horizon largest sum count bytesOf taskRecords
+text-of-b = (refl, refl, refl, refl)
+
+-- The first fault wins, from left to right: the first word, its place, then the numbers; the table is judged after the form.
+text-refusals :
+    map (λ s. textLoaded s .admission) (
+    text "" ∷ text "# nothing\n" ∷ text "\nbudgets 5" ∷ text "task 1 2 3 4\nbudget 5" ∷ text "budget 5\n\nbudget x"
+    ∷ text "budget" ∷ text "budget 5 6" ∷ text "budget -5" ∷ text "budget 18446744073709551615" ∷ text "budget 18446744073709551616" ∷ text "budget 99999999999999999999x"
+    ∷ text "budget 5\ntask 1 x" ∷ text "budget 5\ntask 1 2 3 4 x" ∷ text "budget 5\ntask 1 2 3" ∷ text "budget 5\ntask 4294967296 2" ∷ text "budget 5\ntask 4294967295 1 1 1"
+    ∷ text "budget 5" ∷ text "budget 5\rtask 1 1 1 1" ∷ []
+    )
+    ≡ at 64 1 ∷ at 64 2 ∷ at 60 2 ∷ at 64 1 ∷ at 65 3
+    ∷ at 63 1 ∷ at 63 1 ∷ at 61 1 ∷ at 1 0 ∷ at 62 1 ∷ at 61 1
+    ∷ at 61 2 ∷ at 63 2 ∷ at 63 2 ∷ at 62 2 ∷ at 6 0
+    ∷ at 1 0 ∷ at 61 1 ∷ []
+unfolding textLoaded textForm readLines lineOf budgetLine taskLine numbersFault valueAfter allDigits same filled split text judged firstFaulty taskFault first round load horizon largest sum count
+text-refusals = refl
+
+tasksOfOne : ℕ → List ℕ
+tasksOfOne zero = []
+tasksOfOne (suc n) = text "task 0 1 1 1\n" ++ tasksOfOne n
+
+-- A seventeenth task is 66, whatever follows it on its line.
+many-lines : (textLoaded (text "budget 0\n" ++ tasksOfOne 16) .admission ≡ Admission.Admitted) × (textLoaded (text "budget 0\n" ++ tasksOfOne 16 ++ text "task x") .admission ≡ at 66 18)
+unfolding tasksOfOne textLoaded textForm readLines lineOf budgetLine taskLine numbersFault valueAfter allDigits same filled split text judged firstFaulty taskFault first round load horizon largest sum count
+many-lines = (refl, refl)

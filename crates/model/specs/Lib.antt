@@ -13,4 +13,5 @@ pub mod History
 pub mod Report
 pub mod StateBuffer
 pub mod Writer
+pub mod PlainText
 pub mod Examples

@@ -12,6 +12,7 @@ pub use Rattle.values.specs.declared.Answer.{Answer}
 pub use Rattle.values.specs.declared.Admission.{Admission}
 pub use Rattle.values.specs.declared.Loaded.{Loaded}
 pub use Rattle.values.specs.declared.Writing.{Writing}
+pub use Rattle.values.specs.declared.Line.{Line}
 pub use Rattle.values.specs.declared.Turn.{Turn}
 pub use Rattle.values.specs.declared.Given.{Given}
 

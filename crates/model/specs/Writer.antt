@@ -25,14 +25,14 @@ fitted bytes buffer =
 abbrev pub tasksOf : Table → List Task
 tasksOf t = take (t .count) (t .tasks)
 
--- The file of a table and a budget is written after the table's own refusals.
-abbrev pub fileWrittenBy : Table → ℕ → List ℕ → Judgement → Filled
-fileWrittenBy t budget buffer (Judgement.Refused r) = unwritten (r .number) (r .place) buffer
-fileWrittenBy t budget buffer (Judgement.WellFormed m) = fitted (fileOf budget (tasksOf t)) buffer
+-- The bytes of a table are written after the table's own refusals.
+abbrev pub writtenBy : List ℕ → List ℕ → Judgement → Filled
+writtenBy bytes buffer (Judgement.Refused r) = unwritten (r .number) (r .place) buffer
+writtenBy bytes buffer (Judgement.WellFormed m) = fitted bytes buffer
 
 -- The one permitted result of the writer on any table, budget and buffer.
 unfoldable pub fileWritten : Table → ℕ → List ℕ → Filled
-fileWritten t budget buffer = fileWrittenBy t budget buffer (judged t)
+fileWritten t budget buffer = writtenBy (fileOf budget (tasksOf t)) buffer (judged t)
 
 -- From C a table is handed over as words, five for each task: its kind, O, C, D, T.
 abbrev pub rowWords : ℕ

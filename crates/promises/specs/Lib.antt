@@ -5,3 +5,4 @@ pub mod Demand3
 pub mod Tables
 pub mod Camera
 pub mod Writer
+pub mod PlainText

@@ -156,7 +156,7 @@ fn reading_at(file: &[u8], at: usize, count: usize) -> Reading
     }
 }
 
-fn no_tasks() -> Table
+pub fn no_tasks() -> Table
     ensures { λ r. ⌜ r ≡ tableOf [] ⌝ }
 {
     let none = Task {
@@ -171,7 +171,7 @@ fn no_tasks() -> Table
     }
 }
 
-fn with_task(table: Table, task: Task) -> Table
+pub fn with_task(table: Table, task: Task) -> Table
     requires { ⌜ table .count < taskLimit ⌝ }
     ensures { λ r. ⌜ r ≡ withTask table task ⌝ }
 {
@@ -182,7 +182,7 @@ fn with_task(table: Table, task: Task) -> Table
     longer
 }
 
-fn refused_file(why: Refusal) -> Loaded
+pub fn refused_file(why: Refusal) -> Loaded
     ensures { λ r. ⌜ r ≡ refuseFile (why .number) (why .place) ⌝ }
 {
     Loaded {

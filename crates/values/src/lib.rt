@@ -94,6 +94,14 @@ pub enum Writing {
     Bytes(usize),
 }
 
+// What a line of a plain text says: nothing, a budget, a task, or by its number the fault that it has.
+pub enum Line {
+    Nothing,
+    Budget(u64),
+    OneTask(Task),
+    Fault(u32),
+}
+
 // What a step says: the task that owns the slot, or 16; the tasks closed late as a set of bits, how many they are, and
 // the lowest of them, or 16.
 pub struct Turn {

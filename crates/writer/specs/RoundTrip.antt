@@ -2,7 +2,7 @@
 use mathlib.Core.Path.{_≡_, refl, sym, ap, _∙_}
 use mathlib.Core.List.{List, _++_}
 use mathlib.Core.Bool.{Bool, true, false, cond}
-use Prim.Native.Nat.{ℕ, _<_}
+use Prim.Native.Nat.{ℕ, _≤_, _<_}
 use native.Mathlib.Omega.{arith}
 use lib.Dec.{ltb}
 use lib.ListN.{length, getD, take, drop, List·getD-append}
@@ -14,10 +14,10 @@ use Rattle.values.specs.declared.Judgement.{Judgement}
 use Rattle.values.specs.declared.Admission.{Admission}
 use Rattle.values.specs.declared.Loaded.{Loaded}
 use Rattle.values.specs.declared.Writing.{Writing}
-use Rattle.model.specs.Limits.{budgetLimit}
-use Rattle.model.specs.Tasks.{noTask, task, judged}
-use Rattle.model.specs.TableFile.{tableOf, admit, fileOf, formOf, loadedFrom}
-use Rattle.model.specs.Writer.{unwritten, fitted, tasksOf, fileWritten, fileWrittenBy}
+use Rattle.model.specs.Limits.{taskLimit, budgetLimit}
+use Rattle.model.specs.Tasks.{noTask, task, measure, judged}
+use Rattle.model.specs.TableFile.{tableOf, admit, fileOf, judgedForm, formOf, loadedFrom}
+use Rattle.model.specs.Writer.{unwritten, fitted, tasksOf, fileWritten, writtenBy}
 use Rattle.wellformed.specs.Ranges.{Ranged, holds-all}
 use Rattle.wellformed.specs.WellFormed.{well-formed, same-well-formed}
 use Rattle.tablefile.specs.Admitted.{admitted}
@@ -34,18 +34,34 @@ ranged-fit t r i l =
     let k = r .each i (omega arith) in
     rw (getD-take (t .count) (t .tasks) i noTask (omega arith)) (omega (arith, k .offset-le), omega (arith, k .cost-le, k .deadline-le, k .period-le), omega (arith, k .deadline-le, k .period-le), omega (arith, k .period-le))
 
--- The file of a well-formed table and a budget is loaded as this budget and these tasks.
-pub file-loads : (t : Table) (m : Measure) (b : ℕ) → b < budgetLimit → judged t ≡ Judgement.WellFormed m → loadedFrom (fileOf b (tasksOf t)) ≡ admit b (tasksOf t)
-unfolding loadedFrom
-file-loads t m b limit well =
-    let r = well-formed t m well .ranged in
-    let size : length (tasksOf t) ≡ t .count = length-take-le (t .count) (t .tasks) (holds-all t r) in
-    let formed : formOf (fileOf b (tasksOf t)) ≡ admit b (tasksOf t) = written-read b (tasksOf t) limit (ranged-fit t r) (omega (arith, r .few)) in
-    let same : (i : ℕ) → i < t .count → task (tableOf (tasksOf t)) i ≡ task t i = λ i l. List·getD-append (tasksOf t) _ noTask i (omega arith) ∙ getD-take (t .count) (t .tasks) i noTask l in
-    rw (formed, same-well-formed t (tableOf (tasksOf t)) m size same well)
+module _ (t : Table) (m : Measure) (b : ℕ) (well : judged t ≡ Judgement.WellFormed m) where
+  ranged : Ranged t
+  ranged = well-formed t m well .ranged
+
+  size : length (tasksOf t) ≡ t .count
+  size = length-take-le (t .count) (t .tasks) (holds-all t ranged)
+
+  -- The tasks of a well-formed table are few and fit their words.
+  pub few-and-fit : (length (tasksOf t) ≤ taskLimit) × AllFit (tasksOf t)
+  few-and-fit = (omega (arith, size, ranged .few), ranged-fit t ranged)
+
+  -- A table of these tasks is well-formed too.
+  pub tasks-well-formed : judged (tableOf (tasksOf t)) ≡ Judgement.WellFormed (measure (tableOf (tasksOf t)))
+  tasks-well-formed =
+      let same : (i : ℕ) → i < t .count → task (tableOf (tasksOf t)) i ≡ task t i = λ i l. List·getD-append (tasksOf t) _ noTask i (omega (arith, size)) ∙ getD-take (t .count) (t .tasks) i noTask l in
+      same-well-formed t (tableOf (tasksOf t)) m size same well
+
+  -- What has a form that holds this budget and these tasks is loaded as such.
+  pub formed-loads : {l : Loaded} → l ≡ admit b (tasksOf t) → judgedForm l (l .admission) ≡ admit b (tasksOf t)
+  formed-loads e = rw (e, tasks-well-formed)
+
+  -- The file of a well-formed table and a budget is loaded as this budget and these tasks.
+  pub file-loads : b < budgetLimit → loadedFrom (fileOf b (tasksOf t)) ≡ admit b (tasksOf t)
+  unfolding loadedFrom
+  file-loads limit = formed-loads (written-read b (tasksOf t) limit (few-and-fit .1) (few-and-fit .0))
 
 -- What a writer says it wrote stands at the front of the buffer.
-fitted-front : (bytes buffer : List ℕ) (n : ℕ) → fitted bytes buffer .said ≡ Writing.Bytes n → take n (fitted bytes buffer .buffer) ≡ bytes
+pub fitted-front : (bytes buffer : List ℕ) (n : ℕ) → fitted bytes buffer .said ≡ Writing.Bytes n → take n (fitted bytes buffer .buffer) ≡ bytes
 fitted-front bytes buffer n = go (ltb (length buffer) (length bytes))
   where
     go : (short : Bool) → let f = cond short (unwritten 31 (length buffer) buffer) (record { said = Writing.Bytes (length bytes); buffer = bytes ++ drop (length bytes) buffer }) in f .said ≡ Writing.Bytes n → take n (f .buffer) ≡ bytes
@@ -58,17 +74,23 @@ pub written-loads : (t : Table) (b : ℕ) (buffer : List ℕ) (n : ℕ) → b < 
 unfolding fileWritten
 written-loads t b buffer n limit = go (judged t) refl
   where
-    go : (j : Judgement) → judged t ≡ j → fileWrittenBy t b buffer j .said ≡ Writing.Bytes n → loadedFrom (take n (fileWrittenBy t b buffer j .buffer)) ≡ admit b (tasksOf t)
+    go : (j : Judgement) → judged t ≡ j → writtenBy (fileOf b (tasksOf t)) buffer j .said ≡ Writing.Bytes n → loadedFrom (take n (writtenBy (fileOf b (tasksOf t)) buffer j .buffer)) ≡ admit b (tasksOf t)
     go (Judgement.Refused r) well e = let z : _≡_ {A = ℕ} 0 1 = cc in absurd (omega arith)
-    go (Judgement.WellFormed m) well e = rw (fitted-front (fileOf b (tasksOf t)) buffer n e) (file-loads t m b limit well)
+    go (Judgement.WellFormed m) well e = rw (fitted-front (fileOf b (tasksOf t)) buffer n e) (file-loads t m b well limit)
+
+-- A file that is loaded is the file of its budget and tasks, and its table is well-formed.
+pub loaded-file : (file : List ℕ) → ((i : ℕ) → getD file i 0 < 256) → loadedFrom file .admission ≡ Admission.Admitted
+    → let l = loadedFrom file in (l .budget < budgetLimit) × (fileOf (l .budget) (tasksOf (l .table)) ≡ file) × ((m : Measure) × (judged (l .table) ≡ Judgement.WellFormed m))
+loaded-file file bytes h =
+    let (same, well) = admitted file h in
+    let (limit, (ks, few, fit, whole, held)) = read-written file bytes (ap (λ (l : Loaded). l .admission) (sym same) ∙ h) in
+    let tasks : tasksOf (formOf file .table) ≡ ks = ap (λ (l : Loaded). tasksOf (l .table)) held ∙ tasks-back ks in
+    rw same (limit, ap (λ (l : List Task). fileOf (formOf file .budget) l) tasks ∙ sym whole, well)
 
 -- What was loaded is written: the same bytes.
 pub loaded-writes : (file buffer : List ℕ) → ((i : ℕ) → getD file i 0 < 256) → loadedFrom file .admission ≡ Admission.Admitted
     → fileWritten (loadedFrom file .table) (loadedFrom file .budget) buffer ≡ fitted file buffer
 unfolding fileWritten
 loaded-writes file buffer bytes h =
-    let (same, (m, well)) = admitted file h in
-    let (limit, (ks, few, fit, whole, held)) = read-written file bytes (ap (λ (l : Loaded). l .admission) (sym same) ∙ h) in
-    let tasks : tasksOf (formOf file .table) ≡ ks = ap (λ (l : Loaded). tasksOf (l .table)) held ∙ tasks-back ks in
-    let written : fileOf (formOf file .budget) (tasksOf (formOf file .table)) ≡ file = ap (λ (l : List Task). fileOf (formOf file .budget) l) tasks ∙ sym whole in
-    rw (same, well) (ap (λ (bytes : List ℕ). fitted bytes buffer) written)
+    let (limit, same, (m, well)) = loaded-file file bytes h in
+    rw well (ap (λ (bytes : List ℕ). fitted bytes buffer) same)

@@ -6,7 +6,7 @@ use mathlib.Core.List.{List, _++_}
 use Prim.Native.Nat.{ℕ, min, _%_, _≤_, _<_}
 use native.Mathlib.Omega.{arith}
 use borrow.Author.Tests.{lt-ltb, le-ltb, ltb-true}
-use lib.Dec.{ltb, eqb}
+use lib.Dec.{ltb, eqb, lit<}
 use lib.ListN.{length, getD, drop}
 use Rattle.values.specs.declared.Table.{Table}
 use Rattle.values.specs.declared.Refusal.{Refusal}
@@ -19,7 +19,7 @@ use Rattle.model.specs.Tasks.{judged}
 use Rattle.model.specs.TableFile.{fileOf, loadedFrom}
 use Rattle.model.specs.Report.{Exported, refused}
 use Rattle.model.specs.Values.{refusal}
-use Rattle.model.specs.Writer.{unwritten, fitted, tasksOf, fileWritten, fileWrittenBy, rowWords, rows, firstStranger, tableIn, fillTold, writeExported}
+use Rattle.model.specs.Writer.{unwritten, fitted, tasksOf, fileWritten, writtenBy, rowWords, rows, firstStranger, tableIn, fillTold, writeExported}
 use Rattle.wellformed.specs.Ranges.{Ranged, holds-all}
 use Rattle.wellformed.specs.WellFormed.{well-formed}
 use Rattle.wellformed.specs.Refused.{Tellable, JudgementTellable, judged-tellable}
@@ -45,36 +45,41 @@ pub loaded-writes : (file buffer : List ℕ) → ((i : ℕ) → getD file i 0 < 
     → fileWritten (loadedFrom file .table) (loadedFrom file .budget) buffer ≡ record { said = Writing.Bytes (length file); buffer = file ++ drop (length file) buffer }
 loaded-writes file buffer bytes good h = rw (round.loaded-writes file buffer bytes good, le-ltb (length buffer) (length file) h)
 
--- Bytes that fit are told, of no more than this many; or there is a refusal that C can tell, and no byte is changed.
-module _ (buffer : List ℕ) where
-  abbrev Apart : List ℕ → Exported → Type 0
-  Apart bytes e =
-      ((e ≡ record { number = length bytes; buffer = bytes ++ drop (length bytes) buffer }) × (length bytes ≤ longestFile))
-      ⊎ ((r : Refusal) × (e ≡ refused r buffer) × Tellable r)
+-- Bytes that fit are told, no more than `most`; or there is a refusal that C can tell, and no byte is changed.
+abbrev pub Apart : ℕ → List ℕ → List ℕ → Exported → Type 0
+Apart most buffer bytes e =
+    ((e ≡ record { number = length bytes; buffer = bytes ++ drop (length bytes) buffer }) × (length bytes ≤ most))
+    ⊎ ((r : Refusal) × (e ≡ refused r buffer) × Tellable r)
 
-  fitted-apart : (bytes : List ℕ) → length bytes ≤ longestFile → let f = fitted bytes buffer in Apart bytes (fillTold (f .buffer) (f .said))
+module _ (most : ℕ) (small : most < 65536) (buffer : List ℕ) where
+  fitted-apart : (bytes : List ℕ) → length bytes ≤ most → let f = fitted bytes buffer in Apart most buffer bytes (fillTold (f .buffer) (f .said))
   fitted-apart bytes few = go (ltb (length buffer) (length bytes)) (ltb-true (length buffer) (length bytes))
     where
       go : (short : Bool) → (short ≡ true → length buffer < length bytes)
           → let f = cond short (unwritten 31 (length buffer) buffer) (record { said = Writing.Bytes (length bytes); buffer = bytes ++ drop (length bytes) buffer }) in
-          Apart bytes (fillTold (f .buffer) (f .said))
+          Apart most buffer bytes (fillTold (f .buffer) (f .said))
       go true h = inr (refusal 31 (length buffer), refl, (omega arith, omega (arith, h refl)))
       go false h = inl (refl, few)
 
-  file-apart : (t : Table) (b : ℕ) → let f = fileWritten t b buffer in Apart (fileOf b (tasksOf t)) (fillTold (f .buffer) (f .said))
-  unfolding fileWritten
-  file-apart t b = go (judged t) refl (judged-tellable t)
+  -- The bytes of a table, if those of a well-formed one are not too many.
+  pub table-apart : (t : Table) (bytes : List ℕ) → (Ranged t → length bytes ≤ most) → let f = writtenBy bytes buffer (judged t) in Apart most buffer bytes (fillTold (f .buffer) (f .said))
+  table-apart t bytes few = go (judged t) refl (judged-tellable t)
     where
-      go : (j : Judgement) → judged t ≡ j → JudgementTellable j → let f = fileWrittenBy t b buffer j in Apart (fileOf b (tasksOf t)) (fillTold (f .buffer) (f .said))
+      go : (j : Judgement) → judged t ≡ j → JudgementTellable j → let f = writtenBy bytes buffer j in Apart most buffer bytes (fillTold (f .buffer) (f .said))
       go (Judgement.Refused r) e n = inr (r, refl, n)
-      go (Judgement.WellFormed m) e n = fitted-apart (fileOf b (tasksOf t)) (short-file t b (well-formed t m e .ranged))
+      go (Judgement.WellFormed m) e n = fitted-apart bytes (few (well-formed t m e .ranged))
 
-  pub write-apart : (words : List ℕ) (b : ℕ) → Apart (fileOf b (tasksOf (tableIn words))) (writeExported words b buffer)
+module _ (buffer : List ℕ) where
+  pub file-apart : (t : Table) (b : ℕ) → let f = fileWritten t b buffer in Apart longestFile buffer (fileOf b (tasksOf t)) (fillTold (f .buffer) (f .said))
+  unfolding fileWritten
+  file-apart t b = table-apart longestFile (lit< tt) buffer t (fileOf b (tasksOf t)) (short-file t b)
+
+  pub write-apart : (words : List ℕ) (b : ℕ) → Apart longestFile buffer (fileOf b (tasksOf (tableIn words))) (writeExported words b buffer)
   write-apart words b = go (not (eqb (length words % rowWords) 0)) (ltb (firstStranger words) (rows words))
     where
       go : (broken strange : Bool)
           → let f = fileWritten (tableIn words) b buffer in
-          Apart (fileOf b (tasksOf (tableIn words)))
+          Apart longestFile buffer (fileOf b (tasksOf (tableIn words)))
           (cond broken (refused (refusal 51 (min (length words) 65535)) buffer) (cond strange (refused (refusal 52 (min (firstStranger words) 65535)) buffer) (fillTold (f .buffer) (f .said))))
       go true strange = inr (refusal 51 (min (length words) 65535), refl, (omega arith, omega arith))
       go false true = inr (refusal 52 (min (firstStranger words) 65535), refl, (omega arith, omega arith))

@@ -54,8 +54,9 @@ fn file_bytes(tasks: usize) -> usize
     BUDGET_BYTES + tasks * TASK_BYTES + 1
 }
 
-fn short_buffer(bytes: usize) -> Writing
-    requires { ⌜ bytes < fileBytes taskLimit ⌝ }
+// What is too long for a buffer has fewer than 65,536 bytes, and so has the buffer.
+pub fn short_buffer(bytes: usize) -> Writing
+    requires { ⌜ bytes < 65536 ⌝ }
     ensures { λ r. ⌜ r ≡ Writing.Refused (record { number = 31; place = bytes }) ⌝ }
 {
     Writing::Refused(Refusal {

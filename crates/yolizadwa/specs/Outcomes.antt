@@ -1,4 +1,4 @@
--- A file and an answer in the report buffer. An answer is exported by its outcome.
+-- A file and an answer in the report buffer, and what a writer says. An answer is exported by its outcome.
 use mathlib.Core.Path.{_≡_, sym, ap, _∙_}
 use mathlib.Core.List.{List}
 use Prim.Native.Nat.{ℕ}
@@ -6,7 +6,9 @@ use Rattle.values.specs.declared.Admission.{Admission}
 use Rattle.values.specs.declared.Answer.{Answer}
 use Rattle.values.specs.declared.Loaded.{Loaded}
 use Rattle.values.specs.declared.Outcome.{Outcome}
+use Rattle.values.specs.declared.Writing.{Writing}
 use Rattle.model.specs.Report.{Exported, refused, written, outcomeTold, FileTold}
+use Rattle.model.specs.Writer.{fillTold}
 
 abbrev pub FileExported : List ℕ → Loaded → Exported → Admission → Type 0
 FileExported buffer = FileTold (λ r. refused r buffer) (λ report. written report buffer)
@@ -16,3 +18,7 @@ exportOf n a buffer = outcomeTold (λ r. refused r buffer) (λ report. written r
 
 pub by-outcome : {e : Exported} (n : ℕ) (a : Answer) (buffer : List ℕ) {o : Outcome} → a .outcome ≡ o → e ≡ exportOf n a buffer o → e ≡ exportOf n a buffer (a .outcome)
 by-outcome n a buffer same h = h ∙ ap (λ (o : Outcome). exportOf n a buffer o) (sym same)
+
+-- The number that tells what a writer says, whatever the buffer holds.
+abbrev pub ToldAs : Writing → ℕ → Type 0
+ToldAs said n = (buffer : List ℕ) → _≡_ {A = Exported} (record { number = n; buffer = buffer }) (fillTold buffer said)

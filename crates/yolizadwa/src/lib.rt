@@ -1,4 +1,4 @@
-// The exported calls: the check of a table file into a report buffer, the writer of one, and the start and the step of a camera's own loop.
+// The exported calls: the check of a table file into a report buffer, the writer of one, texts, and the start and the step of a camera's own loop.
 ghost use mathlib.Core.Path.{_≡_};
 ghost use mathlib.Core.Bool.{not};
 ghost use Prim.Native.Nat.{_+_, _*_, _<_, _≤_, min};
@@ -9,9 +9,10 @@ ghost use Rattle.model.specs.TableFile.{loadedFrom};
 ghost use Rattle.model.specs.Dispatcher.{started, stepped};
 ghost use Rattle.model.specs.Report.{Checked};
 ghost use Rattle.model.specs.StateBuffer.{stateBytes, stateIn, quiet, startWritten, stepWritten, startExported, stepExported};
-ghost use Rattle.model.specs.Writer.{fileWritten, fillTold, writeExported};
+ghost use Rattle.model.specs.Writer.{writeExported};
+ghost use Rattle.model.specs.PlainText.{fromTextExported, toTextExported};
 ghost use Rattle.report.specs.Put.{exported};
-ghost use Rattle.yolizadwa.specs.Outcomes.{FileExported, exportOf};
+ghost use Rattle.yolizadwa.specs.Outcomes.{FileExported, exportOf, ToldAs};
 use dispatch::Dispatcher;
 use slots::NO_TASK;
 use values::Admission;
@@ -217,10 +218,11 @@ pub extern "C" fn yolizadwa_step(file: &[u8], state: &mut [u8], done: u32) -> u6
     step_file(file, state, done)
 }
 
-fn write_table(table: Table, budget: u64, file: &mut [u8]) -> u64
-    ensures { λ r. ⌜ exported r (now (file .exit)) ≡ (let f = fileWritten table budget (now (file .entry)) in fillTold (f .buffer) (f .said)) ⌝ }
+// What a writer says as a number; the buffer is as it left it.
+fn told(said: Writing) -> u64
+    ensures { λ r. ⌜ ToldAs said r ⌝ }
 {
-    match writer::write(table, budget, file) {
+    match said {
         Writing::Refused(why) => refused(why),
         Writing::Bytes(bytes) => bytes as u64,
     }
@@ -238,5 +240,20 @@ pub extern "C" fn yolizadwa_write(words: &[u32], budget: u64, file: &mut [u8]) -
     if stranger < rows::count(words.len()) {
         return refused_at(STRANGE_ROW, stranger);
     }
-    write_table(rows::table_in(words), budget, file)
+    told(writer::write(rows::table_in(words), budget, file))
+}
+
+// Any text and any buffer: the text's form comes first, then the table, then the buffer's length.
+#[no_mangle]
+pub extern "C" fn yolizadwa_from_text(text: &[u8], file: &mut [u8]) -> u64
+    ensures { λ r. ⌜ record { number = r; buffer = now (file .exit) } ≡ fromTextExported (now (text .entry)) (now (file .entry)) ⌝ }
+{
+    told(plaintext::file_of(text, file))
+}
+
+#[no_mangle]
+pub extern "C" fn yolizadwa_to_text(file: &[u8], text: &mut [u8]) -> u64
+    ensures { λ r. ⌜ record { number = r; buffer = now (text .exit) } ≡ toTextExported (now (file .entry)) (now (text .entry)) ⌝ }
+{
+    told(plaintext::text_of(file, text))
 }

@@ -35,20 +35,23 @@ returns-2 c =
 table-in-requires : tie.Need-table-in-requires
 table-in-requires c κs = search needs
 
-write-table-requires : tie.Need-write-table-requires
-write-table-requires c κs = search needs
+write-requires : tie.Need-write-requires
+write-requires c κs = search needs
+
+told-requires : tie.Need-told-requires
+told-requires c κs = search needs
 
 same-length : tie.Need-same-length
 same-length c = search needs
 
 returns-3 : tie.Need-returns-3
 returns-3 c =
-    let called = c .before .before in
-    let held = called .before .before in
+    let wrote = c .before .before .before in
+    let held = wrote .before .before in
     let tested = held .before in
     let counted = tested .before in
     let whole = counted .before .before in
-    rw (sym (whole .before .broken .ensures) ∙ whole .if1 .left, ← counted .before .first-stranger .ensures, ← counted .count .ensures, le-ltb _ _ (tested .if2 .left), ← held .table-in .ensures) (called .write-table .ensures)
+    rw (sym (whole .before .broken .ensures) ∙ whole .if1 .left, ← counted .before .first-stranger .ensures, ← counted .count .ensures, le-ltb _ _ (tested .if2 .left), ← held .table-in .ensures, ← wrote .write .ensures) (c .told .ensures _)
 
 pub yolizadwa-write-spec : {M : Type 1} → statement M
 yolizadwa-write-spec =
@@ -62,6 +65,7 @@ yolizadwa-write-spec =
     refused-at-requires-2
     returns-2
     table-in-requires
-    write-table-requires
+    write-requires
+    told-requires
     same-length
     returns-3)

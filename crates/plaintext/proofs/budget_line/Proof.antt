@@ -1,0 +1,29 @@
+-- Whether a budget was given decides first, then the number.
+use borrow.Author.Needs.{needs}
+use Rattle.plaintext.specs.Lines.{second-budget, budget-fault, budget-good}
+use Rattle.plaintext.proofs.budget_line.Statement.{statement}
+use Rattle.plaintext.proofs.budget_line.Tie as tie
+
+returns : tie.Need-returns
+returns c = rw (c .if1 .taken) (second-budget _)
+
+numbers-in-requires : tie.Need-numbers-in-requires
+numbers-in-requires c κs = search needs
+
+returns-2 : tie.Need-returns-2
+returns-2 c =
+    let read = c .before .before in
+    rw (read .before .if1 .left) (budget-fault (read .numbers-in .ensures) (c .if2 .taken))
+
+array-read-t8 : tie.Need-array-read-t8
+array-read-t8 c = search needs
+
+returns-3 : tie.Need-returns-3
+returns-3 c =
+    let tested = c .before in
+    let read = tested .before .before in
+    rw (read .before .if1 .left) (budget-good (read .numbers-in .ensures) (tested .if2 .left))
+
+pub budget-line-spec : {M : Type 1} → statement M
+budget-line-spec =
+    tie.close (tie.spec returns numbers-in-requires returns-2 array-read-t8 returns-3)

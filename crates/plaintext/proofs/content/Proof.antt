@@ -1,0 +1,35 @@
+-- The comment is looked for in what stands before the end.
+use mathlib.Core.Path.{ap, _∙_}
+use mathlib.Core.List.{List}
+use Prim.Native.Nat.{ℕ}
+use borrow.Author.Needs.{needs}
+use Rattle.model.specs.PlainText.{isHash}
+use Rattle.plaintext.specs.Marks.{lengthTo}
+use Rattle.plaintext.specs.Lines.{from-front, before-comment}
+use Rattle.plaintext.proofs.content.Statement.{statement}
+use Rattle.plaintext.proofs.content.Tie as tie
+
+without-return-requires : tie.Need-without-return-requires
+without-return-requires c κs = search needs
+
+sub-find : tie.Need-sub-find
+sub-find c = search needs
+
+part-find-start : tie.Need-part-find-start
+part-find-start c = search needs
+
+part-find-end : tie.Need-part-find-end
+part-find-end c = search needs
+
+find-requires : tie.Need-find-requires
+find-requires c κs = search needs
+
+returns : tie.Need-returns
+returns c =
+    let cut = c .before .before in
+    before-comment (cut .before .before .args .line .now) (cut .without-return .result) _ (cut .without-return .ensures .0) (cut .without-return .ensures .1) (c .find .ensures .0 ∙ ap (λ (s : List ℕ). lengthTo isHash s) (from-front (cut .before .before .args .line .now) (cut .without-return .result)))
+
+pub content-spec : {M : Type 1} → statement M
+content-spec =
+    tie.close
+    (tie.spec without-return-requires sub-find part-find-start part-find-end find-requires returns)

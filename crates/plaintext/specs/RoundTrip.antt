@@ -1,0 +1,58 @@
+-- What is written as a text is loaded with the same budget and tasks; from a file to its text and back the bytes are the same, and so from a text in its canonical form.
+use mathlib.Core.Path.{_≡_, refl, ap, _∙_}
+use mathlib.Core.List.{List}
+use Prim.Native.Nat.{ℕ, _<_}
+use native.Mathlib.Omega.{arith}
+use lib.ListN.{getD, take}
+use Rattle.values.specs.declared.Task.{Task}
+use Rattle.values.specs.declared.Table.{Table}
+use Rattle.values.specs.declared.Measure.{Measure}
+use Rattle.values.specs.declared.Judgement.{Judgement}
+use Rattle.values.specs.declared.Admission.{Admission}
+use Rattle.values.specs.declared.Writing.{Writing}
+use Rattle.model.specs.Limits.{budgetLimit}
+use Rattle.model.specs.Tasks.{judged}
+use Rattle.model.specs.TableFile.{admit, fileOf, loadedFrom}
+use Rattle.model.specs.Writer.{fitted, tasksOf, writtenBy, fileWritten}
+use Rattle.model.specs.PlainText.{textLoaded, textOf, textWritten, fromText, toText}
+use Rattle.tablefile.specs.Written.{written-read}
+use Rattle.writer.specs.RoundTrip.{tasks-back, few-and-fit, tasks-well-formed, formed-loads, fitted-front, loaded-file}
+use Rattle.plaintext.specs.Canonical.{text-read}
+
+-- The text of a well-formed table and a budget is loaded as this budget and these tasks.
+pub text-loads : (t : Table) (m : Measure) (b : ℕ) → b < budgetLimit → judged t ≡ Judgement.WellFormed m → textLoaded (textOf b (tasksOf t)) ≡ admit b (tasksOf t)
+unfolding textLoaded
+text-loads t m b limit well =
+    let (few, fit) = few-and-fit t m b well in
+    formed-loads t m b well (text-read b (tasksOf t) limit fit few)
+
+-- What was written is loaded: the same budget and the same tasks.
+pub written-text-loads : (t : Table) (b : ℕ) (buffer : List ℕ) (n : ℕ) → b < budgetLimit → textWritten t b buffer .said ≡ Writing.Bytes n
+    → textLoaded (take n (textWritten t b buffer .buffer)) ≡ admit b (tasksOf t)
+unfolding textWritten
+written-text-loads t b buffer n limit = go (judged t) refl
+  where
+    go : (j : Judgement) → judged t ≡ j → writtenBy (textOf b (tasksOf t)) buffer j .said ≡ Writing.Bytes n → textLoaded (take n (writtenBy (textOf b (tasksOf t)) buffer j .buffer)) ≡ admit b (tasksOf t)
+    go (Judgement.Refused r) well e = let z : _≡_ {A = ℕ} 0 1 = cc in absurd (omega arith)
+    go (Judgement.WellFormed m) well e = rw (fitted-front (textOf b (tasksOf t)) buffer n e) (text-loads t m b limit well)
+
+module _ (t : Table) (m : Measure) (b : ℕ) (buffer : List ℕ) (limit : b < budgetLimit) (well : judged t ≡ Judgement.WellFormed m) where
+  -- From the text of a table to its file, and from its file to its text.
+  pub text-to-file : fromText (textOf b (tasksOf t)) buffer ≡ fitted (fileOf b (tasksOf t)) buffer
+  unfolding fileWritten
+  text-to-file =
+      let (few, fit) = few-and-fit t m b well in
+      rw (text-read b (tasksOf t) limit fit few, tasks-well-formed t m b well) (ap (λ (ks : List Task). fitted (fileOf b ks) buffer) (tasks-back (tasksOf t)))
+
+  pub file-to-text : toText (fileOf b (tasksOf t)) buffer ≡ fitted (textOf b (tasksOf t)) buffer
+  unfolding textWritten
+  file-to-text =
+      let (few, fit) = few-and-fit t m b well in
+      rw (written-read b (tasksOf t) limit fit few, tasks-well-formed t m b well) (ap (λ (ks : List Task). fitted (textOf b ks) buffer) (tasks-back (tasksOf t)))
+
+-- The file of the text of a file that is not refused is that file.
+pub back-to-file : (file buffer : List ℕ) → ((i : ℕ) → getD file i 0 < 256) → loadedFrom file .admission ≡ Admission.Admitted
+    → fromText (textOf (loadedFrom file .budget) (tasksOf (loadedFrom file .table))) buffer ≡ fitted file buffer
+back-to-file file buffer bytes h =
+    let (limit, same, (m, well)) = loaded-file file bytes h in
+    text-to-file (loadedFrom file .table) m (loadedFrom file .budget) buffer limit well ∙ ap (λ (s : List ℕ). fitted s buffer) same

@@ -1,0 +1,98 @@
+-- DEMAND 1 at tables in plain text: one permitted result for all bytes; a refusal changes no byte; the text of a budget and tasks is read as
+-- these; from a file to its text and back the bytes are the same.
+use mathlib.Core.Path.{_≡_, refl, sym, ap, _∙_}
+use mathlib.Core.Logic.{_⊎_}
+use mathlib.Core.List.{List, _++_}
+use Prim.Native.Nat.{ℕ, _≤_, _<_}
+use lib.ListN.{length, getD, take, drop}
+use Rattle.values.specs.declared.Task.{Task}
+use Rattle.values.specs.declared.Table.{Table}
+use Rattle.values.specs.declared.Refusal.{Refusal}
+use Rattle.values.specs.declared.Measure.{Measure}
+use Rattle.values.specs.declared.Judgement.{Judgement}
+use Rattle.values.specs.declared.Admission.{Admission}
+use Rattle.values.specs.declared.Loaded.{Loaded}
+use Rattle.values.specs.declared.Writing.{Writing}
+use Rattle.model.specs.Limits.{taskLimit, budgetLimit, longestFile}
+use Rattle.model.specs.Values.{refusalSaid, writingSaid, admissionSaid}
+use Rattle.model.specs.Tasks.{judged}
+use Rattle.model.specs.TableFile.{admit, fileOf, formOf, loadedFrom}
+use Rattle.model.specs.Report.{Exported, refused}
+use Rattle.model.specs.Writer.{Filled, fitted, tasksOf}
+use Rattle.model.specs.PlainText.{textForm, textLoaded, textOf, textWritten, fromText, toText, fromTextExported, toTextExported}
+use Rattle.tablefile.specs.Written.{AllFit}
+use Rattle.writer.specs.RoundTrip.{tasks-back}
+use Rattle.plaintext.specs.Canonical.{text-read}
+use Rattle.plaintext.specs.RoundTrip as round
+use Rattle.plaintext.specs.Texts.{longestText}
+use Rattle.plaintext.specs.Told as told
+
+-- Reading a text's form, loading it, writing a text, and going from text to file and back have one permitted result each, for every input.
+pub one-text-form : (s : List ℕ) (a b : Loaded) → a ≡ textForm s → b ≡ textForm s → a ≡ b
+one-text-form s a b e f = e ∙ sym f
+
+pub one-text-loading : (s : List ℕ) (a b : Loaded) → a ≡ textLoaded s → b ≡ textLoaded s → a ≡ b
+one-text-loading s a b e f = e ∙ sym f
+
+pub one-text-writing : (t : Table) (budget : ℕ) (buffer : List ℕ) (a b : Filled) → a ≡ textWritten t budget buffer → b ≡ textWritten t budget buffer → a ≡ b
+one-text-writing t budget buffer a b e f = e ∙ sym f
+
+pub one-from-text : (s buffer : List ℕ) (a b : Filled) → a ≡ fromText s buffer → b ≡ fromText s buffer → a ≡ b
+one-from-text s buffer a b e f = e ∙ sym f
+
+pub one-to-text : (file buffer : List ℕ) (a b : Filled) → a ≡ toText file buffer → b ≡ toText file buffer → a ≡ b
+one-to-text file buffer a b e f = e ∙ sym f
+
+pub one-from-text-export : (s buffer : List ℕ) (a b : Exported) → a ≡ fromTextExported s buffer → b ≡ fromTextExported s buffer → a ≡ b
+one-from-text-export s buffer a b e f = e ∙ sym f
+
+pub one-to-text-export : (file buffer : List ℕ) (a b : Exported) → a ≡ toTextExported file buffer → b ≡ toTextExported file buffer → a ≡ b
+one-to-text-export file buffer a b e f = e ∙ sym f
+
+-- The text of any budget below 2^64 and of at most 16 tasks, each number below 2^32, has a good form and holds these.
+pub text-is-read : (b : ℕ) (ks : List Task) → b < budgetLimit → AllFit ks → length ks ≤ taskLimit → textForm (textOf b ks) ≡ admit b ks
+text-is-read = text-read
+
+-- What was written as a text is loaded: it is not refused, and has the same budget and the same tasks in their order.
+pub written-text-loads : (t : Table) (budget : ℕ) (buffer : List ℕ) (n : ℕ) → budget < budgetLimit → textWritten t budget buffer .said ≡ Writing.Bytes n
+    → let l = textLoaded (take n (textWritten t budget buffer .buffer)) in (l .admission ≡ Admission.Admitted) × (l .budget ≡ budget) × (tasksOf (l .table) ≡ tasksOf t)
+written-text-loads t budget buffer n limit e =
+    let same = round.written-text-loads t budget buffer n limit e in
+    (ap (λ (l : Loaded). l .admission) same, ap (λ (l : Loaded). l .budget) same, ap (λ (l : Loaded). tasksOf (l .table)) same ∙ tasks-back (tasksOf t))
+
+-- The text of a well-formed table is made its file, and its file its text.
+pub text-to-file : (t : Table) (m : Measure) (budget : ℕ) (buffer : List ℕ) → budget < budgetLimit → judged t ≡ Judgement.WellFormed m
+    → fromText (textOf budget (tasksOf t)) buffer ≡ fitted (fileOf budget (tasksOf t)) buffer
+text-to-file = round.text-to-file
+
+pub file-to-text : (t : Table) (m : Measure) (budget : ℕ) (buffer : List ℕ) → budget < budgetLimit → judged t ≡ Judgement.WellFormed m
+    → toText (fileOf budget (tasksOf t)) buffer ≡ fitted (textOf budget (tasksOf t)) buffer
+file-to-text = round.file-to-text
+
+-- The file of the text of a file that is not refused is that file, byte for byte.
+pub back-to-file : (file buffer : List ℕ) → ((i : ℕ) → getD file i 0 < 256) → loadedFrom file .admission ≡ Admission.Admitted
+    → fromText (textOf (loadedFrom file .budget) (tasksOf (loadedFrom file .table))) buffer ≡ fitted file buffer
+back-to-file = round.back-to-file
+
+-- A text of bad form is refused for it, when it is loaded and when its file is to be written, and the buffer stays as it was.
+pub refused-text : (s buffer : List ℕ) (r : Refusal) → textForm s .admission ≡ Admission.Refused r
+    → let f = fromText s buffer in (admissionSaid (textLoaded s .admission) ≡ refusalSaid r) × (writingSaid (f .said) ≡ refusalSaid r) × (f .buffer ≡ buffer)
+unfolding textLoaded
+refused-text s buffer r e = rw e (refl, refl, refl)
+
+-- From text to file: the file, of at most 282 bytes, at the buffer's front and its length returned, or a refusal by a number above 0 and a place
+-- below 65,536 that changes no byte.
+pub from-text-or-refusal : (s buffer : List ℕ)
+    → let l = textForm s in
+    let file = fileOf (l .budget) (tasksOf (l .table)) in
+    ((fromTextExported s buffer ≡ record { number = length file; buffer = file ++ drop (length file) buffer }) × (length file ≤ longestFile))
+    ⊎ ((r : Refusal) × (fromTextExported s buffer ≡ refused r buffer) × ((0 < r .number) × (r .place < 65536)))
+from-text-or-refusal = told.from-text-apart
+
+-- From file to text: in the same way, of any list of bytes, and a text has at most 492 bytes.
+pub to-text-or-refusal : (file buffer : List ℕ) → ((i : ℕ) → getD file i 0 < 256)
+    → let l = formOf file in
+    let text = textOf (l .budget) (tasksOf (l .table)) in
+    ((toTextExported file buffer ≡ record { number = length text; buffer = text ++ drop (length text) buffer }) × (length text ≤ longestText))
+    ⊎ ((r : Refusal) × (toTextExported file buffer ≡ refused r buffer) × ((0 < r .number) × (r .place < 65536)))
+to-text-or-refusal = told.to-text-apart
