@@ -47,6 +47,12 @@ impl Bench {
         }
     }
 
+    /// The bytes must stand at the buffer's front, with their number as the result.
+    pub fn ask_filled(&mut self, request: Request, bytes: &[u8]) {
+        let buffer = [bytes, &request.buffer[bytes.len()..]].concat();
+        self.ask_knowing(request, (bytes.len() as u64, buffer));
+    }
+
     pub fn answer(&mut self, requests: &[Request]) -> Vec<Reply> {
         for request in requests {
             self.asked[request.call as usize] += 1;

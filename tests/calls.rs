@@ -2,6 +2,7 @@
 //!
 //! Either way stack.c makes them, which is compiled against include/yolizadwa.h.
 
+use crate::plain::LONGEST_TEXT;
 use crate::reference::{LONGEST_FILE, REPORT_BYTES, STATE_BYTES};
 
 /// In the order of stack.h.
@@ -11,15 +12,23 @@ pub enum Call {
     Start,
     Step,
     Write,
+    FromText,
+    ToText,
 }
 
-pub const CALLS: [(Call, &str); 4] =
-    [(Call::Check, "check"), (Call::Start, "start"), (Call::Step, "step"), (Call::Write, "write")];
+pub const CALLS: [(Call, &str); 6] = [
+    (Call::Check, "check"),
+    (Call::Start, "start"),
+    (Call::Step, "step"),
+    (Call::Write, "write"),
+    (Call::FromText, "from text"),
+    (Call::ToText, "to text"),
+];
 
 #[derive(Clone, Debug)]
 pub struct Request {
     pub call: Call,
-    /// To write: the bytes of the words.
+    /// What is read: a file, a text, or to write the bytes of the words.
     pub file: Vec<u8>,
     pub buffer: Vec<u8>,
     /// A step's done, the budget to write.
@@ -43,6 +52,14 @@ impl Request {
         let file = words.iter().flat_map(|word| word.to_le_bytes()).collect();
         Request { call: Call::Write, file, buffer: vec![0xE7; LONGEST_FILE + 8], number: budget }
     }
+
+    pub fn from_text(text: Vec<u8>) -> Request {
+        Request { call: Call::FromText, file: text, buffer: vec![0xE7; LONGEST_FILE + 8], number: 0 }
+    }
+
+    pub fn to_text(file: Vec<u8>) -> Request {
+        Request { call: Call::ToText, file, buffer: vec![0xE7; LONGEST_TEXT + 8], number: 0 }
+    }
 }
 
 pub struct Reply {
@@ -50,6 +67,13 @@ pub struct Reply {
     /// Nothing but the buffer has changed.
     pub intact: bool,
     pub buffer: Vec<u8>,
+}
+
+impl Reply {
+    /// What a call has written whose result is a length; nothing if it is refused.
+    pub fn written(&self) -> Vec<u8> {
+        self.buffer.get(..self.result as usize).unwrap_or_default().to_vec()
+    }
 }
 
 pub use way::Calls;

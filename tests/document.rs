@@ -44,12 +44,10 @@ const REPORTS: &[(Rows, u64, &str)] = &[
 
 fn report_is(bench: &mut Bench, rows: Rows, budget: u64, report: &str) {
     let request = Request::check(file_of(budget, &table_of(rows)));
-    let mut buffer = request.buffer.clone();
-    buffer[..report.len()].copy_from_slice(report.as_bytes());
-    bench.ask_knowing(request, (report.len() as u64, buffer));
+    bench.ask_filled(request, report.as_bytes());
 }
 
-fn refused_with(bench: &mut Bench, request: Request, number: u64, place: u64) {
+pub fn refused_with(bench: &mut Bench, request: Request, number: u64, place: u64) {
     let buffer = request.buffer.clone();
     bench.ask_knowing(request, (65_536 * number + place, buffer));
 }
@@ -190,7 +188,7 @@ pub fn written(bench: &mut Bench) {
         for length in 0..file.len() {
             refused_with(bench, Request { buffer: vec![0xE7; length], ..request.clone() }, 31, length as u64);
         }
-        bench.ask_knowing(request, (file.len() as u64, file));
+        bench.ask_filled(request, &file);
     }
     for (words, number, place) in refused_rows() {
         refused_with(bench, Request::write(&words, 0), number, place);

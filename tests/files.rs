@@ -11,11 +11,7 @@ pub fn ask_rewritten(bench: &mut Bench, file: &[u8]) {
     if let Ok((budget, tasks)) = reference::read_file(file) {
         let request = Request::write(&rows_of(&tasks), budget);
         match reference::judge(&tasks) {
-            Ok(()) => {
-                let behind = &request.buffer[file.len()..];
-                let permitted = (file.len() as u64, [file, behind].concat());
-                bench.ask_knowing(request, permitted);
-            }
+            Ok(()) => bench.ask_filled(request, file),
             Err(_) => bench.ask(request),
         }
     }
@@ -30,6 +26,7 @@ pub fn ask_all(bench: &mut Bench, file: &[u8]) {
     bench.ask(Request::start(file.to_vec()));
     bench.ask(Request::step(file.to_vec(), reference::start(&tasks).to_bytes(), 1));
     ask_rewritten(bench, file);
+    bench.ask(Request::to_text(file.to_vec()));
 }
 
 fn sixteen(rng: &mut Rng) -> Vec<Task> {

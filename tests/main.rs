@@ -10,12 +10,16 @@ mod files;
 mod inputs;
 mod judge;
 mod papers;
+mod plain;
 mod randoms;
 mod reference;
 mod runs;
+mod texts;
 mod whole;
 mod writer;
 
+use bench::Bench;
+use inputs::Rng;
 use std::process::{Command, ExitCode};
 
 const SEED: u64 = 20_241;
@@ -35,38 +39,56 @@ fn argument(place: usize, usual: u64) -> u64 {
     std::env::args().nth(place).map_or(usual, |word| word.parse().expect("a number"))
 }
 
+fn judging(bench: &mut Bench, rng: &mut Rng, count: u64) {
+    document::tables(bench);
+    document::steps(bench);
+    document::refusals(bench);
+    randoms::reference_itself(bench, rng);
+    randoms::field_borders(bench);
+    files::damaged_one_by_one(bench, rng);
+    files::buffers(bench, rng);
+    randoms::checks(bench, rng, count);
+    randoms::long_rounds(bench, rng, count / 20);
+    randoms::spoilt_tables(bench, rng, count / 20);
+    files::damaged_at_random(bench, rng, count / 20);
+    randoms::starts(bench, rng, count);
+    randoms::steps(bench, rng, count);
+    runs::runs(bench, rng, count);
+}
+
+fn writing(bench: &mut Bench, rng: &mut Rng, count: u64) {
+    document::written(bench);
+    writer::rows(bench, rng);
+    writer::buffers(bench, rng);
+    writer::round_trips(bench, rng, count / 2);
+    writer::rewritten(bench, rng, count / 4);
+    writer::spoilt(bench, rng, count / 4);
+    texts::by_the_letter(bench);
+    texts::one_by_one(bench, rng);
+    texts::buffers(bench, rng);
+    texts::round_trips(bench, rng, count / 8);
+    texts::damaged(bench, rng, count / 2);
+    texts::junk(bench, rng, count / 8);
+}
+
+fn what_is_shipped(bench: &mut Bench, rng: &mut Rng) {
+    whole::stack(bench);
+    whole::needs(bench);
+    whole::example_host(bench);
+    whole::recipe(bench);
+    papers::headlines(bench);
+    papers::promises(bench);
+    papers::edits(bench);
+    judge::inputs_by_hand(bench);
+    judge::inputs_at_random(bench, rng);
+}
+
 fn main() -> ExitCode {
     let (seed, count) = (argument(1, SEED), argument(2, COUNT));
     println!("seed {seed}, {count} random inputs for each call");
-    let (mut bench, mut rng) = (bench::Bench::new(), inputs::Rng(seed));
-    document::tables(&mut bench);
-    document::steps(&mut bench);
-    document::refusals(&mut bench);
-    document::written(&mut bench);
-    randoms::reference_itself(&mut bench, &mut rng);
-    randoms::field_borders(&mut bench);
-    files::damaged_one_by_one(&mut bench, &mut rng);
-    files::buffers(&mut bench, &mut rng);
-    randoms::checks(&mut bench, &mut rng, count);
-    randoms::long_rounds(&mut bench, &mut rng, count / 20);
-    randoms::spoilt_tables(&mut bench, &mut rng, count / 20);
-    files::damaged_at_random(&mut bench, &mut rng, count / 20);
-    randoms::starts(&mut bench, &mut rng, count);
-    randoms::steps(&mut bench, &mut rng, count);
-    runs::runs(&mut bench, &mut rng, count);
-    writer::rows(&mut bench, &mut rng);
-    writer::buffers(&mut bench, &mut rng);
-    writer::round_trips(&mut bench, &mut rng, count / 2);
-    writer::rewritten(&mut bench, &mut rng, count / 4);
-    writer::spoilt(&mut bench, &mut rng, count / 4);
-    whole::stack(&mut bench);
-    whole::needs(&mut bench);
-    whole::example_host(&mut bench);
-    whole::recipe(&mut bench);
-    papers::headlines(&mut bench);
-    papers::promises(&mut bench);
-    papers::edits(&mut bench);
-    judge::inputs_by_hand(&mut bench);
-    judge::inputs_at_random(&mut bench, &mut rng);
+    let (mut bench, mut rng) = (Bench::new(), Rng(seed));
+    judging(&mut bench, &mut rng, count);
+    writing(&mut bench, &mut rng, count);
+    what_is_shipped(&mut bench, &mut rng);
     ExitCode::from(!bench.end() as u8)
 }

@@ -2,6 +2,7 @@
 
 use crate::calls::{Call, Request};
 use crate::inputs::file_of;
+use crate::plain;
 
 pub const TASKS: usize = 16;
 pub const NONE: u32 = 16;
@@ -9,7 +10,7 @@ pub const REPORT_BYTES: usize = 512;
 pub const STATE_BYTES: usize = 144;
 /// The bytes of a file of sixteen tasks, the longest legal one.
 pub const LONGEST_FILE: usize = 282;
-const LARGEST_PLACE: usize = 65_535;
+pub const LARGEST_PLACE: usize = 65_535;
 const LONGEST: u32 = 60_000;
 const LARGEST_ROUND: u64 = 1_000_000_000;
 
@@ -33,7 +34,7 @@ impl Refusal {
     }
 }
 
-fn refuse<T>(number: u64, place: usize) -> Result<T, Refusal> {
+pub fn refuse<T>(number: u64, place: usize) -> Result<T, Refusal> {
     Err(Refusal { number, place: place as u64 })
 }
 
@@ -545,6 +546,15 @@ fn answered(request: &Request) -> Result<(u64, Vec<u8>), Refusal> {
             let tasks = table_from(&request.file)?;
             judge(&tasks)?;
             fitting(request, file_of(request.number, &tasks))
+        }
+        Call::FromText => {
+            let (budget, tasks) = plain::read_text(&request.file)?;
+            judge(&tasks)?;
+            fitting(request, file_of(budget, &tasks))
+        }
+        Call::ToText => {
+            let (budget, tasks) = read_table(request)?;
+            fitting(request, plain::text_of(budget, &tasks))
         }
     }
 }

@@ -42,7 +42,9 @@ uint64_t plain_call(uint32_t call, const uint8_t *file, size_t file_len, uint8_t
     case CHECK: return yolizadwa_check(file, file_len, buffer, buffer_len);
     case START: return yolizadwa_start(file, file_len, buffer, buffer_len);
     case STEP: return yolizadwa_step(file, file_len, buffer, buffer_len, (uint32_t)number);
-    default: return write_words(file, file_len, number, buffer, buffer_len);
+    case WRITE: return write_words(file, file_len, number, buffer, buffer_len);
+    case FROM_TEXT: return yolizadwa_from_text(file, file_len, buffer, buffer_len);
+    default: return yolizadwa_to_text(file, file_len, buffer, buffer_len);
     }
 }
 

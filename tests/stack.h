@@ -5,13 +5,16 @@
 #include <stddef.h>
 #include <stdint.h>
 
-enum call { CHECK, START, STEP, WRITE };
+enum call { CHECK, START, STEP, WRITE, FROM_TEXT, TO_TEXT };
 
 /* What is read, what is written, and a number besides: a step's done, the budget to write. */
 typedef uint64_t call_maker(uint32_t call, const uint8_t *file, size_t file_len, uint8_t *buffer, size_t buffer_len,
                             uint64_t number);
 
-/* Tells the call's result. To write, the file is the bytes of the words; if the call changed those, tells UINT64_MAX. */
+/*
+ * Tells the call's result. The file is whatever is read: a file, a text, or to write the bytes of the words; if the call
+ * changed those words, tells UINT64_MAX.
+ */
 call_maker plain_call;
 
 /*

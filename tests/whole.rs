@@ -3,6 +3,7 @@
 use crate::bench::Bench;
 use crate::calls::Request;
 use crate::inputs::{file_of, rows_of};
+use crate::plain;
 use crate::program;
 use crate::reference::{self, Task, TASKS};
 use std::process::Command;
@@ -69,6 +70,8 @@ pub fn stack(bench: &mut Bench) {
     deepest(bench, "start", &starts);
     deepest(bench, "step", &steps);
     deepest(bench, "write", &writes);
+    deepest(bench, "from text", &hard_texts());
+    deepest(bench, "to text", &files.into_iter().map(Request::to_text).collect::<Vec<_>>());
     bench.end_group("stack of each call, on the hardest inputs");
 }
 
@@ -94,6 +97,15 @@ fn hard_writes(tasks: &[Task]) -> Vec<Request> {
         [&rows[..], &more[..], &more[..more.len() - 1], &strange].map(|words| Request::write(words, u64::MAX)).to_vec();
     requests.push(Request { buffer: vec![0xE7; 9], ..Request::write(&rows, u64::MAX) });
     requests
+}
+
+/// The texts of the hard tables, whole, with a task more, and with a fault at their end; and a line of many words.
+fn hard_texts() -> Vec<Request> {
+    let endings = ["", "task 0 1 60000 60000", "\nx", "\ntask 4294967295 0 0 18446744073709551616", "# \r"];
+    let text = |tasks: &Vec<Task>, end: &str| [&plain::text_of(u64::MAX, tasks), end.as_bytes()].concat();
+    let mut texts: Vec<Vec<u8>> = hard_tables().iter().flat_map(|tasks| endings.map(|end| text(tasks, end))).collect();
+    texts.push(b"budget 0 ".repeat(8_000));
+    texts.into_iter().map(Request::from_text).collect()
 }
 
 /// What nm finds undefined must be what the header says. gcc's binutils bring nm; on Arm it reads the archive too.

@@ -72,7 +72,7 @@ fn trip(bench: &mut Bench, tables: &[(Vec<Task>, u64)]) {
     let requests: Vec<Request> = tables.iter().map(|(tasks, budget)| Request::write(&rows_of(tasks), *budget)).collect();
     let replies = bench.answer(&requests);
     for (((tasks, budget), request), reply) in tables.iter().zip(&requests).zip(replies) {
-        let file = reply.buffer.get(..reply.result as usize).unwrap_or_default().to_vec();
+        let file = reply.written();
         let read = reference::read_file(&file) == Ok((*budget, tasks.clone()));
         let good = reply.intact && read && (reply.result, reply.buffer) == reference::answer(request);
         bench.count(good, || format!("{tasks:?} with budget {budget} is written as {file:?}"));
