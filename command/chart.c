@@ -1,0 +1,193 @@
+/* The word run: a strip chart of who had each slot, drawn from the dispatcher's answers alone. */
+#define _POSIX_C_SOURCE 200809L
+
+#include <stdlib.h>
+#include <string.h>
+
+#include "command.h"
+
+enum { USUAL_COLUMNS = 80, LEAST_COLUMNS = 20, MOST_COLUMNS = 1000, LABEL_COLUMNS = 8 };
+enum { LEAST_USUAL = 35, MOST_USUAL = 120, RULER_STEP = 5 };
+
+struct chart {
+    const struct table *table;
+    unsigned tasks;
+    unsigned long slots;
+    unsigned wide; /* slots of a block */
+    int early;
+    uint32_t done;
+    struct yolizadwa_state state;
+    char rows[YOLIZADWA_TASKS][MOST_COLUMNS]; /* of each slot the instant before it, then the slot */
+    struct job late[JOBS_SHOWN];
+    unsigned long late_jobs;
+};
+
+static unsigned columns(void)
+{
+    const char *word = getenv("COLUMNS");
+    long told = word == NULL ? USUAL_COLUMNS : strtol(word, NULL, 10);
+    if (told <= 0) {
+        return USUAL_COLUMNS;
+    }
+    return told < LEAST_COLUMNS ? LEAST_COLUMNS : told > MOST_COLUMNS ? MOST_COLUMNS : (unsigned)told;
+}
+
+/* Whole steps of the ruler, beside the label and the instant after the last slot. */
+static unsigned slots_of_a_block(void)
+{
+    return (columns() - LABEL_COLUMNS - 1) / 2 / RULER_STEP * RULER_STEP;
+}
+
+/* The horizon, which the library tells of a table without a budget too, within what is good to look at. */
+static unsigned long usual_slots(const struct table *table)
+{
+    struct table unjudged = *table;
+    struct report report;
+    replace_budget(&unjudged, 0);
+    check_table(&unjudged, &report);
+    uint64_t horizon = report_number(&report, "\nhorizon ");
+    return horizon < LEAST_USUAL ? LEAST_USUAL : horizon > MOST_USUAL ? MOST_USUAL : (unsigned long)horizon;
+}
+
+/* Whether instants that come every period from the first on fall on this one. */
+static int falls_on(uint64_t instant, uint64_t first, uint64_t period)
+{
+    return instant >= first && (instant - first) % period == 0;
+}
+
+static char mark_of(const struct task *task, uint64_t instant, int late)
+{
+    int released = falls_on(instant, task->offset, task->period);
+    int due = falls_on(instant, task->offset + task->deadline, task->period);
+    return late ? '!' : released && due ? '|' : released ? '[' : due ? ']' : ' ';
+}
+
+static void note_late(struct chart *chart, unsigned number, uint64_t instant, uint32_t missing)
+{
+    struct task task = task_at(chart->table, number);
+    if (chart->late_jobs < JOBS_SHOWN) {
+        struct job *job = &chart->late[chart->late_jobs];
+        job->task = number;
+        job->due = instant;
+        job->release = instant - task.deadline;
+        job->number = (job->release - task.offset) / task.period;
+        job->amount = missing;
+    }
+    chart->late_jobs++;
+}
+
+/* With --early a job says done after half its cost. */
+static uint32_t says_done(const struct chart *chart, uint64_t owner)
+{
+    if (!chart->early || owner >= chart->tasks) {
+        return 0;
+    }
+    struct task task = task_at(chart->table, (unsigned)owner);
+    return task.cost - chart->state.left[owner] >= (task.cost + 1) / 2;
+}
+
+/* One step, drawn at a column. What was left before it is what a job that it closes late had missing. */
+static void draw_slot(struct chart *chart, uint64_t instant, unsigned column)
+{
+    struct yolizadwa_state before = chart->state, *now = &chart->state;
+    uint64_t owner =
+        yolizadwa_step(chart->table->file, chart->table->len, (uint8_t *)now, sizeof *now, chart->done);
+    for (unsigned number = 0; number < chart->tasks; number++) {
+        struct task task = task_at(chart->table, number);
+        int late = now->late >> number & 1;
+        chart->rows[number][column] = mark_of(&task, instant, late);
+        chart->rows[number][column + 1] = owner == number ? '#' : now->left[number] > 0 ? '.' : ' ';
+        if (late) {
+            note_late(chart, number, instant, before.left[number]);
+        }
+    }
+    chart->done = says_done(chart, owner);
+}
+
+static void print_ruler(unsigned long begin, unsigned long end)
+{
+    printf("%-*s", LABEL_COLUMNS, "slot");
+    for (unsigned long slot = begin; slot < end; slot += RULER_STEP) {
+        printf("%-*lu", slot + RULER_STEP < end ? 2 * RULER_STEP : 0, slot);
+    }
+    putchar('\n');
+}
+
+static void print_row(unsigned number, const char *row, unsigned length)
+{
+    while (length > 0 && row[length - 1] == ' ') {
+        length--;
+    }
+    printf("task %-*u%.*s\n", LABEL_COLUMNS - 5, number, (int)length, row);
+}
+
+static void print_block(struct chart *chart, unsigned long begin, unsigned long end, unsigned length)
+{
+    if (begin > 0) {
+        putchar('\n');
+    }
+    print_ruler(begin, end);
+    for (unsigned number = 0; number < chart->tasks; number++) {
+        print_row(number, chart->rows[number], length);
+    }
+}
+
+static void draw_block(struct chart *chart, unsigned long begin)
+{
+    unsigned long left = chart->slots - begin;
+    unsigned slots = left < chart->wide ? (unsigned)left : chart->wide;
+    for (unsigned slot = 0; slot < slots; slot++) {
+        draw_slot(chart, begin + slot, 2 * slot);
+    }
+    /* The instant after the last slot of all is shown too; what follows it is not. */
+    if (left == slots) {
+        draw_slot(chart, chart->slots, 2 * slots);
+    }
+    print_block(chart, begin, begin + slots, 2 * slots + (left == slots));
+}
+
+static void list_late(const struct chart *chart)
+{
+    unsigned long listed = chart->late_jobs < JOBS_SHOWN ? chart->late_jobs : JOBS_SHOWN;
+    int wide = columns_for(chart->slots);
+    if (listed == 0) {
+        printf("no job was closed late in these %lu slots\n", chart->slots);
+        return;
+    }
+    printf("closed late, with so many slots missing:\n");
+    print_jobs_heading("missing", wide);
+    for (unsigned long count = 0; count < listed; count++) {
+        print_job(&chart->late[count], wide);
+    }
+    if (listed < chart->late_jobs) {
+        printf("  and %lu jobs more\n", chart->late_jobs - listed);
+    }
+}
+
+static void draw(struct chart *chart)
+{
+    for (unsigned long begin = 0; begin < chart->slots && !ferror(stdout); begin += chart->wide) {
+        draw_block(chart, begin);
+    }
+    putchar('\n');
+    list_late(chart);
+    printf("\n# has the slot   . waits   [ released   ] due   | due and released   ! closed late\n");
+}
+
+int run(const struct request *request)
+{
+    static struct chart chart;
+    struct table table;
+    int status = open_table(request->files[0], stderr, &table);
+    if (status != DONE) {
+        return status;
+    }
+    chart.table = &table;
+    chart.tasks = task_count(&table);
+    chart.slots = request->slots > 0 ? request->slots : usual_slots(&table);
+    chart.wide = slots_of_a_block();
+    chart.early = request->early;
+    yolizadwa_start(table.file, table.len, (uint8_t *)&chart.state, sizeof chart.state);
+    draw(&chart);
+    return chart.late_jobs > 0 ? LATE : DONE;
+}

@@ -1,0 +1,87 @@
+/* The command `yolizadwa`: what its files share. It is a client of the library and decides nothing that the library decides. */
+#ifndef COMMAND_H
+#define COMMAND_H
+
+#include <stddef.h>
+#include <stdint.h>
+#include <stdio.h>
+
+#include "yolizadwa.h"
+
+/* docs/COMMAND.md promises these numbers. */
+enum status { DONE = 0, TROUBLE = 1, REFUSED = 2, LATE = 3, UNDECIDED = 4 };
+
+enum { MOST_INPUT = 1 << 24, MOST_SLOTS = 1000000, JOBS_SHOWN = 100 };
+
+/* What one call of the command asks for; its word says which of these count. */
+struct request {
+    const char *files[2];
+    int all;
+    int early;
+    unsigned long slots; /* 0: as many as is usual */
+};
+
+/* The bytes of a FILE as they were found, text or table file. */
+struct input {
+    const char *name;
+    uint8_t *bytes;
+    size_t len;
+};
+
+/* A table file that the library has not refused. */
+struct table {
+    uint8_t file[YOLIZADWA_LONGEST_FILE];
+    size_t len;
+};
+
+struct task {
+    uint64_t offset, cost, deadline, period;
+};
+
+struct report {
+    char text[YOLIZADWA_REPORT_BYTES + 1]; /* ended by a zero byte, which the library does not write */
+};
+
+/* Files: each says what went wrong on standard error and then tells TROUBLE. */
+void keep_standard_files_apart(void);
+int trouble(const char *format, ...);
+int read_input(const char *name, struct input *input);
+int write_output(const char *name, const uint8_t *bytes, size_t len);
+
+/* Tables. */
+int is_table_file(const struct input *input);
+uint64_t table_of(const struct input *input, struct table *table);
+int open_table(const char *name, FILE *refusals, struct table *table);
+uint64_t budget_of(const struct table *table);
+void replace_budget(struct table *table, uint64_t budget);
+unsigned task_count(const struct table *table);
+struct task task_at(const struct table *table, unsigned number);
+
+/* Refusals in words, and for a text the line. */
+int say_refusal(FILE *to, const struct input *input, uint64_t result);
+
+/* Reports. */
+void check_table(const struct table *table, struct report *report);
+void check_with_progress(const struct table *table, struct report *report);
+uint64_t report_number(const struct report *report, const char *words);
+int report_verdict(const struct report *report, const char *verdict);
+
+/* A row of jobs, under a heading whose last column is what the caller makes it; times need so many columns. */
+struct job {
+    unsigned task;
+    uint64_t number, release, due, amount;
+};
+int columns_for(uint64_t largest);
+void print_jobs_heading(const char *amount, int columns);
+void print_job(const struct job *job, int columns);
+
+/* The words of the command. */
+int judge(const struct request *request);
+int make(const struct request *request);
+int show(const struct request *request);
+int run(const struct request *request);
+
+/* Pages: NULL names the page of the command itself. 0 if there is no such page. */
+int print_page(FILE *to, const char *word);
+
+#endif

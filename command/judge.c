@@ -1,0 +1,165 @@
+/* The word judge: the library's report, and for a table that does not pass what it means. */
+#include <string.h>
+
+#include "command.h"
+
+int columns_for(uint64_t largest)
+{
+    int columns = 1;
+    for (; largest >= 10; largest /= 10) {
+        columns++;
+    }
+    return columns;
+}
+
+/* No column is narrower than its heading. */
+static int at_least(int columns, const char *heading)
+{
+    int length = (int)strlen(heading);
+    return columns < length ? length : columns;
+}
+
+void print_jobs_heading(const char *amount, int columns)
+{
+    printf("  task  %*s  %*s  %*s  %7s\n", at_least(columns, "job"), "job", at_least(columns, "release"), "release",
+           at_least(columns, "due"), "due", amount);
+}
+
+void print_job(const struct job *job, int columns)
+{
+    printf("  %4u  %*llu  %*llu  %*llu  %7llu\n", job->task, at_least(columns, "job"), (unsigned long long)job->number,
+           at_least(columns, "release"), (unsigned long long)job->release, at_least(columns, "due"),
+           (unsigned long long)job->due, (unsigned long long)job->amount);
+}
+
+/* The jobs released at start or later and due by end, in the order of their releases. */
+struct interval {
+    const struct table *table;
+    uint64_t start, end;
+    uint64_t next[YOLIZADWA_TASKS]; /* of each task the number of the next job that is not told yet */
+};
+
+static struct job job_of(const struct table *table, unsigned number, uint64_t which)
+{
+    struct task task = task_at(table, number);
+    struct job job;
+    job.task = number;
+    job.number = which;
+    job.release = task.offset + which * task.period;
+    job.due = job.release + task.deadline;
+    job.amount = task.cost;
+    return job;
+}
+
+static uint64_t first_from(const struct task *task, uint64_t start)
+{
+    return start <= task->offset ? 0 : (start - task->offset + task->period - 1) / task->period;
+}
+
+/* Of the jobs numbered from first on. */
+static uint64_t due_by(const struct task *task, uint64_t first, uint64_t end)
+{
+    uint64_t earliest = task->offset + first * task->period + task->deadline;
+    return earliest > end ? 0 : (end - earliest) / task->period + 1;
+}
+
+/* Tells how many jobs there are. */
+static uint64_t begin(struct interval *interval)
+{
+    uint64_t jobs = 0;
+    for (unsigned number = 0; number < task_count(interval->table); number++) {
+        struct task task = task_at(interval->table, number);
+        interval->next[number] = first_from(&task, interval->start);
+        jobs += due_by(&task, interval->next[number], interval->end);
+    }
+    return jobs;
+}
+
+static struct job take_next(struct interval *interval)
+{
+    struct job taken = {0, 0, UINT64_MAX, 0, 0};
+    for (unsigned number = 0; number < task_count(interval->table); number++) {
+        struct job job = job_of(interval->table, number, interval->next[number]);
+        if (job.due <= interval->end && job.release < taken.release) {
+            taken = job;
+        }
+    }
+    interval->next[taken.task]++;
+    return taken;
+}
+
+static void list_jobs(struct interval *interval, int all)
+{
+    uint64_t jobs = begin(interval);
+    uint64_t listed = all || jobs < JOBS_SHOWN ? jobs : JOBS_SHOWN;
+    int columns = columns_for(interval->end);
+    print_jobs_heading("cost", columns);
+    for (uint64_t count = 0; count < listed && !ferror(stdout); count++) {
+        struct job job = take_next(interval);
+        print_job(&job, columns);
+    }
+    if (listed < jobs) {
+        printf("  and %llu jobs more; --all shows them all\n", (unsigned long long)(jobs - listed));
+    }
+}
+
+static void explain_late(const struct table *table, const struct report *report, int all)
+{
+    struct interval interval;
+    unsigned long long start = 0, end = 0, demand = 0;
+    const char *line = strstr(report->text, "\ninterval ");
+    if (line == NULL || sscanf(line, "\ninterval %llu %llu demand %llu", &start, &end, &demand) != 3) {
+        return;
+    }
+    printf("\nlate: the jobs released at %llu or later and due by %llu ask for %llu slots, and there are %llu:\n", start, end,
+           demand, end - start);
+    interval.table = table;
+    interval.start = start;
+    interval.end = end;
+    list_jobs(&interval, all);
+}
+
+static void explain_overload(const struct report *report)
+{
+    unsigned long long asked = 0, round = 0;
+    const char *line = strstr(report->text, "\nload ");
+    if (line != NULL && sscanf(line, "\nload %llu/%llu", &asked, &round) == 2) {
+        printf("\noverload: of every %llu slots the jobs ask for %llu, so some are late sooner or later\n", round, asked);
+    }
+}
+
+static void explain_undecided(const struct table *table, const struct report *report)
+{
+    printf("\nundecided: the budget of %llu slots ended before the answer was known; a budget of %llu, the horizon, is enough\n",
+           (unsigned long long)budget_of(table), (unsigned long long)report_number(report, "\nhorizon "));
+}
+
+static int explain(const struct table *table, const struct report *report, int all)
+{
+    if (report_verdict(report, "passes")) {
+        return DONE;
+    }
+    if (report_verdict(report, "undecided")) {
+        explain_undecided(table, report);
+        return UNDECIDED;
+    }
+    if (report_verdict(report, "overload")) {
+        explain_overload(report);
+    } else {
+        explain_late(table, report, all);
+    }
+    return LATE;
+}
+
+int judge(const struct request *request)
+{
+    struct table table;
+    struct report report;
+    int status = open_table(request->files[0], stdout, &table);
+    if (status != DONE) {
+        return status;
+    }
+    check_with_progress(&table, &report);
+    fputs(report.text, stdout);
+    return explain(&table, &report, request->all);
+}

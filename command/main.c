@@ -1,0 +1,168 @@
+/*
+ * yolizadwa: judges tables of periodic tasks and shows who has each slot. docs/COMMAND.md is its manual, and names, words and
+ * statuses there are a promise.
+ */
+#define _POSIX_C_SOURCE 200809L
+
+#include <signal.h>
+#include <stdlib.h>
+#include <string.h>
+
+#include "command.h"
+
+#ifndef KIT
+#define KIT "an unknown kit"
+#endif
+
+#define VERSION "yolizadwa 0.2\nbuilt with " KIT "\n"
+
+struct word {
+    const char *name;
+    const char *form;
+    int files;
+    const char *options[2];
+    int (*act)(const struct request *request);
+};
+
+static const struct word words[] = {
+    {"judge", "judge FILE [--all]", 1, {"--all", NULL}, judge},
+    {"run", "run FILE [--slots N] [--early]", 1, {"--slots", "--early"}, run},
+    {"show", "show FILE", 1, {NULL, NULL}, show},
+    {"make", "make TEXT FILE", 2, {NULL, NULL}, make},
+};
+
+static const struct word *word_named(const char *name)
+{
+    for (size_t at = 0; at < sizeof words / sizeof words[0]; at++) {
+        if (strcmp(words[at].name, name) == 0) {
+            return &words[at];
+        }
+    }
+    return NULL;
+}
+
+static int takes(const struct word *word, const char *option)
+{
+    for (int at = 0; at < 2; at++) {
+        if (word->options[at] != NULL && strcmp(word->options[at], option) == 0) {
+            return 1;
+        }
+    }
+    return 0;
+}
+
+static int misuse(const struct word *word, const char *what, const char *which)
+{
+    return trouble("%s%s; use: yolizadwa %s", what, which, word->form);
+}
+
+/* Digits alone, since strtoul would take a sign, and nothing at all as 0. */
+static int read_slots(const char *digits, unsigned long *slots)
+{
+    *slots = 0;
+    for (; *digits >= '0' && *digits <= '9' && *slots <= MOST_SLOTS; digits++) {
+        *slots = 10 * *slots + (unsigned long)(*digits - '0');
+    }
+    return *digits == '\0' && *slots >= 1 && *slots <= MOST_SLOTS;
+}
+
+/* Tells how many arguments the option is, or 0 if it cannot be taken. */
+static int take_option(const struct word *word, char **arguments, struct request *request)
+{
+    const char *option = arguments[0];
+    if (!takes(word, option)) {
+        misuse(word, "there is no such option here: ", option);
+        return 0;
+    }
+    if (strcmp(option, "--slots") != 0) {
+        request->all |= strcmp(option, "--all") == 0;
+        request->early |= strcmp(option, "--early") == 0;
+        return 1;
+    }
+    if (arguments[1] == NULL || !read_slots(arguments[1], &request->slots)) {
+        misuse(word, "--slots needs a number from 1 to 1000000", "");
+        return 0;
+    }
+    return 2;
+}
+
+static int is_option(const char *argument)
+{
+    return argument[0] == '-' && argument[1] != '\0';
+}
+
+/* Tells how many arguments were taken, or 0 if one cannot be. */
+static int take(const struct word *word, char **arguments, struct request *request, int *files)
+{
+    if (is_option(arguments[0])) {
+        return take_option(word, arguments, request);
+    }
+    if (*files == word->files) {
+        misuse(word, "one argument too many: ", arguments[0]);
+        return 0;
+    }
+    request->files[(*files)++] = arguments[0];
+    return 1;
+}
+
+static int do_word(const struct word *word, char **arguments)
+{
+    struct request request = {{NULL, NULL}, 0, 0, 0};
+    int files = 0;
+    while (*arguments != NULL) {
+        if (strcmp(*arguments, "--help") == 0) {
+            print_page(stdout, word->name);
+            return DONE;
+        }
+        int taken = take(word, arguments, &request, &files);
+        if (taken == 0) {
+            return TROUBLE;
+        }
+        arguments += taken;
+    }
+    if (files < word->files) {
+        return misuse(word, "a file is missing", "");
+    }
+    return word->act(&request);
+}
+
+static int help(const char *word)
+{
+    if (print_page(stdout, word)) {
+        return DONE;
+    }
+    return trouble("no help for %s; there is help for judge, run, show, make and text", word);
+}
+
+static int obey(char **arguments)
+{
+    const char *first = arguments[0];
+    if (first == NULL) {
+        print_page(stderr, NULL);
+        return TROUBLE;
+    }
+    const struct word *word = word_named(first);
+    if (word != NULL) {
+        return do_word(word, arguments + 1);
+    }
+    if (strcmp(first, "--help") == 0 || strcmp(first, "help") == 0) {
+        return help(arguments[1]);
+    }
+    if (strcmp(first, "--version") == 0) {
+        fputs(VERSION, stdout);
+        return DONE;
+    }
+    return trouble("%s is none of judge, run, show, make, help; to judge a table: yolizadwa judge FILE", first);
+}
+
+int main(int argc, char **argv)
+{
+    /* A reader that goes away is an output that cannot be written, not a reason to be killed. */
+    signal(SIGPIPE, SIG_IGN);
+    keep_standard_files_apart();
+    int status = obey(argv + (argc > 0));
+    if (fflush(stdout) != 0 || ferror(stdout)) {
+        return trouble("cannot write to standard output");
+    }
+    return status;
+}

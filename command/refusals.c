@@ -1,0 +1,134 @@
+/* Refusals in words, and the line of a text that is meant. */
+#include <string.h>
+
+#include "command.h"
+
+enum { CHARACTERS_SHOWN = 100 };
+
+/* What a number says; the place, or for a text's own faults the line, stands between the two parts. */
+struct meaning {
+    uint32_t number;
+    const char *before, *after;
+};
+
+static const struct meaning meanings[] = {
+    {YOLIZADWA_NO_TASK, "the table has no task", NULL},
+    {YOLIZADWA_BAD_PERIOD, "the period of task ", " is not between 1 and 60,000"},
+    {YOLIZADWA_BAD_DEADLINE, "the deadline of task ", " is not between 1 and its period"},
+    {YOLIZADWA_BAD_COST, "the cost of task ", " is not between 1 and its deadline"},
+    {YOLIZADWA_BAD_OFFSET, "the offset of task ", " is above 60,000"},
+    {YOLIZADWA_LONG_ROUND, "the least common multiple of the periods is above 1,000,000,000", NULL},
+    {YOLIZADWA_CUT_SHORT, "the file ends inside the record that begins at byte ", ""},
+    {YOLIZADWA_UNKNOWN_KIND, "the record that begins at byte ", " is of no known kind"},
+    {YOLIZADWA_NO_BUDGET_FIRST, "the file does not begin with a budget", NULL},
+    {YOLIZADWA_SECOND_BUDGET, "a second budget begins at byte ", ""},
+    {YOLIZADWA_BYTES_AFTER_END, "the file goes on at byte ", ", after its end"},
+    {YOLIZADWA_SEVENTEENTH_TASK, "a seventeenth task begins at byte ", ""},
+    {YOLIZADWA_NO_END, "the file stops at byte ", " without an end"},
+    {YOLIZADWA_UNKNOWN_WORD, "line ", " begins with a word that is neither budget nor task"},
+    {YOLIZADWA_NO_NUMBER, "line ", " has something else where a decimal number should be"},
+    {YOLIZADWA_LARGE_NUMBER, "line ", " has a number that is too large to be read"},
+    {YOLIZADWA_NUMBERS_DUE, "line ", " has not one number for a budget or four for a task (offset cost deadline period)"},
+    {YOLIZADWA_NO_BUDGET, "up to line ", " there is no budget, which comes first, as in: budget 1000"},
+    {YOLIZADWA_BUDGET_AGAIN, "line ", " is a second budget"},
+    {YOLIZADWA_TASK_TOO_MANY, "line ", " is a seventeenth task, and 16 is the most"},
+};
+
+static const struct meaning *meaning_of(uint32_t number)
+{
+    static const struct meaning none = {0, "see the numbers in include/yolizadwa.h", NULL};
+    for (size_t at = 0; at < sizeof meanings / sizeof meanings[0]; at++) {
+        if (meanings[at].number == number) {
+            return &meanings[at];
+        }
+    }
+    return &none;
+}
+
+static size_t line_end(const struct input *text, size_t at)
+{
+    const uint8_t *feed = memchr(text->bytes + at, '\n', text->len - at);
+    return feed == NULL ? text->len : (size_t)(feed - text->bytes) + 1;
+}
+
+static int same_up_to(const struct input *text, size_t end, uint64_t result)
+{
+    uint8_t file[YOLIZADWA_LONGEST_FILE];
+    return yolizadwa_from_text(text->bytes, end, file, sizeof file) == result;
+}
+
+/*
+ * Where the line begins that the refusal is about. The lines up to it are refused in the same way and fewer are not, so the
+ * library itself finds it, by halves.
+ */
+static size_t refused_line(const struct input *text, uint64_t result)
+{
+    size_t low = 0, high = text->len - 1;
+    while (low < high) {
+        size_t middle = low + (high - low) / 2;
+        if (same_up_to(text, line_end(text, middle), result)) {
+            high = middle;
+        } else {
+            low = middle + 1;
+        }
+    }
+    return low;
+}
+
+static unsigned long line_number(const struct input *text, size_t begin)
+{
+    unsigned long number = 1;
+    for (size_t at = 0; at < begin; at++) {
+        number += text->bytes[at] == '\n';
+    }
+    return number;
+}
+
+static int shown_as(uint8_t byte)
+{
+    return byte == '\t' ? ' ' : byte < ' ' || byte > '~' ? '?' : byte;
+}
+
+static void show_line(FILE *to, const struct input *text, size_t begin, unsigned long number)
+{
+    size_t end = line_end(text, begin);
+    end -= end > begin && text->bytes[end - 1] == '\n';
+    end -= end > begin && text->bytes[end - 1] == '\r';
+    size_t shown = end - begin > CHARACTERS_SHOWN ? begin + CHARACTERS_SHOWN : end;
+    fprintf(to, "%s:%lu: ", text->name, number);
+    for (size_t at = begin; at < shown; at++) {
+        fputc(shown_as(text->bytes[at]), to);
+    }
+    fputs(shown < end ? " ...\n" : "\n", to);
+}
+
+static void say(FILE *to, uint64_t result, unsigned long meant)
+{
+    const struct meaning *meaning = meaning_of(yolizadwa_number(result));
+    fprintf(to, "refused %u at %u: ", (unsigned)yolizadwa_number(result), (unsigned)yolizadwa_place(result));
+    if (meaning->after == NULL) {
+        fprintf(to, "%s\n", meaning->before);
+    } else {
+        fprintf(to, "%s%lu%s\n", meaning->before, meant, meaning->after);
+    }
+}
+
+/* A fault of one task or of one line; the others are of the whole table. */
+static int has_a_line(uint32_t number)
+{
+    return (number >= YOLIZADWA_BAD_PERIOD && number <= YOLIZADWA_BAD_OFFSET) || number >= YOLIZADWA_UNKNOWN_WORD;
+}
+
+int say_refusal(FILE *to, const struct input *input, uint64_t result)
+{
+    uint32_t number = yolizadwa_number(result);
+    if (is_table_file(input) || input->len == 0 || !has_a_line(number)) {
+        say(to, result, yolizadwa_place(result));
+        return REFUSED;
+    }
+    size_t begin = refused_line(input, result);
+    unsigned long line = line_number(input, begin);
+    say(to, result, number >= YOLIZADWA_UNKNOWN_WORD ? line : yolizadwa_place(result));
+    show_line(to, input, begin, line);
+    return REFUSED;
+}

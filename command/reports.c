@@ -1,0 +1,26 @@
+/* Asks the library for a report and looks up numbers in it. */
+#include <stdlib.h>
+#include <string.h>
+
+#include "command.h"
+
+void check_table(const struct table *table, struct report *report)
+{
+    uint64_t length = yolizadwa_check(table->file, table->len, (uint8_t *)report->text, YOLIZADWA_REPORT_BYTES);
+    report->text[length] = '\0';
+}
+
+/* The number that comes after these words in the report; 0 if they do not stand there. */
+uint64_t report_number(const struct report *report, const char *words)
+{
+    const char *found = strstr(report->text, words);
+    return found == NULL ? 0 : strtoull(found + strlen(words), NULL, 10);
+}
+
+int report_verdict(const struct report *report, const char *verdict)
+{
+    static const char words[] = "\nverdict ";
+    const char *found = strstr(report->text, words);
+    size_t length = strlen(verdict);
+    return found != NULL && strncmp(found + sizeof words - 1, verdict, length) == 0 && found[sizeof words - 1 + length] == '\n';
+}

@@ -1,0 +1,104 @@
+/* A FILE as a table: the library reads and writes it, and what it has not refused is looked up where the header says. */
+#include <stdlib.h>
+#include <string.h>
+
+#include "command.h"
+
+/* No text begins with such a byte: the lowest that a text may begin with is a tab. */
+enum { FIRST_OF_A_TEXT = 9 };
+
+enum { BUDGET_AT = 1, BUDGET_BYTES = 8, TASKS_AT = 9, TASK_BYTES = 17, WORD_BYTES = 4 };
+
+int is_table_file(const struct input *input)
+{
+    return input->len > 0 && input->bytes[0] < FIRST_OF_A_TEXT;
+}
+
+/* Tells a refusal or fills the table. A good table file has a text, so that the library says whether it is good. */
+uint64_t table_of(const struct input *input, struct table *table)
+{
+    uint8_t text[YOLIZADWA_LONGEST_TEXT];
+    uint64_t result;
+    if (!is_table_file(input)) {
+        result = yolizadwa_from_text(input->bytes, input->len, table->file, sizeof table->file);
+        table->len = (size_t)result;
+        return result;
+    }
+    result = yolizadwa_to_text(input->bytes, input->len, text, sizeof text);
+    if (!yolizadwa_refused(result)) {
+        table->len = input->len;
+        memcpy(table->file, input->bytes, input->len);
+    }
+    return result;
+}
+
+int open_table(const char *name, FILE *refusals, struct table *table)
+{
+    struct input input;
+    int status = read_input(name, &input);
+    if (status != DONE) {
+        return status;
+    }
+    uint64_t result = table_of(&input, table);
+    if (yolizadwa_refused(result)) {
+        status = say_refusal(refusals, &input, result);
+    }
+    free(input.bytes);
+    return status;
+}
+
+static uint64_t number_at(const uint8_t *bytes, size_t count)
+{
+    uint64_t number = 0;
+    for (size_t at = count; at > 0; at--) {
+        number = number << 8 | bytes[at - 1];
+    }
+    return number;
+}
+
+uint64_t budget_of(const struct table *table)
+{
+    return number_at(table->file + BUDGET_AT, BUDGET_BYTES);
+}
+
+void replace_budget(struct table *table, uint64_t budget)
+{
+    for (unsigned at = 0; at < BUDGET_BYTES; at++) {
+        table->file[BUDGET_AT + at] = (uint8_t)(budget >> 8 * at);
+    }
+}
+
+unsigned task_count(const struct table *table)
+{
+    return (unsigned)((table->len - TASKS_AT) / TASK_BYTES);
+}
+
+struct task task_at(const struct table *table, unsigned number)
+{
+    const uint8_t *words = table->file + TASKS_AT + TASK_BYTES * number + 1;
+    struct task task;
+    task.offset = number_at(words, WORD_BYTES);
+    task.cost = number_at(words + WORD_BYTES, WORD_BYTES);
+    task.deadline = number_at(words + 2 * WORD_BYTES, WORD_BYTES);
+    task.period = number_at(words + 3 * WORD_BYTES, WORD_BYTES);
+    return task;
+}
+
+int make(const struct request *request)
+{
+    struct table table;
+    int status = open_table(request->files[0], stderr, &table);
+    return status != DONE ? status : write_output(request->files[1], table.file, table.len);
+}
+
+int show(const struct request *request)
+{
+    struct table table;
+    uint8_t text[YOLIZADWA_LONGEST_TEXT];
+    int status = open_table(request->files[0], stderr, &table);
+    if (status == DONE) {
+        uint64_t length = yolizadwa_to_text(table.file, table.len, text, sizeof text);
+        fwrite(text, 1, (size_t)length, stdout);
+    }
+    return status;
+}

@@ -1,0 +1,42 @@
+# Sourced by ./yolizadwa and tests/run from the repository's root: how C is built here against the library, which is for x86-64.
+machine=$(uname -m)
+kit=$(dirname "$(dirname "$(readlink -f "$(command -v rt)")")")/on/$machine
+tools=$kit/toolchain
+target=x86_64-unknown-linux-gnu
+library=target/staticlib/libyolizadwa.a
+flags=(-O2 -Wall -Wextra -pedantic -Werror -Iinclude)
+
+# Programs for x86-64 run under this; empty where they run by themselves.
+emulator=()
+if [ "$machine" != x86_64 ]; then
+    emulator=("$tools/bin/qemu-x86_64" "$tools/lib/ld-linux-x86-64.so.2" --library-path "$tools/lib")
+fi
+
+# Elsewhere by the kit's compiler with this machine's headers of the C library, which say the same of what is used here.
+compile() { # STANDARD SOURCE OBJECT [FLAG...]
+    if [ "$machine" = x86_64 ]; then
+        gcc -std="$1" "${flags[@]}" "${@:4}" -c -o "$3" "$2"
+    else
+        "$tools/bin/clang" --target="$target" -std="$1" "${flags[@]}" "${@:4}" -nostdinc \
+            -isystem "$(gcc -print-file-name=include)" -isystem "/usr/include/$(gcc -dumpmachine)" -isystem /usr/include \
+            -c -o "$3" "$2"
+    fi
+}
+
+link() { # PROGRAM OBJECT...
+    if [ "$machine" = x86_64 ]; then
+        gcc -o "$1" "${@:2}" "$library"
+    else
+        "$kit/bin/rattle-link" --target "$target" --toolchain "$tools" -o "$1" "${@:2}" "$library"
+    fi
+}
+
+# Under a name of its own first, so that nobody finds half a program.
+build_command() { # PROGRAM
+    local source scratch
+    scratch=$(mktemp -d target/command.XXXXXX)
+    for source in command/*.c; do
+        compile c99 "$source" "$scratch/$(basename "$source" .c).o" "-DKIT=\"$(rt version)\"" || return
+    done
+    link "$scratch/program" "$scratch"/*.o && mv -f "$scratch/program" "$1" && rm -r "$scratch"
+}
