@@ -26,9 +26,9 @@ static const struct meaning meanings[] = {
     {YOLIZADWA_SEVENTEENTH_TASK, "a seventeenth task begins at byte ", ""},
     {YOLIZADWA_NO_END, "the file stops at byte ", " without an end"},
     {YOLIZADWA_UNKNOWN_WORD, "line ", " begins with a word that is neither budget nor task"},
-    {YOLIZADWA_NO_NUMBER, "line ", " has something else where a decimal number should be"},
+    {YOLIZADWA_NO_NUMBER, "line ", " has a word that is no decimal number"},
     {YOLIZADWA_LARGE_NUMBER, "line ", " has a number that is too large to be read"},
-    {YOLIZADWA_NUMBERS_DUE, "line ", " has not one number for a budget or four for a task (offset cost deadline period)"},
+    {YOLIZADWA_NUMBERS_DUE, "line ", " has too few numbers or too many; a budget has one, a task four: offset cost deadline period"},
     {YOLIZADWA_NO_BUDGET, "up to line ", " there is no budget, which comes first, as in: budget 1000"},
     {YOLIZADWA_BUDGET_AGAIN, "line ", " is a second budget"},
     {YOLIZADWA_TASK_TOO_MANY, "line ", " is a seventeenth task, and 16 is the most"},
@@ -45,10 +45,11 @@ static const struct meaning *meaning_of(uint32_t number)
     return &none;
 }
 
+/* Without its line feed, behind which the next line begins, be it empty. */
 static size_t line_end(const struct input *text, size_t at)
 {
     const uint8_t *feed = memchr(text->bytes + at, '\n', text->len - at);
-    return feed == NULL ? text->len : (size_t)(feed - text->bytes) + 1;
+    return feed == NULL ? text->len : (size_t)(feed - text->bytes);
 }
 
 static int same_up_to(const struct input *text, size_t end, uint64_t result)
@@ -63,7 +64,7 @@ static int same_up_to(const struct input *text, size_t end, uint64_t result)
  */
 static size_t refused_line(const struct input *text, uint64_t result)
 {
-    size_t low = 0, high = text->len - 1;
+    size_t low = 0, high = text->len;
     while (low < high) {
         size_t middle = low + (high - low) / 2;
         if (same_up_to(text, line_end(text, middle), result)) {
@@ -92,7 +93,6 @@ static int shown_as(uint8_t byte)
 static void show_line(FILE *to, const struct input *text, size_t begin, unsigned long number)
 {
     size_t end = line_end(text, begin);
-    end -= end > begin && text->bytes[end - 1] == '\n';
     end -= end > begin && text->bytes[end - 1] == '\r';
     size_t shown = end - begin > CHARACTERS_SHOWN ? begin + CHARACTERS_SHOWN : end;
     fprintf(to, "%s:%lu: ", text->name, number);
@@ -122,13 +122,15 @@ static int has_a_line(uint32_t number)
 int say_refusal(FILE *to, const struct input *input, uint64_t result)
 {
     uint32_t number = yolizadwa_number(result);
-    if (is_table_file(input) || input->len == 0 || !has_a_line(number)) {
+    if (is_table_file(input) || !has_a_line(number)) {
         say(to, result, yolizadwa_place(result));
         return REFUSED;
     }
     size_t begin = refused_line(input, result);
     unsigned long line = line_number(input, begin);
     say(to, result, number >= YOLIZADWA_UNKNOWN_WORD ? line : yolizadwa_place(result));
-    show_line(to, input, begin, line);
+    if (begin < input->len) {
+        show_line(to, input, begin, line);
+    }
     return REFUSED;
 }
