@@ -118,7 +118,7 @@ static void print_row(unsigned number, const char *row, unsigned length)
     while (length > 0 && row[length - 1] == ' ') {
         length--;
     }
-    printf("task %-*u%.*s\n", LABEL_COLUMNS - 5, number, (int)length, row);
+    printf("task %-*u%.*s\n", length > 0 ? LABEL_COLUMNS - 5 : 0, number, (int)length, row);
 }
 
 static void print_block(struct chart *chart, unsigned long begin, unsigned long end, unsigned length)

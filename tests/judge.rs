@@ -31,22 +31,26 @@ fn must_print(bench: &mut Bench, output: &Output, permitted: &str, what: impl Fn
 }
 
 fn start(mut command: Command, input: Stdio) -> Child {
-    command.stdin(input).stdout(Stdio::piped()).stderr(Stdio::piped()).spawn().expect("the judge starts")
+    command.stdin(input).stdout(Stdio::piped()).stderr(Stdio::piped()).spawn().expect("the program starts")
 }
 
 fn output_of(child: Child) -> Output {
-    child.wait_with_output().expect("the judge ends")
+    child.wait_with_output().expect("the program ends")
 }
 
 fn on_stdin(input: impl Into<Stdio>) -> Output {
     output_of(start(program(JUDGE), input.into()))
 }
 
-/// That the judge ends before it has read a long input is no fault, so a broken pipe is none.
-fn through_pipe(input: &[u8]) -> Output {
-    let mut child = start(program(JUDGE), Stdio::piped());
+/// That a program ends before it has read a long input is no fault, so a broken pipe is none.
+pub fn fed(command: Command, input: &[u8]) -> Output {
+    let mut child = start(command, Stdio::piped());
     let _ = child.stdin.take().unwrap().write_all(input);
     output_of(child)
+}
+
+fn through_pipe(input: &[u8]) -> Output {
+    fed(program(JUDGE), input)
 }
 
 /// A read takes one datagram, so that every read comes short; an empty one is the end of the input.

@@ -5,6 +5,7 @@
 
 mod bench;
 mod calls;
+mod command;
 mod document;
 mod files;
 mod inputs;
@@ -75,12 +76,15 @@ fn what_is_shipped(bench: &mut Bench, rng: &mut Rng) {
     whole::stack(bench);
     whole::needs(bench);
     whole::example_host(bench);
-    whole::recipe(bench);
     papers::headlines(bench);
     papers::promises(bench);
     papers::edits(bench);
     judge::inputs_by_hand(bench);
     judge::inputs_at_random(bench, rng);
+    command::by_hand(bench);
+    command::launched(bench);
+    command::at_random(bench, rng);
+    command::junk_under_sanitizers(bench, rng);
 }
 
 fn main() -> ExitCode {

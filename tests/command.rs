@@ -1,0 +1,279 @@
+//! The command of docs/COMMAND.md: a stored transcript, also under sanitizers, and what it says of random tables.
+
+use crate::bench::Bench;
+use crate::inputs::*;
+use crate::judge::fed;
+use crate::program;
+use crate::reference::{self, Late, State, Task, Verdict, NONE};
+use std::path::Path;
+use std::process::{Command, Output, Stdio};
+
+const COMMAND: &str = "target/host/yolizadwa";
+const SANITIZED: &str = "target/host/yolizadwa-sanitized";
+const STORED: &str = "command/expected";
+const TABLES: u64 = 60;
+const REFUSED: u64 = 60;
+const JUNK: u64 = 40;
+const JOBS_SHOWN: usize = 100;
+/// The slots of a block in 80 columns.
+const BLOCK: usize = 35;
+
+// The transcript: its lines after `$ ` are run by a shell, and all that they say must be what stands there.
+
+/// Leaks are not looked for: a process that ends has none, and the search takes seconds on some machines.
+fn sanitized(command: &mut Command) -> &mut Command {
+    command.env("BRIDGE", "target/host/bridge").env("ASAN_OPTIONS", "detect_leaks=0")
+}
+
+fn emulated(path: &str) -> String {
+    format!("{} {path}", std::env::var("EMULATOR").unwrap_or_default())
+}
+
+fn spoken(program: &str, line: &str) -> String {
+    let script = "exec 2>&1; yolizadwa() { $PROGRAM \"$@\"; }; eval \"$1\"";
+    let mut shell = Command::new("sh");
+    shell.args(["-c", script, "sh", line]).env_remove("COLUMNS").env("LC_ALL", "C").stdin(Stdio::null());
+    let output = sanitized(&mut shell).env("PROGRAM", program).output().expect("sh starts");
+    let status = output.status.code().map_or("no status".to_string(), |code| format!("status {code}"));
+    format!("$ {line}\n{}{status}\n", String::from_utf8_lossy(&output.stdout))
+}
+
+/// What was said stays in a file, to be looked at or, once judged right, stored.
+fn transcript(bench: &mut Bench, program: &str, written: &str) {
+    let stored = std::fs::read_to_string(STORED).unwrap_or_default();
+    let parts: Vec<&str> = stored.split_inclusive('\n').collect();
+    let begins: Vec<usize> = (0..parts.len()).filter(|&at| parts[at].starts_with("$ ")).collect();
+    let mut told = String::new();
+    for (place, &begin) in begins.iter().enumerate() {
+        let end = begins.get(place + 1).map_or(parts.len(), |&next| next);
+        let said = spoken(program, parts[begin][2..].trim_end());
+        bench.count(said == parts[begin..end].concat(), || format!("{written} is not {STORED} at {}", parts[begin]));
+        told += &said;
+    }
+    bench.count(!begins.is_empty(), || format!("{STORED} is empty"));
+    std::fs::write(written, told).expect("target/host can be written");
+}
+
+pub fn by_hand(bench: &mut Bench) {
+    transcript(bench, &emulated(COMMAND), "target/host/command.written");
+    bench.end_group("the command, by hand");
+    if Path::new(SANITIZED).exists() {
+        transcript(bench, SANITIZED, "target/host/command.sanitized");
+        bench.end_group("the command, by hand, under sanitizers");
+    }
+}
+
+// Random tables.
+
+fn asked(words: &[&str], input: &[u8]) -> Output {
+    let mut command = program(COMMAND);
+    command.args(words).env_remove("COLUMNS");
+    fed(command, input)
+}
+
+fn said(output: &Output) -> String {
+    String::from_utf8_lossy(&output.stdout).to_string()
+}
+
+fn line_of(task: &Task) -> String {
+    format!("task {} {} {} {}", task.offset, task.cost, task.deadline, task.period)
+}
+
+fn canonical(budget: u64, tasks: &[Task]) -> String {
+    let lines: String = tasks.iter().map(|task| line_of(task) + "\n").collect();
+    format!("budget {budget}\n{lines}")
+}
+
+/// The same table with comments, blanks and empty lines; and on which line each task stands.
+fn noisy(rng: &mut Rng, budget: u64, tasks: &[Task]) -> (String, Vec<usize>) {
+    let (mut text, mut places) = (String::new(), Vec::new());
+    for line in canonical(budget, tasks).lines() {
+        text += rng.pick(&["", "", "\n", "# task 1 2 3\n", " \t\r\n\n"]);
+        places.push(text.matches('\n').count() + 1);
+        text += &line.replace(' ', rng.pick(&[" ", "\t", "   "]));
+        text += rng.pick(&["\n", " # a note\n", "\r\n", " \n"]);
+    }
+    (text, places.split_off(1))
+}
+
+/// The rows of five numbers under the heading of a list of jobs.
+fn jobs_listed(text: &str) -> Vec<Vec<u64>> {
+    let rows = text.lines().skip_while(|line| !line.starts_with("  task")).skip(1);
+    let numbers = |line: &str| line.split_whitespace().map(|word| word.parse().ok()).collect::<Option<Vec<u64>>>();
+    rows.map_while(numbers).filter(|row| row.len() == 5).collect()
+}
+
+/// By the definition: task, job, release, due and cost of each job of the interval.
+fn jobs_of(tasks: &[Task], late: &Late) -> Vec<Vec<u64>> {
+    let mut jobs = Vec::new();
+    for (number, task) in tasks.iter().enumerate() {
+        let release = |job: u64| u64::from(task.offset) + job * u64::from(task.period);
+        for job in (0..).take_while(|&job| release(job) < late.end) {
+            let due = release(job) + u64::from(task.deadline);
+            if release(job) >= late.start && due <= late.end {
+                jobs.push(vec![number as u64, job, release(job), due, u64::from(task.cost)]);
+            }
+        }
+    }
+    jobs.sort_by_key(|job| (job[2], job[0]));
+    jobs
+}
+
+fn status_of(verdict: &Verdict) -> i32 {
+    match verdict {
+        Verdict::Passes(..) => 0,
+        Verdict::Overload | Verdict::Late(_) => 3,
+        Verdict::Undecided => 4,
+    }
+}
+
+fn judged(bench: &mut Bench, tasks: &[Task], budget: u64, input: &[u8]) {
+    let output = asked(&["judge", "-"], input);
+    let (text, verdict) = (said(&output), reference::decide(tasks, budget).verdict);
+    let mut good = text.starts_with(&reference::report(tasks, budget)) && output.status.code() == Some(status_of(&verdict));
+    if let Verdict::Late(late) = verdict {
+        let jobs = jobs_of(tasks, &late);
+        good &= jobs.iter().map(|job| job[4]).sum::<u64>() == late.demand;
+        good &= jobs_listed(&text) == jobs[..jobs.len().min(JOBS_SHOWN)];
+    }
+    bench.count(good, || format!("judge on {tasks:?} and budget {budget}: {text}"));
+}
+
+/// A run by the reference: of each task the instants and slots in turn, and the jobs that were late.
+struct Run {
+    rows: Vec<String>,
+    late: Vec<Vec<u64>>,
+}
+
+fn mark(task: &Task, now: u64, late: bool) -> char {
+    let on = |first: u32| (u64::from(first)..=now).step_by(task.period as usize).last() == Some(now);
+    match (late, on(task.offset), on(task.offset + task.deadline)) {
+        (true, ..) => '!',
+        (_, true, true) => '|',
+        (_, true, _) => '[',
+        (_, _, true) => ']',
+        _ => ' ',
+    }
+}
+
+impl Run {
+    fn draw(&mut self, tasks: &[Task], now: u64, before: &State, after: &State) {
+        for (number, task) in tasks.iter().enumerate() {
+            let late = after.late >> number & 1 == 1;
+            let slot = if after.last as usize == number { '#' } else { [' ', '.'][(after.left[number] > 0) as usize] };
+            self.rows[number].extend([mark(task, now, late), slot]);
+            if late {
+                let release = now - u64::from(task.deadline);
+                let job = (release - u64::from(task.offset)) / u64::from(task.period);
+                self.late.push(vec![number as u64, job, release, now, u64::from(before.left[number])]);
+            }
+        }
+    }
+
+    fn of(tasks: &[Task], slots: u64, early: bool) -> Run {
+        let mut run = Run { rows: vec![String::new(); tasks.len()], late: Vec::new() };
+        let (mut state, mut done) = (reference::start(tasks), false);
+        for now in 0..=slots {
+            let next = reference::step(tasks, &state, done).expect("a state of the table");
+            run.draw(tasks, now, &state, &next);
+            let last = next.last as usize;
+            done = early && next.last != NONE && 2 * (tasks[last].cost - next.left[last]) >= tasks[last].cost;
+            state = next;
+        }
+        for row in &mut run.rows {
+            row.pop();
+            row.truncate(row.trim_end().len());
+        }
+        run
+    }
+}
+
+/// The blocks of a chart put together, one row for each task.
+fn rows_of(text: &str, tasks: usize) -> Vec<String> {
+    let mut rows = vec![String::new(); tasks];
+    let mut blocks = 0;
+    for line in text.lines().take_while(|line| !line.starts_with("# ")) {
+        blocks += line.starts_with("slot ") as usize;
+        if let Some(rest) = line.strip_prefix("task ") {
+            let (number, cells) = rest.split_at(rest.len().min(3));
+            let row = &mut rows[number.trim().parse::<usize>().expect("a task")];
+            *row = format!("{row:<width$}{cells}", width = 2 * BLOCK * (blocks - 1));
+        }
+    }
+    rows.iter().map(|row| row.trim_end().to_string()).collect()
+}
+
+fn charted(bench: &mut Bench, rng: &mut Rng, tasks: &[Task], input: &[u8]) {
+    let (slots, early) = (rng.pick(&[1_u64, 34, 35, 36, 70, 100, 211]), rng.chance(30));
+    let number = slots.to_string();
+    let words = ["run", "-", "--slots", &number, "--early"];
+    let output = asked(&words[..4 + early as usize], input);
+    let (text, run) = (said(&output), Run::of(tasks, slots, early));
+    let status = if run.late.is_empty() { 0 } else { 3 };
+    let good = rows_of(&text, tasks.len()) == run.rows && jobs_listed(&text) == run.late[..run.late.len().min(JOBS_SHOWN)];
+    bench.count(good && output.status.code() == Some(status), || format!("run of {slots} slots on {tasks:?}:\n{text}"));
+}
+
+fn made_and_shown(bench: &mut Bench, tasks: &[Task], budget: u64, text: &str) {
+    let made = asked(&["make", "-", "-"], text.as_bytes());
+    let file = file_of(budget, tasks);
+    bench.count(made.status.code() == Some(0) && made.stdout == file, || format!("make of {text}: {made:?}"));
+    let shown = asked(&["show", "-"], &file);
+    let good = shown.status.code() == Some(0) && said(&shown) == canonical(budget, tasks);
+    bench.count(good, || format!("show of {file:?}: {shown:?}"));
+}
+
+/// The refusal's number and place, and the line on which the task stands.
+fn refused(bench: &mut Bench, rng: &mut Rng) {
+    let mut tasks = near_border(rng);
+    spoil(rng, &mut tasks);
+    let (text, places) = noisy(rng, 1_000, &tasks);
+    if let Err(refusal) = reference::judge(&tasks) {
+        let output = asked(&["judge", "-"], text.as_bytes());
+        let mut told = said(&output).starts_with(&format!("refused {} at {}: ", refusal.number, refusal.place));
+        if (3..=6).contains(&refusal.number) {
+            told &= said(&output).contains(&format!("\nstandard input:{}: task", places[refusal.place as usize]));
+        }
+        bench.count(told && output.status.code() == Some(2), || format!("judge of {text}: {output:?}"));
+    }
+}
+
+pub fn at_random(bench: &mut Bench, rng: &mut Rng) {
+    for _ in 0..TABLES {
+        let tasks = near_border(rng);
+        let budget = budget_about(rng, &tasks);
+        let (text, _) = noisy(rng, budget, &tasks);
+        let file = file_of(budget, &tasks);
+        let (one, other) = if rng.chance(50) { (text.as_bytes(), &file[..]) } else { (&file[..], text.as_bytes()) };
+        judged(bench, &tasks, budget, one);
+        charted(bench, rng, &tasks, other);
+        made_and_shown(bench, &tasks, budget, &text);
+    }
+    (0..REFUSED).for_each(|_| refused(bench, rng));
+    bench.end_group("the command, at random");
+}
+
+/// A text or a file with some bytes changed.
+fn junk(rng: &mut Rng) -> Vec<u8> {
+    let tasks = near_border(rng);
+    let text = noisy(rng, 1_000, &tasks).0.into_bytes();
+    let mut bytes = if rng.chance(70) { text } else { file_of(1_000, &tasks) };
+    damage(rng, &mut bytes);
+    bytes
+}
+
+/// Under sanitizers a fault ends the command with another status than its own, and says so.
+pub fn junk_under_sanitizers(bench: &mut Bench, rng: &mut Rng) {
+    if !Path::new(SANITIZED).exists() {
+        return;
+    }
+    for input in (0..JUNK).map(|_| junk(rng)).collect::<Vec<_>>().into_iter().filter(|input| affordable(input)) {
+        let mut command = Command::new(SANITIZED);
+        sanitized(&mut command).args([rng.pick(&["judge", "show", "run"]), "-"]);
+        let output = fed(command, &input);
+        let quiet = !String::from_utf8_lossy(&output.stderr).contains("anitizer");
+        let known = output.status.code().map_or(false, |code| [0, 2, 3, 4].contains(&code));
+        bench.count(quiet && known, || format!("{input:?} under sanitizers: {output:?}"));
+    }
+    bench.end_group("the command on junk, under sanitizers");
+}

@@ -1,0 +1,130 @@
+/*
+ * The library's calls for a native program on another processor than x86-64: each is sent to the bridge under the emulator, so
+ * that the command can be run under this processor's sanitizers. EMULATOR names the emulator, BRIDGE the bridge.
+ */
+#define _POSIX_C_SOURCE 200809L
+
+#include <stdio.h>
+#include <stdlib.h>
+#include <string.h>
+#include <unistd.h>
+
+#include "stack.h"
+#include "yolizadwa.h"
+
+enum { MOST_WORDS = 16, RESULT_BYTES = 9 };
+
+/* As in bridge.c. */
+struct head {
+    uint64_t number;
+    uint32_t call;
+    uint32_t measure;
+    uint32_t file_len;
+    uint32_t buffer_len;
+};
+
+static FILE *to_bridge, *from_bridge;
+
+static void fail(const char *what)
+{
+    fprintf(stderr, "proxy: %s\n", what);
+    abort();
+}
+
+static void become_bridge(void)
+{
+    char *words[MOST_WORDS + 2], *line = getenv("EMULATOR");
+    int count = 0;
+    for (char *word = strtok(line, " "); word != NULL && count < MOST_WORDS; word = strtok(NULL, " ")) {
+        words[count++] = word;
+    }
+    words[count++] = getenv("BRIDGE");
+    words[count] = NULL;
+    execv(words[0], words);
+    _exit(2);
+}
+
+static void start_bridge(void)
+{
+    int there[2], back[2];
+    if (getenv("EMULATOR") == NULL || getenv("BRIDGE") == NULL || pipe(there) != 0 || pipe(back) != 0) {
+        fail("no bridge");
+    }
+    if (fork() == 0) {
+        dup2(there[0], STDIN_FILENO);
+        dup2(back[1], STDOUT_FILENO);
+        close(there[0]);
+        close(there[1]);
+        close(back[0]);
+        close(back[1]);
+        become_bridge();
+    }
+    close(there[0]);
+    close(back[1]);
+    to_bridge = fdopen(there[1], "wb");
+    from_bridge = fdopen(back[0], "rb");
+}
+
+static void send(const void *bytes, size_t len)
+{
+    if (fwrite(bytes, 1, len, to_bridge) != len) {
+        fail("the bridge does not listen");
+    }
+}
+
+static void receive(void *bytes, size_t len)
+{
+    if (fread(bytes, 1, len, from_bridge) != len) {
+        fail("the bridge does not answer");
+    }
+}
+
+static uint64_t forward(enum call call, const void *file, size_t file_len, uint8_t *buffer, size_t buffer_len, uint64_t number)
+{
+    struct head head = {number, call, 0, (uint32_t)file_len, (uint32_t)buffer_len};
+    uint32_t len = (uint32_t)(sizeof head + file_len + buffer_len);
+    uint8_t told[RESULT_BYTES];
+    uint64_t result;
+    if (to_bridge == NULL) {
+        start_bridge();
+    }
+    send(&len, sizeof len);
+    send(&head, sizeof head);
+    send(file, file_len);
+    send(buffer, buffer_len);
+    fflush(to_bridge);
+    receive(told, sizeof told);
+    receive(buffer, buffer_len);
+    memcpy(&result, told, sizeof result);
+    return result;
+}
+
+uint64_t yolizadwa_check(const uint8_t *file, size_t file_len, uint8_t *report, size_t report_len)
+{
+    return forward(CHECK, file, file_len, report, report_len, 0);
+}
+
+uint64_t yolizadwa_start(const uint8_t *file, size_t file_len, uint8_t *state, size_t state_len)
+{
+    return forward(START, file, file_len, state, state_len, 0);
+}
+
+uint64_t yolizadwa_step(const uint8_t *file, size_t file_len, uint8_t *state, size_t state_len, uint32_t done)
+{
+    return forward(STEP, file, file_len, state, state_len, done);
+}
+
+uint64_t yolizadwa_write(const uint32_t *words, size_t count, uint64_t budget, uint8_t *file, size_t file_len)
+{
+    return forward(WRITE, words, count * sizeof words[0], file, file_len, budget);
+}
+
+uint64_t yolizadwa_from_text(const uint8_t *text, size_t text_len, uint8_t *file, size_t file_len)
+{
+    return forward(FROM_TEXT, text, text_len, file, file_len, 0);
+}
+
+uint64_t yolizadwa_to_text(const uint8_t *file, size_t file_len, uint8_t *text, size_t text_len)
+{
+    return forward(TO_TEXT, file, file_len, text, text_len, 0);
+}
