@@ -1,4 +1,4 @@
-# Sourced by ./yolizadwa and tests/run from the repository's root: how C is built here against the library, which is for x86-64.
+# Sourced by ./yolizadwa, examples/try and tests/run, used in the repository's root: how C is built here against the library, which is for x86-64.
 machine=$(uname -m)
 kit=$(dirname "$(dirname "$(readlink -f "$(command -v rt)")")")/on/$machine
 tools=$kit/toolchain
@@ -31,12 +31,21 @@ link() { # PROGRAM OBJECT...
     fi
 }
 
-# Under a name of its own first, so that nobody finds half a program.
-build_command() { # PROGRAM
-    local source scratch
-    scratch=$(mktemp -d target/command.XXXXXX)
-    for source in command/*.c; do
-        compile c99 "$source" "$scratch/$(basename "$source" .c).o" "-DKIT=\"$(rt version)\"" || return
+compile_all() { # STANDARD FOLDER SOURCE...
+    local source word
+    word=$(rt version)
+    for source in "${@:3}"; do
+        compile "$1" "$source" "$2/$(basename "$source" .c).o" "-DKIT=\"$word\"" || return
     done
-    link "$scratch/program" "$scratch"/*.o && mv -f "$scratch/program" "$1" && rm -r "$scratch"
+}
+
+# Under a name of its own first, so that nobody finds half a program.
+build() { # STANDARD PROGRAM SOURCE...
+    local scratch status=0
+    mkdir -p "$(dirname "$2")"
+    scratch=$(mktemp -d "$2.XXXXXX")
+    { compile_all "$1" "$scratch" "${@:3}" && link "$scratch/program" "$scratch"/*.o && mv -f "$scratch/program" "$2"; } ||
+        status=$?
+    rm -r "$scratch"
+    return "$status"
 }

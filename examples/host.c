@@ -3,7 +3,8 @@
  *
  *   host [--anyway] TABLE [SLOTS]
  *
- * --anyway runs a table that does not pass too, to show how late jobs are told. A camera must not.
+ * --anyway runs a table that does not pass too, as a camera must not, to show how late jobs are told; no job then ends early,
+ * which would hide them. What a refusal's number means stands in yolizadwa.h.
  *
  * Ends with 0 if the loop was run, 1 if the table is refused, 2 if the host itself could not do its work, and 3 if the
  * table does not pass and so was not run.
@@ -20,34 +21,9 @@ enum { FILE_ROOM = YOLIZADWA_LONGEST_FILE + 1, USUAL_SLOTS = 20 };
 
 enum { RAN = 0, REFUSED = 1, NO_WORK = 2, NOT_RUN = 3 };
 
-static const char *meaning(uint32_t number)
-{
-    switch (number) {
-    case YOLIZADWA_NO_TASK: return "the table has no task";
-    case YOLIZADWA_TOO_MANY_TASKS: return "the table has more than 16 tasks";
-    case YOLIZADWA_BAD_PERIOD: return "this task's period is not 1 to 60,000";
-    case YOLIZADWA_BAD_DEADLINE: return "this task's deadline is not 1 to its period";
-    case YOLIZADWA_BAD_COST: return "this task's cost is not 1 to its deadline";
-    case YOLIZADWA_BAD_OFFSET: return "this task's offset is above 60,000";
-    case YOLIZADWA_LONG_ROUND: return "the periods' least common multiple is above 1,000,000,000";
-    case YOLIZADWA_STRANGE_STATE: return "the state is not one of this table";
-    case YOLIZADWA_CUT_SHORT: return "the file ends inside the record that begins at this byte";
-    case YOLIZADWA_UNKNOWN_KIND: return "the record that begins at this byte is of no known kind";
-    case YOLIZADWA_NO_BUDGET_FIRST: return "the file is empty, or begins with a task or the end";
-    case YOLIZADWA_SECOND_BUDGET: return "a second budget begins at this byte";
-    case YOLIZADWA_BYTES_AFTER_END: return "the file goes on at this byte, after its end record";
-    case YOLIZADWA_SEVENTEENTH_TASK: return "a seventeenth task begins at this byte";
-    case YOLIZADWA_NO_END: return "the file stops at this length without an end record";
-    case YOLIZADWA_SHORT_REPORT: return "the report buffer is shorter than 512 bytes";
-    case YOLIZADWA_STATE_LENGTH: return "the state buffer is not 144 bytes long";
-    default: return "a number that this host does not know";
-    }
-}
-
 static int refused(uint64_t result)
 {
-    uint32_t number = yolizadwa_number(result);
-    printf("refused %u at %u: %s\n", (unsigned)number, (unsigned)yolizadwa_place(result), meaning(number));
+    printf("refused %u at %u\n", (unsigned)yolizadwa_number(result), (unsigned)yolizadwa_place(result));
     return REFUSED;
 }
 
@@ -119,7 +95,7 @@ static int work(unsigned long slot, uint64_t owner)
     return owner != YOLIZADWA_TASKS && slot % 3 == 2;
 }
 
-static int run(const uint8_t *file, size_t len, unsigned long slots)
+static int run(const uint8_t *file, size_t len, int anyway, unsigned long slots)
 {
     struct yolizadwa_state state;
     uint64_t result = yolizadwa_start(file, len, (uint8_t *)&state, sizeof state);
@@ -132,7 +108,7 @@ static int run(const uint8_t *file, size_t len, unsigned long slots)
         if (yolizadwa_refused(result)) {
             return refused(result);
         }
-        done = work(slot, result);
+        done = !anyway && work(slot, result);
         print_slot(slot, result, &state, done);
     }
     return RAN;
@@ -150,7 +126,7 @@ static int judge_and_run(const uint8_t *file, size_t len, int anyway, unsigned l
         printf("not run: the table does not pass\n");
         return NOT_RUN;
     }
-    return run(file, len, slots);
+    return run(file, len, anyway, slots);
 }
 
 int main(int argc, char **argv)

@@ -1,8 +1,10 @@
 //! The command of docs/COMMAND.md: a stored transcript, also under sanitizers, and what it says of random tables.
 
 use crate::bench::Bench;
+use crate::document::B;
 use crate::inputs::*;
 use crate::judge::fed;
+use crate::plain;
 use crate::program;
 use crate::reference::{self, Late, State, Task, Verdict, NONE};
 use std::path::Path;
@@ -63,6 +65,21 @@ pub fn by_hand(bench: &mut Bench) {
     }
 }
 
+// The launcher: from another folder, through a link, and twice at once with nothing built.
+
+const LAUNCHED: &str = "cd tables && ln -sf ../yolizadwa ../target/host/link && rm -f ../target/command/yolizadwa
+    ../target/host/link judge b.txt >../target/host/one & ../yolizadwa judge b.table >../target/host/other
+    wait && cmp ../target/host/one ../target/host/other && ../yolizadwa --version";
+
+pub fn launched(bench: &mut Bench) {
+    let output = Command::new("sh").args(["-c", LAUNCHED]).output().expect("sh starts");
+    let good = output.status.success() && said(&output).starts_with("yolizadwa 0.2\nbuilt with ");
+    bench.count(good, || format!("the launcher: {output:?}"));
+    let report = std::fs::read_to_string("target/host/one").unwrap_or_default();
+    bench.count(report == reference::report(&table_of(B), 1_000), || format!("the launcher judges b: {report}"));
+    bench.end_group("the launcher");
+}
+
 // Random tables.
 
 fn asked(words: &[&str], input: &[u8]) -> Output {
@@ -75,13 +92,8 @@ fn said(output: &Output) -> String {
     String::from_utf8_lossy(&output.stdout).to_string()
 }
 
-fn line_of(task: &Task) -> String {
-    format!("task {} {} {} {}", task.offset, task.cost, task.deadline, task.period)
-}
-
 fn canonical(budget: u64, tasks: &[Task]) -> String {
-    let lines: String = tasks.iter().map(|task| line_of(task) + "\n").collect();
-    format!("budget {budget}\n{lines}")
+    String::from_utf8(plain::text_of(budget, tasks)).expect("a text")
 }
 
 /// The same table with comments, blanks and empty lines; and on which line each task stands.

@@ -15,6 +15,8 @@ const HOST_RUNS: &[&[&str]] = &[
     &["tables/c.table"],
     &["tables/i.table", "12"],
     &["tables/b37.table", "3"],
+    &["--anyway", "tables/c.table"],
+    &["--anyway", "tables/d.table", "9"],
     &["--anyway", "tables/f.table", "6"],
     &["--anyway", "tables/b.table", "2"],
     &["--anyway", "tables/refused_21.table"],
