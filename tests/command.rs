@@ -67,7 +67,7 @@ pub fn by_hand(bench: &mut Bench) {
 
 // The launcher: from another folder, through a link, and twice at once with nothing built.
 
-const LAUNCHED: &str = "cd tables && ln -sf ../yolizadwa ../target/host/link && rm -f ../target/command/yolizadwa
+const LAUNCHED: &str = "cd tables && ln -sf ../../yolizadwa ../target/host/link && rm -f ../target/command/yolizadwa
     ../target/host/link judge b.txt >../target/host/one & ../yolizadwa judge b.table >../target/host/other
     wait && cmp ../target/host/one ../target/host/other && ../yolizadwa --version";
 
