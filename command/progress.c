@@ -12,8 +12,8 @@
 enum { PROBE_SLOTS = 200000, DIGITS = 20 };
 
 static volatile sig_atomic_t seconds;
-static char outlook[64];
-static size_t outlook_length;
+static char outlook[64] = " s";
+static size_t outlook_length = 2;
 
 /* From the last digit backwards; tells where the number begins. */
 static char *digits_before(char *end, unsigned long number)
@@ -52,7 +52,7 @@ static void estimate(const struct table *table)
     horizon = report_number(&report, "\nhorizon ");
     slots = budget < horizon ? budget : horizon;
     double expected = took * (double)slots / PROBE_SLOTS;
-    snprintf(outlook, sizeof outlook, " s of about %.0f s at most", expected < 1 ? 1 : expected);
+    snprintf(outlook, sizeof outlook, " s; it may take about %.0f s", expected < 1 ? 1 : expected);
     outlook_length = strlen(outlook);
 }
 
