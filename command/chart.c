@@ -151,7 +151,7 @@ static void list_late(const struct chart *chart)
     unsigned long listed = chart->late_jobs < JOBS_SHOWN ? chart->late_jobs : JOBS_SHOWN;
     int wide = columns_for(chart->slots);
     if (listed == 0) {
-        printf("no job was closed late in these %lu slots\n", chart->slots);
+        printf("no job was closed late from 0 to %lu\n", chart->slots);
         return;
     }
     printf("closed late, with so many slots missing:\n");
@@ -160,7 +160,7 @@ static void list_late(const struct chart *chart)
         print_job(&chart->late[count], wide);
     }
     if (listed < chart->late_jobs) {
-        printf("  and %lu jobs more\n", chart->late_jobs - listed);
+        printf("  and %lu more\n", chart->late_jobs - listed);
     }
 }
 
@@ -171,7 +171,7 @@ static void draw(struct chart *chart)
     }
     putchar('\n');
     list_late(chart);
-    printf("\n# has the slot   . waits   [ released   ] due   | due and released   ! closed late\n");
+    printf("\n# has the slot  . waits  [ released  ] due  | due and released  ! closed late\n");
 }
 
 int run(const struct request *request)

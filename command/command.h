@@ -32,6 +32,7 @@ struct input {
 struct table {
     uint8_t file[YOLIZADWA_LONGEST_FILE];
     size_t len;
+    int was_text;
 };
 
 struct task {

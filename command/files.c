@@ -97,11 +97,11 @@ static char *name_beside(const char *name)
 static int write_beside(const char *beside, const char *name, const uint8_t *bytes, size_t len)
 {
     int number = open(beside, O_WRONLY | O_CREAT | O_EXCL, 0666);
-    FILE *out = number < 0 ? NULL : fdopen(number, "wb");
-    if (out == NULL) {
+    if (number < 0) {
         return cannot("write", name);
     }
-    if (put(out, bytes, len) && rename(beside, name) == 0) {
+    FILE *out = fdopen(number, "wb");
+    if (out != NULL && put(out, bytes, len) && rename(beside, name) == 0) {
         return DONE;
     }
     int status = cannot("write", name);
@@ -133,11 +133,26 @@ static int can_be_cut(int number)
     return length >= 0 && ftruncate(number, length) == 0;
 }
 
+static int is_terminal(const char *name)
+{
+    return trouble("%s is a terminal, and a table file is no text; name a file instead", name);
+}
+
+/* That it cannot be written is said at the end of the command. */
+static int write_standard(const uint8_t *bytes, size_t len)
+{
+    if (isatty(STDOUT_FILENO)) {
+        return is_terminal("standard output");
+    }
+    fwrite(bytes, 1, len, stdout);
+    return DONE;
+}
+
 static int write_through(int number, const char *name, const uint8_t *bytes, size_t len)
 {
     if (isatty(number)) {
         close(number);
-        return trouble("%s is a terminal, and a table file is no text; name a file instead", name);
+        return is_terminal(name);
     }
     FILE *out = fdopen(number, "wb");
     return out != NULL && put(out, bytes, len) ? DONE : cannot("write", name);
@@ -146,7 +161,7 @@ static int write_through(int number, const char *name, const uint8_t *bytes, siz
 int write_output(const char *name, const uint8_t *bytes, size_t len)
 {
     if (strcmp(name, "-") == 0) {
-        return write_through(dup(STDOUT_FILENO), "standard output", bytes, len);
+        return write_standard(bytes, len);
     }
     int number = open(name, O_WRONLY);
     if (number < 0) {

@@ -99,7 +99,7 @@ static void list_jobs(struct interval *interval, int all)
         print_job(&job, columns);
     }
     if (listed < jobs) {
-        printf("  and %llu jobs more; --all shows them all\n", (unsigned long long)(jobs - listed));
+        printf("  and %llu more; --all shows them all\n", (unsigned long long)(jobs - listed));
     }
 }
 
@@ -111,8 +111,8 @@ static void explain_late(const struct table *table, const struct report *report,
     if (line == NULL || sscanf(line, "\ninterval %llu %llu demand %llu", &start, &end, &demand) != 3) {
         return;
     }
-    printf("\nlate: the jobs released at %llu or later and due by %llu ask for %llu slots, and there are %llu:\n", start, end,
-           demand, end - start);
+    printf("\nlate: the jobs released at %llu or later and due by %llu ask for %llu slots and have %llu:\n", start, end, demand,
+           end - start);
     interval.table = table;
     interval.start = start;
     interval.end = end;
@@ -124,13 +124,13 @@ static void explain_overload(const struct report *report)
     unsigned long long asked = 0, round = 0;
     const char *line = strstr(report->text, "\nload ");
     if (line != NULL && sscanf(line, "\nload %llu/%llu", &asked, &round) == 2) {
-        printf("\noverload: of every %llu slots the jobs ask for %llu, so some are late sooner or later\n", round, asked);
+        printf("\noverload: the jobs ask for %llu slots in every %llu, so some are late sooner or later\n", asked, round);
     }
 }
 
 static void explain_undecided(const struct table *table, const struct report *report)
 {
-    printf("\nundecided: the budget of %llu slots ended before the answer was known; a budget of %llu, the horizon, is enough\n",
+    printf("\nundecided: the budget, %llu, ended before the answer was known; the horizon, %llu, is always enough\n",
            (unsigned long long)budget_of(table), (unsigned long long)report_number(report, "\nhorizon "));
 }
 

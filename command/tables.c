@@ -19,7 +19,8 @@ uint64_t table_of(const struct input *input, struct table *table)
 {
     uint8_t text[YOLIZADWA_LONGEST_TEXT];
     uint64_t result;
-    if (!is_table_file(input)) {
+    table->was_text = !is_table_file(input);
+    if (table->was_text) {
         result = yolizadwa_from_text(input->bytes, input->len, table->file, sizeof table->file);
         table->len = (size_t)result;
         return result;
@@ -84,11 +85,19 @@ struct task task_at(const struct table *table, unsigned number)
     return task;
 }
 
+/* A slip in the order of the names must not cost anybody a text. */
 int make(const struct request *request)
 {
+    const char *text = request->files[0], *file = request->files[1];
     struct table table;
-    int status = open_table(request->files[0], stderr, &table);
-    return status != DONE ? status : write_output(request->files[1], table.file, table.len);
+    if (strcmp(text, file) == 0 && strcmp(text, "-") != 0) {
+        return trouble("%s would be written over itself; name another file", text);
+    }
+    int status = open_table(text, stderr, &table);
+    if (status == DONE && !table.was_text) {
+        return trouble("%s is a table file already; its text is what show prints", text);
+    }
+    return status != DONE ? status : write_output(file, table.file, table.len);
 }
 
 int show(const struct request *request)

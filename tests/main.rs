@@ -1,5 +1,5 @@
-//! Host tests: the exported calls and the program judge against an independent implementation of document 01, and what
-//! docs/PROMISES.md names against the tree.
+//! Host tests: the exported calls, the program judge and the command against an independent implementation of document 01,
+//! and what docs/PROMISES.md names against the tree.
 //!
 //! Run by tests/run from the repository's root, with an optional seed and count of inputs for each call.
 

@@ -1,4 +1,4 @@
-//! The stack and the C library's functions that the calls need, the example host as it is shipped, the recipe for a table.
+//! The stack and the C library's functions that the calls need, and the example host as it is shipped.
 
 use crate::bench::Bench;
 use crate::calls::Request;
@@ -121,15 +121,6 @@ pub fn needs(bench: &mut Bench) {
     let header = std::fs::read_to_string("include/yolizadwa.h").expect("the header is there");
     bench.count(output.status.success() && header.contains(&words), || format!("not in the header: {words}"));
     bench.end_group("what the library needs of the C library");
-}
-
-/// The indented lines of tables/README.md, which end with a comparison.
-pub fn recipe(bench: &mut Bench) {
-    let text = std::fs::read_to_string("tables/README.md").expect("tables/README.md is there");
-    let lines: String = text.split_inclusive('\n').filter(|line| line.starts_with("    ")).collect();
-    let status = Command::new("sh").args(["-e", "-c", &lines]).status().expect("sh starts");
-    bench.count(lines.contains("cmp ") && status.success(), || "the recipe of tables/README.md".to_string());
-    bench.end_group("a table by the recipe");
 }
 
 fn host_run(words: &[&str]) -> String {
