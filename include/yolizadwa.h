@@ -3,19 +3,20 @@
  *
  * Six calls, in the static library that `rt staticlib yolizadwa` writes for x86-64:
  *
- *   yolizadwa_write   writes a table file from the numbers of its tasks
+ *   yolizadwa_write       writes a table file from the numbers of its tasks
  *   yolizadwa_from_text   writes the table file of a table in plain text
  *   yolizadwa_to_text     writes the plain text of a table file
- *   yolizadwa_check   judges a table file and writes its report as text
- *   yolizadwa_start   makes the dispatcher's first state for a table file
- *   yolizadwa_step    gives out one slot and makes the next state
+ *   yolizadwa_check       judges a table file and writes its report as text
+ *   yolizadwa_start       makes the dispatcher's first state for a table file
+ *   yolizadwa_step        gives out one slot and makes the next state
  *
  * What holds for all six:
  *   - They keep nothing between calls, allocate nothing, and may run in several threads at once on different buffers.
  *   - Of the C library they need memcpy and memset alone. The host tests hold the stack of each call to 16 KiB.
  *   - A result below 65,536 is an answer. Any other is a refusal: 65,536 x number + place. A refusal changes no byte.
- *   - No pointer may be NULL, not even with length 0. The file and the buffer must not overlap.
- *   - The file is read where it lies and never written.
+ *   - No pointer may be NULL, not even with length 0.
+ *   - What a call only reads (the const pointer: file, text or words) is read where it lies and never written, and must not
+ *     overlap what the call writes. Words lie aligned, as a uint32_t does; nothing else needs to.
  *   - Any bytes may be handed over as a file or a state. What is no good file is refused. Of a state only what refusal 8
  *     lists is refused: a state of another table may be taken.
  */
@@ -48,12 +49,14 @@ enum yolizadwa_kind {
 };
 
 /*
- * What a refusal's number says, and what its place is. If several hold, the first of this order is told: the buffer
- * (30 or 50), the file's first fault (20 to 26), no task (1), then task by task 3, 4, 5, 6, then 7, then 8.
+ * What a refusal's number says, and what its place is. If several hold, the first of this order is told: the length of a
+ * report or state buffer (30, 50); the first fault of what is read (20 to 26 of a file, 51 then 52 of words, 60 to 66 of a
+ * text); the number of tasks (1, 2); then task by task 3, 4, 5, 6; then 7; then the state (8) or the length of the buffer that
+ * is written (31).
  */
 enum yolizadwa_refusal {
     YOLIZADWA_NO_TASK = 1,          /* the table has no task; place 0 */
-    YOLIZADWA_TOO_MANY_TASKS = 2,   /* more than 16 tasks; a file with so many is refused with 25 */
+    YOLIZADWA_TOO_MANY_TASKS = 2,   /* more than 16 tasks; place 16. A file with so many is refused with 25, a text with 66 */
     YOLIZADWA_BAD_PERIOD = 3,       /* a period outside 1 to 60,000; place: the task */
     YOLIZADWA_BAD_DEADLINE = 4,     /* a deadline outside 1 to the period; place: the task */
     YOLIZADWA_BAD_COST = 5,         /* a cost outside 1 to the deadline; place: the task */
@@ -77,7 +80,8 @@ enum yolizadwa_refusal {
     YOLIZADWA_NO_NUMBER = 61,       /* a word that should be a number has a byte that is no digit */
     YOLIZADWA_LARGE_NUMBER = 62,    /* a number of a task is 2^32 or more, or the budget 2^64 or more */
     YOLIZADWA_NUMBERS_DUE = 63,     /* a line has too few numbers or too many */
-    YOLIZADWA_NO_BUDGET = 64,       /* a task comes before the budget, or the text ends without one (place: its last line) */
+    YOLIZADWA_NO_BUDGET = 64,       /* a task comes before the budget, or the text ends without one: then the place is the
+                                       line in which it ends, one more than it has line feeds */
     YOLIZADWA_BUDGET_AGAIN = 65,    /* a second budget */
     YOLIZADWA_TASK_TOO_MANY = 66    /* a seventeenth task */
 };
@@ -113,16 +117,17 @@ uint64_t yolizadwa_write(const uint32_t *words, size_t count, uint64_t budget, u
  *   task 8 5 7 15     # offset, cost, deadline, period
  *   task 0 2 2 5
  *
- * A line ends with a line feed, the last one also with the text; a carriage return at a line's end is ignored. `#` begins a
- * comment up to the line's end. Words are parted by blanks and tabs. A line without a word says nothing. Numbers are
- * decimal. Any bytes of any length may be handed over; the text is read where it lies.
+ * Line feeds part lines: what follows the last one is a line too, be it empty. A carriage return at a line's end is ignored.
+ * `#` begins a comment up to the line's end. Words are parted by blanks and tabs. A line without a word says nothing. Numbers
+ * are decimal. Any bytes of any length may be handed over: (const uint8_t *)text, strlen(text) for a string of C.
  *
  * yolizadwa_from_text writes the table file of a text at the beginning of a buffer; the result is the file's length, at most
- * YOLIZADWA_LONGEST_FILE. Refusals: the text's first fault (60 to 66; in a line from left to right), then 1 to 7, then 31.
+ * YOLIZADWA_LONGEST_FILE. Refusals: the text's first fault (60 to 66; in a line from left to right), then 1 and 3 to
+ * 7, then 31.
  *
  * yolizadwa_to_text writes the text of a table file, without comments and with one blank between words; the result is the
- * text's length, at most YOLIZADWA_LONGEST_TEXT, with no zero byte at its end. Refusals: 20 to 26; 1 to 7; 31. The file of
- * that text is the same file, byte for byte.
+ * text's length, at most YOLIZADWA_LONGEST_TEXT, with no zero byte at its end. Refusals: 20 to 26; 1 and 3 to 7; 31.
+ * The file of that text is the same file, byte for byte.
  *
  * Bytes behind what is written stay as they were.
  */

@@ -9,6 +9,8 @@
 
 #include "yolizadwa.h"
 
+_Static_assert(YOLIZADWA_LONGEST_FILE == 282 && YOLIZADWA_LONGEST_TEXT == 492 && YOLIZADWA_ROW_WORDS == 5, "as document 01 and the tests have it");
+
 enum { ROOM = 1 << 18, MOST_WORDS = 400000 };
 
 static _Alignas(16) uint8_t room[ROOM];

@@ -187,6 +187,17 @@ pub fn one_by_one(bench: &mut Bench, rng: &mut Rng) {
     bench.end_group("plain text changed one by one");
 }
 
+/// The longest text there is, into buffers that are a byte too short, just long enough, and a byte longer.
+fn longest(bench: &mut Bench) {
+    let table = [Task { offset: 60_000, cost: 60_000, deadline: 60_000, period: 60_000 }; TASKS];
+    let (file, text) = (file_of(u64::MAX, &table), plain::text_of(u64::MAX, &table));
+    bench.count(text.len() == plain::LONGEST_TEXT, || format!("the longest text has {} bytes", text.len()));
+    for length in plain::LONGEST_TEXT - 1..=plain::LONGEST_TEXT + 1 {
+        bench.ask(Request { buffer: vec![0xE7; length], ..Request::to_text(file.clone()) });
+    }
+    bench.ask(Request::from_text(text));
+}
+
 pub fn buffers(bench: &mut Bench, rng: &mut Rng) {
     for tasks in [0, 1, 2, 15, 16, 17] {
         let (budget, table) = (any_budget(rng), sized(rng, tasks));
@@ -197,8 +208,7 @@ pub fn buffers(bench: &mut Bench, rng: &mut Rng) {
             bench.ask(Request { buffer, ..Request::to_text(file.clone()) });
         }
     }
-    let most = plain::text_of(u64::MAX, &[Task { offset: 60_000, cost: 60_000, deadline: 60_000, period: 60_000 }; TASKS]);
-    bench.count(most.len() == plain::LONGEST_TEXT, || format!("the longest text has {} bytes", most.len()));
+    longest(bench);
     bench.end_group("plain text into buffers of every length");
 }
 
@@ -282,7 +292,7 @@ fn any_tasks(rng: &mut Rng) -> Vec<Task> {
 /// Of so many texts at least one is taken, or refused with each number.
 const TEXTS_PER_ANSWER: u64 = 5_000;
 
-/// A generator that no longer reaches one of the answers fails. 0: a file is written; 2 is never told of a text.
+/// A generator that no longer reaches one of the answers fails. 0: a file is written; 2 is never told of a text, 1 seldom.
 fn hold_answers(bench: &mut Bench, told: &[u64]) {
     let count: u64 = told.iter().sum();
     for number in [0, 3, 4, 5, 6, 7].into_iter().chain(60..=66) {

@@ -8,7 +8,7 @@ use lib.Dec.{eqb, lit≤, lit<}
 use lib.ListN.{length, getD, replicate}
 use Rattle.model.specs.Values.{Task, Table, Measure, Judgement, Verdict, Outcome, Empty, Admission, Given, Writing, refusal, verdictSaid, judgementSaid, admissionSaid, givenSaid, emptySaid, outcomeSaid}
 use Rattle.model.specs.Notation.{sum, largest, count, first, last, bits, fill, text, digits, decimal}
-use Rattle.model.specs.Limits.{taskLimit, longestFile}
+use Rattle.model.specs.Limits.{taskLimit, longestFile, longestText}
 use Rattle.model.specs.Tasks.{taskFault, firstFaulty, round, load, horizon, measure, judgedBy, judged}
 use Rattle.model.specs.Demand.{jobsIn, demand, asksTooMuch, lateAt}
 use Rattle.model.specs.Schedule.{none, given}
@@ -261,8 +261,8 @@ rowsOfOne : ℕ → List ℕ
 rowsOfOne zero = []
 rowsOfOne (suc n) = rowOf (of 0 1 1 1) ++ rowsOfOne n
 
--- A file is read; of one whose table is refused nothing is kept; the longest legal file has 282 bytes, and is read. A table holds 16 tasks,
--- of zeros past its last one.
+-- A file is read; of one whose table is refused nothing is kept; the longest legal file has 282 bytes, and is read, the longest text 492. A
+-- table holds 16 tasks, of zeros past its last one.
 abbrev file-of-16 : List ℕ
 file-of-16 = budgetOf 0 ++ rowsOfOne 16 ++ (3 ∷ [])
 
@@ -272,9 +272,10 @@ files :
     × (loadedFrom file-of-16 .admission ≡ Admission.Admitted)
     × (length file-of-16 ≡ 282)
     × (longestFile ≡ 282)
+    × (longestText ≡ 492)
     × (tableOf (of 0 1 1 1 ∷ []) ≡ record { count = 1; tasks = of 0 1 1 1 ∷ replicate 15 (of 0 0 0 0) })
 unfolding loadedFrom formOf readFrom judged firstFaulty taskFault first round load horizon largest sum count rowsOfOne
-files = (refl, refl, refl, refl, refl, refl)
+files = (refl, refl, refl, refl, refl, refl, refl)
 
 abbrev refusalOf : List ℕ → Admission
 refusalOf s = loadedFrom s .admission

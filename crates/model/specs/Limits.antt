@@ -33,3 +33,7 @@ taskBytes = 1 + 16
 
 abbrev pub longestFile : ℕ
 longestFile = budgetBytes + taskLimit * taskBytes + 1
+
+-- The longest text of a file that is not refused: a budget of twenty digits, and of every task four numbers of five digits.
+abbrev pub longestText : ℕ
+longestText = 7 + 20 + 1 + taskLimit * (5 + 4 * 5 + 3 + 1)

@@ -1,5 +1,5 @@
 -- The writer: a table and a budget as a table file in a lent buffer, and the exported call.
-use Rattle.model.specs.Notation.{List, _++_, cond, not, ℕ, _+_, _*_, _/_, _%_, min, ltb, eqb, getD, length, replicate, take, drop, first, fill}
+use Rattle.model.specs.Notation.{List, _++_, Bool, cond, not, ℕ, _+_, _*_, _/_, _%_, min, ltb, eqb, getD, length, replicate, take, drop, first, fill}
 use Rattle.model.specs.Values.{Task, Table, Judgement, Writing, refusal}
 use Rattle.model.specs.Limits.{taskLimit}
 use Rattle.model.specs.Tasks.{noTask, judged}
@@ -46,9 +46,12 @@ rowTask words i =
     let at = rowWords * i in
     record { offset = getD words (at + 1) 0; cost = getD words (at + 2) 0; deadline = getD words (at + 3) 0; period = getD words (at + 4) 0 }
 
--- The first row that is no task, or the number of rows.
+-- Row i is a task; the first that is none, or the number of rows.
+abbrev pub isTask : List ℕ → ℕ → Bool
+isTask words i = eqb (getD words (rowWords * i) 0) taskKind
+
 unfoldable pub firstStranger : List ℕ → ℕ
-firstStranger words = first (λ i. not (eqb (getD words (rowWords * i) 0) taskKind)) 0 (rows words)
+firstStranger words = first (λ i. not (isTask words i)) 0 (rows words)
 
 -- The table of the rows: it counts them all, and holds as many as a table can.
 unfoldable pub tableIn : List ℕ → Table

@@ -1,5 +1,5 @@
 -- What is written as a text is loaded with the same budget and tasks; from a file to its text and back the bytes are the same, and so from a text in its canonical form.
-use mathlib.Core.Path.{_≡_, refl, ap, _∙_}
+use mathlib.Core.Path.{_≡_, refl, sym, ap, _∙_}
 use mathlib.Core.List.{List}
 use Prim.Native.Nat.{ℕ, _<_}
 use native.Mathlib.Omega.{arith}
@@ -13,7 +13,7 @@ use Rattle.values.specs.declared.Writing.{Writing}
 use Rattle.model.specs.Limits.{budgetLimit}
 use Rattle.model.specs.Tasks.{judged}
 use Rattle.model.specs.TableFile.{admit, fileOf, loadedFrom}
-use Rattle.model.specs.Writer.{fitted, tasksOf, writtenBy, fileWritten}
+use Rattle.model.specs.Writer.{Filled, fitted, tasksOf, writtenBy, fileWritten}
 use Rattle.model.specs.PlainText.{textLoaded, textOf, textWritten, fromText, toText}
 use Rattle.tablefile.specs.Written.{written-read}
 use Rattle.writer.specs.RoundTrip.{tasks-back, few-and-fit, tasks-well-formed, formed-loads, fitted-front, loaded-file}
@@ -50,9 +50,13 @@ module _ (t : Table) (m : Measure) (b : ℕ) (buffer : List ℕ) (limit : b < bu
       let (few, fit) = few-and-fit t m b well in
       rw (written-read b (tasksOf t) limit fit few, tasks-well-formed t m b well) (ap (λ (ks : List Task). fitted (textOf b ks) buffer) (tasks-back (tasksOf t)))
 
--- The file of the text of a file that is not refused is that file.
-pub back-to-file : (file buffer : List ℕ) → ((i : ℕ) → getD file i 0 < 256) → loadedFrom file .admission ≡ Admission.Admitted
-    → fromText (textOf (loadedFrom file .budget) (tasksOf (loadedFrom file .table))) buffer ≡ fitted file buffer
-back-to-file file buffer bytes h =
+-- The file of the text that was written of a file that is not refused is that file.
+pub back-to-file : (file lent buffer : List ℕ) (n : ℕ) → ((i : ℕ) → getD file i 0 < 256) → loadedFrom file .admission ≡ Admission.Admitted → toText file lent .said ≡ Writing.Bytes n
+    → fromText (take n (toText file lent .buffer)) buffer ≡ fitted file buffer
+back-to-file file lent buffer n bytes h said =
     let (limit, same, (m, well)) = loaded-file file bytes h in
-    text-to-file (loadedFrom file .table) m (loadedFrom file .budget) buffer limit well ∙ ap (λ (s : List ℕ). fitted s buffer) same
+    let t = loadedFrom file .table in
+    let b = loadedFrom file .budget in
+    let made : toText file lent ≡ fitted (textOf b (tasksOf t)) lent = ap (λ (s : List ℕ). toText s lent) (sym same) ∙ file-to-text t m b lent limit well in
+    rw (made, fitted-front (textOf b (tasksOf t)) lent n (ap (λ (f : Filled). f .said) (sym made) ∙ said))
+    (text-to-file t m b buffer limit well ∙ ap (λ (s : List ℕ). fitted s buffer) same)

@@ -8,22 +8,19 @@ use lib.ListN.{length, getD, take, length-append}
 use lib.Seq.{take-suc, take-at, sets-eq}
 use Rattle.values.specs.declared.Task.{Task}
 use Rattle.model.specs.Notation.{text, decimal}
-use Rattle.model.specs.Limits.{taskLimit}
+use Rattle.model.specs.Limits.{longestText}
 use Rattle.model.specs.Tasks.{noTask}
 use Rattle.model.specs.PlainText.{taskText, taskTexts}
 use Rattle.counting.specs.Put.{Put, join}
 use Rattle.wellformed.specs.Ranges.{InRange}
 use Rattle.text.specs.Decimal.{numberBytes, short}
 
--- The most bytes of a budget's line and of a task's, whose numbers have at most five digits; and of a text.
+-- The most bytes of a budget's line and of a task's, whose numbers have at most five digits.
 abbrev pub budgetLineBytes : ℕ
 budgetLineBytes = 7 + numberBytes + 1
 
 abbrev pub taskLineBytes : ℕ
 taskLineBytes = 5 + 4 * 5 + 3 + 1
-
-abbrev pub longestText : ℕ
-longestText = budgetLineBytes + taskLimit * taskLineBytes
 
 -- The room that a task's line asks for while it is put, and a text.
 abbrev pub taskRoom : ℕ

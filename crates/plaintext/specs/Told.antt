@@ -1,5 +1,5 @@
 -- What the calls on texts tell: a file or a text that is short enough, or a refusal that C can tell and that changes no byte.
-use mathlib.Core.Path.{_≡_, refl}
+use mathlib.Core.Path.{_≡_, refl, sym, ap, _∙_}
 use mathlib.Core.Logic.{inr}
 use mathlib.Core.Bool.{Bool, true, false, cond, not}
 use mathlib.Core.List.{List, [], _∷_, _++_}
@@ -11,20 +11,24 @@ use lib.Seq.{length-take-le, getD-take}
 use Rattle.values.specs.declared.Task.{Task}
 use Rattle.values.specs.declared.Table.{Table}
 use Rattle.values.specs.declared.Line.{Line}
+use Rattle.values.specs.declared.Refusal.{Refusal}
+use Rattle.values.specs.declared.Measure.{Measure}
+use Rattle.values.specs.declared.Judgement.{Judgement}
 use Rattle.values.specs.declared.Admission.{Admission}
 use Rattle.values.specs.declared.Loaded.{Loaded}
 use Rattle.model.specs.Notation.{text}
-use Rattle.model.specs.Limits.{taskLimit, wordLimit, budgetLimit, longestFile}
-use Rattle.model.specs.Tasks.{noTask}
-use Rattle.model.specs.TableFile.{fileOf, formOf}
-use Rattle.model.specs.Writer.{Filled, tasksOf, fileWritten, fillTold}
-use Rattle.model.specs.PlainText.{same, numbersFault, number, unless, budgetLine, taskIn, taskLine, lineOf, afterLine, readLines, linesOf, contentOf, wordsOf, textForm, formWritten, taskText, taskTexts, textOf, textWritten, fromTextExported, toTextExported}
+use Rattle.model.specs.Limits.{taskLimit, wordLimit, budgetLimit, longestFile, longestText}
+use Rattle.model.specs.Values.{refusalSaid, writingSaid, admissionSaid}
+use Rattle.model.specs.Tasks.{noTask, judged}
+use Rattle.model.specs.TableFile.{fileOf, judgedTable, judgedForm, formOf, loadedFrom}
+use Rattle.model.specs.Writer.{Filled, tasksOf, writtenBy, fileWritten, fillTold}
+use Rattle.model.specs.PlainText.{same, numbersFault, number, unless, budgetLine, taskIn, taskLine, lineOf, afterLine, readLines, linesOf, contentOf, wordsOf, textForm, formWritten, taskText, taskTexts, textOf, textWritten, toText, fromTextExported, toTextExported}
 use Rattle.wellformed.specs.Ranges.{InRange, Ranged, holds-all}
 use Rattle.tablefile.specs.Refused.{AdmissionTellable, form-tellable}
 use Rattle.tablefile.specs.Written.{read-written}
 use Rattle.text.specs.Decimal.{wide}
 use Rattle.writer.specs.Told.{Apart, table-apart, file-apart}
-use Rattle.plaintext.specs.Texts.{taskLineBytes, longestText, task-short}
+use Rattle.plaintext.specs.Texts.{taskLineBytes, task-short}
 
 -- ---- Refusals of a text
 
@@ -107,3 +111,18 @@ to-text-apart file buffer bytes =
     let l = formOf file in
     form-apart longestText buffer (textOf (l .budget) (tasksOf (l .table))) (textWritten (l .table) (l .budget) buffer) (l .admission) (form-tellable file)
     (λ good. table-apart longestText (lit< tt) buffer (l .table) (textOf (l .budget) (tasksOf (l .table))) (text-short (l .table) (l .budget) (read-written file bytes good .0)))
+
+-- A file that is refused when it is loaded is refused in the same way when its text is to be written.
+pub refused-to-text : (file buffer : List ℕ) (r : Refusal) → loadedFrom file .admission ≡ Admission.Refused r
+    → let f = toText file buffer in (writingSaid (f .said) ≡ refusalSaid r) × (f .buffer ≡ buffer)
+unfolding loadedFrom textWritten
+refused-to-text file buffer r = go (formOf file) (formOf file .admission) refl
+  where
+    go : (l : Loaded) (a : Admission) → l .admission ≡ a → judgedForm l a .admission ≡ Admission.Refused r
+        → let f = formWritten buffer (textWritten (l .table) (l .budget) buffer) a in (writingSaid (f .said) ≡ refusalSaid r) × (f .buffer ≡ buffer)
+    go l (Admission.Refused q) e h = (ap admissionSaid (sym e ∙ h), refl)
+    go l Admission.Admitted e h = by-table (judged (l .table)) h
+      where
+        by-table : (j : Judgement) → judgedTable l j .admission ≡ Admission.Refused r → let f = writtenBy (textOf (l .budget) (tasksOf (l .table))) buffer j in (writingSaid (f .said) ≡ refusalSaid r) × (f .buffer ≡ buffer)
+        by-table (Judgement.Refused q) h = (ap admissionSaid h, refl)
+        by-table (Judgement.WellFormed m) h = let z : _≡_ {A = ℕ} 0 1 = cc in absurd (omega arith)

@@ -13,18 +13,17 @@ use Rattle.values.specs.declared.Judgement.{Judgement}
 use Rattle.values.specs.declared.Admission.{Admission}
 use Rattle.values.specs.declared.Loaded.{Loaded}
 use Rattle.values.specs.declared.Writing.{Writing}
-use Rattle.model.specs.Limits.{taskLimit, budgetLimit, longestFile}
+use Rattle.model.specs.Limits.{taskLimit, budgetLimit, longestFile, longestText}
 use Rattle.model.specs.Values.{refusalSaid, writingSaid, admissionSaid}
 use Rattle.model.specs.Tasks.{judged}
 use Rattle.model.specs.TableFile.{admit, fileOf, formOf, loadedFrom}
 use Rattle.model.specs.Report.{Exported, refused}
-use Rattle.model.specs.Writer.{Filled, fitted, tasksOf}
+use Rattle.model.specs.Writer.{Filled, fitted, tasksOf, fileWritten}
 use Rattle.model.specs.PlainText.{textForm, textLoaded, textOf, textWritten, fromText, toText, fromTextExported, toTextExported}
 use Rattle.tablefile.specs.Written.{AllFit}
 use Rattle.writer.specs.RoundTrip.{tasks-back}
 use Rattle.plaintext.specs.Canonical.{text-read}
 use Rattle.plaintext.specs.RoundTrip as round
-use Rattle.plaintext.specs.Texts.{longestText}
 use Rattle.plaintext.specs.Told as told
 
 -- Reading a text's form, loading it, writing a text, and going from text to file and back have one permitted result each, for every input.
@@ -69,9 +68,9 @@ pub file-to-text : (t : Table) (m : Measure) (budget : ℕ) (buffer : List ℕ) 
     → toText (fileOf budget (tasksOf t)) buffer ≡ fitted (textOf budget (tasksOf t)) buffer
 file-to-text = round.file-to-text
 
--- The file of the text of a file that is not refused is that file, byte for byte.
-pub back-to-file : (file buffer : List ℕ) → ((i : ℕ) → getD file i 0 < 256) → loadedFrom file .admission ≡ Admission.Admitted
-    → fromText (textOf (loadedFrom file .budget) (tasksOf (loadedFrom file .table))) buffer ≡ fitted file buffer
+-- Of a file that is not refused, the file of the text that was written of it is that file, byte for byte.
+pub back-to-file : (file lent buffer : List ℕ) (n : ℕ) → ((i : ℕ) → getD file i 0 < 256) → loadedFrom file .admission ≡ Admission.Admitted → toText file lent .said ≡ Writing.Bytes n
+    → fromText (take n (toText file lent .buffer)) buffer ≡ fitted file buffer
 back-to-file = round.back-to-file
 
 -- A text of bad form is refused for it, when it is loaded and when its file is to be written, and the buffer stays as it was.
@@ -79,6 +78,17 @@ pub refused-text : (s buffer : List ℕ) (r : Refusal) → textForm s .admission
     → let f = fromText s buffer in (admissionSaid (textLoaded s .admission) ≡ refusalSaid r) × (writingSaid (f .said) ≡ refusalSaid r) × (f .buffer ≡ buffer)
 unfolding textLoaded
 refused-text s buffer r e = rw e (refl, refl, refl)
+
+-- So is a table for itself that a text of good form holds.
+pub refused-text-table : (s buffer : List ℕ) (r : Refusal) → textForm s .admission ≡ Admission.Admitted → judged (textForm s .table) ≡ Judgement.Refused r
+    → let f = fromText s buffer in (admissionSaid (textLoaded s .admission) ≡ refusalSaid r) × (writingSaid (f .said) ≡ refusalSaid r) × (f .buffer ≡ buffer)
+unfolding textLoaded fileWritten
+refused-text-table s buffer r e f = rw (e, f) (refl, refl, refl)
+
+-- To write the text of a file: what the file is refused by when it is loaded, and the buffer stays as it was.
+pub refused-to-text : (file buffer : List ℕ) (r : Refusal) → loadedFrom file .admission ≡ Admission.Refused r
+    → let f = toText file buffer in (writingSaid (f .said) ≡ refusalSaid r) × (f .buffer ≡ buffer)
+refused-to-text = told.refused-to-text
 
 -- From text to file: the file, of at most 282 bytes, at the buffer's front and its length returned, or a refusal by a number above 0 and a place
 -- below 65,536 that changes no byte.

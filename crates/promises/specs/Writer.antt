@@ -3,7 +3,9 @@
 use mathlib.Core.Path.{_≡_, refl, sym, ap, _∙_}
 use mathlib.Core.Logic.{_⊎_}
 use mathlib.Core.List.{List, [], _∷_, _++_}
-use Prim.Native.Nat.{ℕ, _≤_, _<_}
+use mathlib.Core.Bool.{true, false}
+use Prim.Native.Nat.{ℕ, min, _%_, _≤_, _<_}
+use lib.Dec.{eqb}
 use lib.ListN.{length, getD, take, drop}
 use Rattle.values.specs.declared.Table.{Table}
 use Rattle.values.specs.declared.Refusal.{Refusal}
@@ -12,12 +14,12 @@ use Rattle.values.specs.declared.Judgement.{Judgement}
 use Rattle.values.specs.declared.Admission.{Admission}
 use Rattle.values.specs.declared.Loaded.{Loaded}
 use Rattle.values.specs.declared.Writing.{Writing}
-use Rattle.model.specs.Limits.{budgetLimit, longestFile}
-use Rattle.model.specs.Values.{refusalSaid, writingSaid}
-use Rattle.model.specs.Tasks.{judged}
+use Rattle.model.specs.Limits.{taskLimit, budgetLimit, longestFile}
+use Rattle.model.specs.Values.{refusal, refusalSaid, writingSaid}
+use Rattle.model.specs.Tasks.{task, judged}
 use Rattle.model.specs.TableFile.{fileOf, loadedFrom}
 use Rattle.model.specs.Report.{Exported, refused}
-use Rattle.model.specs.Writer.{Filled, tasksOf, fileWritten, tableIn, writeExported}
+use Rattle.model.specs.Writer.{Filled, tasksOf, fileWritten, rowWords, rows, rowTask, isTask, tableIn, fillTold, writeExported}
 use Rattle.writer.specs.RoundTrip as round
 use Rattle.writer.specs.Told as told
 
@@ -57,6 +59,24 @@ written-loads t budget buffer n limit e =
 pub loaded-writes : (file buffer : List ℕ) → ((i : ℕ) → getD file i 0 < 256) → loadedFrom file .admission ≡ Admission.Admitted → length file ≤ length buffer
     → fileWritten (loadedFrom file .table) (loadedFrom file .budget) buffer ≡ record { said = Writing.Bytes (length file); buffer = file ++ drop (length file) buffer }
 loaded-writes = told.loaded-writes
+
+-- From C: words that are no whole rows are refused by 51 at their number, at most 65,535, whatever the rest.
+pub broken-rows : (words : List ℕ) (budget : ℕ) (buffer : List ℕ) → eqb (length words % rowWords) 0 ≡ false → writeExported words budget buffer ≡ refused (refusal 51 (min (length words) 65535)) buffer
+broken-rows words budget buffer e = rw e
+
+module _ (words : List ℕ) (whole : eqb (length words % rowWords) 0 ≡ true) (budget : ℕ) (buffer : List ℕ) where
+  -- Then the first row that is no task by 52 at its number, at most 65,535.
+  pub strange-row : (i : ℕ) → i < rows words → isTask words i ≡ false → ((k : ℕ) → k < i → isTask words k ≡ true) → writeExported words budget buffer ≡ refused (refusal 52 (min i 65535)) buffer
+  strange-row = told.strange-row words whole budget buffer
+
+  -- Where every row is a task, the file of their table is written.
+  pub rows-written : ((k : ℕ) → k < rows words → isTask words k ≡ true) → let f = fileWritten (tableIn words) budget buffer in writeExported words budget buffer ≡ fillTold (f .buffer) (f .said)
+  rows-written = told.rows-written words whole budget buffer
+
+-- That table has the tasks of the rows, in their order, and counts all rows: more than 16 of them are refused by 2.
+pub rows-tasks : (words : List ℕ) → (tableIn words .count ≡ rows words) × ((i : ℕ) → i < rows words → i < taskLimit → task (tableIn words) i ≡ rowTask words i)
+unfolding tableIn
+rows-tasks words = (refl, told.rows-tasks words)
 
 -- The exported call writes the file of the rows' table and returns its length, at most 282, or it refuses by a number above 0 and a place below
 -- 65,536 and changes no byte.

@@ -15,19 +15,19 @@ ghost use Rattle.model.specs.TableFile.{eight, taskIn, tableOf, refuseFile, for
 ghost use Rattle.tablefile.specs.Reading.{budgetBody, taskBody, refused, budgetReading, taskReading, endReading, readingAt};
 ghost use Rattle.tablefile.specs.Built.{withTask};
 
-const BUDGET: u8 = 1;
+pub const BUDGET: u8 = 1;
 
-const TASK: u8 = 2;
+pub const TASK: u8 = 2;
 
-const END: u8 = 3;
+pub const END: u8 = 3;
 
 const BUDGET_BODY: usize = 8;
 
 const TASK_BODY: usize = 16;
 
-const BUDGET_BYTES: usize = 1 + BUDGET_BODY;
+pub const BUDGET_BYTES: usize = 1 + BUDGET_BODY;
 
-const TASK_BYTES: usize = 1 + TASK_BODY;
+pub const TASK_BYTES: usize = 1 + TASK_BODY;
 
 const CUT_SHORT: u32 = 20;
 

@@ -4,22 +4,25 @@ use mathlib.Core.Logic.{_⊎_, inl, inr}
 use mathlib.Core.Bool.{Bool, true, false, cond, not}
 use mathlib.Core.List.{List, _++_}
 use Prim.Native.Nat.{ℕ, min, _%_, _≤_, _<_}
+use native.Mathlib.Nat.{le-refl}
 use native.Mathlib.Omega.{arith}
 use borrow.Author.Tests.{lt-ltb, le-ltb, ltb-true}
 use lib.Dec.{ltb, eqb, lit<}
-use lib.ListN.{length, getD, drop}
+use lib.ListN.{length, getD, drop, replicate, length-replicate}
 use Rattle.values.specs.declared.Table.{Table}
 use Rattle.values.specs.declared.Refusal.{Refusal}
 use Rattle.values.specs.declared.Measure.{Measure}
 use Rattle.values.specs.declared.Judgement.{Judgement}
 use Rattle.values.specs.declared.Admission.{Admission}
 use Rattle.values.specs.declared.Writing.{Writing}
-use Rattle.model.specs.Limits.{longestFile}
-use Rattle.model.specs.Tasks.{judged}
+use Rattle.model.specs.Limits.{taskLimit, longestFile}
+use Rattle.model.specs.Tasks.{noTask, task, judged}
 use Rattle.model.specs.TableFile.{fileOf, loadedFrom}
 use Rattle.model.specs.Report.{Exported, refused}
 use Rattle.model.specs.Values.{refusal}
-use Rattle.model.specs.Writer.{unwritten, fitted, tasksOf, fileWritten, writtenBy, rowWords, rows, firstStranger, tableIn, fillTold, writeExported}
+use Rattle.model.specs.Writer.{unwritten, fitted, tasksOf, fileWritten, writtenBy, rowWords, rows, rowTask, isTask, firstStranger, tableIn, fillTold, writeExported}
+use Rattle.counting.specs.Search.{first-is, first-none}
+use Rattle.counting.specs.Fill.{fill-passed}
 use Rattle.wellformed.specs.Ranges.{Ranged, holds-all}
 use Rattle.wellformed.specs.WellFormed.{well-formed}
 use Rattle.wellformed.specs.Refused.{Tellable, JudgementTellable, judged-tellable}
@@ -84,3 +87,23 @@ module _ (buffer : List ℕ) where
       go true strange = inr (refusal 51 (min (length words) 65535), refl, (omega arith, omega arith))
       go false true = inr (refusal 52 (min (firstStranger words) 65535), refl, (omega arith, omega arith))
       go false false = file-apart (tableIn words) b
+
+module _ (words : List ℕ) (whole : eqb (length words % rowWords) 0 ≡ true) (b : ℕ) (buffer : List ℕ) where
+  -- The first row that is no task is told.
+  pub strange-row : (i : ℕ) → i < rows words → isTask words i ≡ false → ((k : ℕ) → k < i → isTask words k ≡ true) → writeExported words b buffer ≡ refused (refusal 52 (min i 65535)) buffer
+  unfolding firstStranger
+  strange-row i l e tasks =
+      let at : firstStranger words ≡ i = first-is (λ k. not (isTask words k)) 0 (rows words) i (omega arith) (omega arith) (rw e tt) (λ k a m. rw (tasks k m) (λ x. x)) in
+      rw (whole, at, lt-ltb i (rows words) l)
+
+  -- Where there is none, the file of the rows' table is written.
+  pub rows-written : ((k : ℕ) → k < rows words → isTask words k ≡ true) → let f = fileWritten (tableIn words) b buffer in writeExported words b buffer ≡ fillTold (f .buffer) (f .said)
+  unfolding firstStranger
+  rows-written tasks =
+      let none : firstStranger words ≡ rows words = omega (arith, first-none (λ k. not (isTask words k)) 0 (rows words) (λ k a m. rw (tasks k (omega arith)) (λ x. x))) in
+      rw (whole, none, le-ltb (rows words) (rows words) (le-refl _))
+
+-- The tasks of the rows' table are those of the rows, in their order.
+pub rows-tasks : (words : List ℕ) (i : ℕ) → i < rows words → i < taskLimit → task (tableIn words) i ≡ rowTask words i
+unfolding tableIn
+rows-tasks words i l m = fill-passed (min (rows words) taskLimit) (rowTask words) (replicate taskLimit noTask) i noTask (omega arith) (omega (arith, length-replicate taskLimit noTask))

@@ -8,21 +8,16 @@ ghost use Rattle.model.specs.TableFile.{budgetRecord, taskRecord, taskRecords, 
 ghost use Rattle.model.specs.Writer.{tasksOf, fitted, fileWritten};
 ghost use Rattle.counting.specs.Put.{Put};
 ghost use Rattle.writer.specs.Records.{filled, fileBytes};
+use tablefile::BUDGET;
+use tablefile::BUDGET_BYTES;
+use tablefile::END;
+use tablefile::TASK;
+use tablefile::TASK_BYTES;
 use values::Judgement;
 use values::Refusal;
 use values::Table;
 use values::Task;
 use values::Writing;
-
-const BUDGET: u8 = 1;
-
-const TASK: u8 = 2;
-
-const END: u8 = 3;
-
-const BUDGET_BYTES: usize = 1 + 8;
-
-const TASK_BYTES: usize = 1 + 16;
 
 const SHORT_BUFFER: u32 = 31;
 
