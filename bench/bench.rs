@@ -67,7 +67,7 @@ fn said_by(walk: &Walk, tasks: usize, at_horizon: bool) -> Vec<String> {
         End::Reached(at) => {
             let mut lines = vec!["verdict passes".into(), format!("settled {at}")];
             lines.extend((0..tasks).map(|i| format!("worst {i} {}", walk.worst[i])));
-            lines.push(walk.empty.map_or("empty none".into(), |at| format!("empty {at}")));
+            lines.push(format!("idle {}", walk.idle));
             lines
         }
     }

@@ -1,5 +1,5 @@
 // The plain walk that the proved one is compared with: slot by slot, the released job with the earliest deadline, ties to the
-// lower number; worst responses, the first empty slot, and the first deadline that a job misses. It is written in two ways.
+// lower number; worst responses, the first idle instant after 0, and the first deadline that a job misses. It is written in two ways.
 #[derive(Clone, Copy)]
 pub struct Task {
     pub offset: u32,
@@ -18,7 +18,7 @@ pub enum End {
 pub struct Walk {
     pub end: End,
     pub worst: [u32; 16],
-    pub empty: Option<u64>,
+    pub idle: u64,
 }
 
 // Late jobs are looked for in the pass that makes the slot, as the proved walk does it.
@@ -29,7 +29,7 @@ pub fn one_pass(tasks: &[Task], end: u64) -> Walk {
     let mut left = [0u32; 16];
     let mut slack = [0u32; 16];
     let mut worst = [0u32; 16];
-    let mut empty = None;
+    let mut idle = 0;
     for i in 0..n {
         wait[i] = tasks[i].offset;
         slack[i] = tasks[i].period - tasks[i].deadline;
@@ -40,7 +40,7 @@ pub fn one_pass(tasks: &[Task], end: u64) -> Walk {
         let mut earliest = u32::MAX;
         for i in 0..n {
             if left[i] > 0 && wait[i] == slack[i] {
-                return Walk { end: End::Late(at), worst, empty };
+                return Walk { end: End::Late(at), worst, idle };
             }
             if wait[i] == 0 {
                 wait[i] = tasks[i].period;
@@ -56,22 +56,18 @@ pub fn one_pass(tasks: &[Task], end: u64) -> Walk {
             wait[i] -= 1;
         }
         if at == end {
-            return Walk { end: End::Reached(at), worst, empty };
+            return Walk { end: End::Reached(at), worst, idle };
         }
-        match owner {
-            Some(i) => {
-                left[i] -= 1;
-                if left[i] == 0 {
-                    worst[i] = worst[i].max(tasks[i].period - wait[i]);
-                }
-            }
-            None => {
-                if empty.is_none() {
-                    empty = Some(at);
-                }
+        if let Some(i) = owner {
+            left[i] -= 1;
+            if left[i] == 0 {
+                worst[i] = worst[i].max(tasks[i].period - wait[i]);
             }
         }
         at += 1;
+        if idle == 0 && left[..n].iter().all(|&slots| slots == 0) {
+            idle = at;
+        }
     }
 }
 
@@ -83,7 +79,7 @@ pub fn two_passes(tasks: &[Task], end: u64) -> Walk {
     let mut left = [0u32; 16];
     let mut slack = [0u32; 16];
     let mut worst = [0u32; 16];
-    let mut empty = None;
+    let mut idle = 0;
     for i in 0..n {
         wait[i] = tasks[i].offset;
         slack[i] = tasks[i].period - tasks[i].deadline;
@@ -92,11 +88,11 @@ pub fn two_passes(tasks: &[Task], end: u64) -> Walk {
     loop {
         for i in 0..n {
             if left[i] > 0 && wait[i] == slack[i] {
-                return Walk { end: End::Late(at), worst, empty };
+                return Walk { end: End::Late(at), worst, idle };
             }
         }
         if at == end {
-            return Walk { end: End::Reached(at), worst, empty };
+            return Walk { end: End::Reached(at), worst, idle };
         }
         let mut owner = None;
         let mut earliest = u32::MAX;
@@ -114,19 +110,15 @@ pub fn two_passes(tasks: &[Task], end: u64) -> Walk {
             }
             wait[i] -= 1;
         }
-        match owner {
-            Some(i) => {
-                left[i] -= 1;
-                if left[i] == 0 {
-                    worst[i] = worst[i].max(tasks[i].period - wait[i]);
-                }
-            }
-            None => {
-                if empty.is_none() {
-                    empty = Some(at);
-                }
+        if let Some(i) = owner {
+            left[i] -= 1;
+            if left[i] == 0 {
+                worst[i] = worst[i].max(tasks[i].period - wait[i]);
             }
         }
         at += 1;
+        if idle == 0 && left[..n].iter().all(|&slots| slots == 0) {
+            idle = at;
+        }
     }
 }

@@ -32,7 +32,7 @@ static const char page_judge[] =
     "yolizadwa judge FILE [--all]\n"
     "\n"
     "Prints the report on a table: tasks, load, horizon, verdict, settled; if it\n"
-    "passes also the worst response of each task and the first empty slot. If it\n"
+    "passes also the worst response of each task and the first idle instant. If it\n"
     "is late, the interval that asks for more slots than it has, and the jobs of\n"
     "it, the first 100 or with --all every one. A table that is no good is refused\n"
     "with a number and a place, in words, and of a text with the line.\n"

@@ -146,7 +146,7 @@ uint64_t yolizadwa_to_text(const uint8_t *file, size_t file_len, uint8_t *text, 
  *   verdict passes     or: overload, late, undecided
  *   settled 38         slots up to which the answer is known
  *   worst 0 7          passes only, one line for each task: no job of task 0 ends later than 7 slots after its release
- *   empty 2            passes only: the first slot that nobody needs, or `empty none`
+ *   idle 2             passes only: the first instant after 0 by which every job released before it is finished
  *
  * Late has in place of the last two `interval 8 15 demand 8`: the jobs that are released at 8 or later and due by 15 ask
  * for 8 slots. Undecided: the budget ended before the answer was known; `settled` is the budget.

@@ -23,22 +23,22 @@ pub const TOO_LONG: Rows = &[(0, 1, 31_623, 31_623), (0, 1, 31_624, 31_624)];
 
 /// Tables with a budget and the report they give.
 const REPORTS: &[(Rows, u64, &str)] = &[
-    (A, 1_000, "tasks 1\nload 1/1\nhorizon 2\nverdict passes\nsettled 2\nworst 0 1\nempty none\n"),
-    (B, 1_000, "tasks 2\nload 11/15\nhorizon 38\nverdict passes\nsettled 38\nworst 0 7\nworst 1 2\nempty 2\n"),
-    (B, 38, "tasks 2\nload 11/15\nhorizon 38\nverdict passes\nsettled 38\nworst 0 7\nworst 1 2\nempty 2\n"),
+    (A, 1_000, "tasks 1\nload 1/1\nhorizon 2\nverdict passes\nsettled 2\nworst 0 1\nidle 1\n"),
+    (B, 1_000, "tasks 2\nload 11/15\nhorizon 38\nverdict passes\nsettled 38\nworst 0 7\nworst 1 2\nidle 2\n"),
+    (B, 38, "tasks 2\nload 11/15\nhorizon 38\nverdict passes\nsettled 38\nworst 0 7\nworst 1 2\nidle 2\n"),
     (B, 37, "tasks 2\nload 11/15\nhorizon 38\nverdict undecided\nsettled 37\n"),
     (C, 1_000, "tasks 2\nload 12/15\nhorizon 38\nverdict late\nsettled 15\ninterval 8 15 demand 8\n"),
     (C, 15, "tasks 2\nload 12/15\nhorizon 38\nverdict late\nsettled 15\ninterval 8 15 demand 8\n"),
     (C, 14, "tasks 2\nload 12/15\nhorizon 38\nverdict undecided\nsettled 14\n"),
     (D, 1_000, "tasks 2\nload 11/15\nhorizon 30\nverdict late\nsettled 7\ninterval 0 7 demand 9\n"),
-    (E, 1_000, "tasks 2\nload 2/2\nhorizon 5\nverdict passes\nsettled 5\nworst 0 1\nworst 1 1\nempty none\n"),
+    (E, 1_000, "tasks 2\nload 2/2\nhorizon 5\nverdict passes\nsettled 5\nworst 0 1\nworst 1 1\nidle 1\n"),
     (F, 1_000, "tasks 2\nload 2/2\nhorizon 4\nverdict late\nsettled 1\ninterval 0 1 demand 2\n"),
-    (G, 1_000, "tasks 2\nload 4/4\nhorizon 8\nverdict passes\nsettled 8\nworst 0 2\nworst 1 4\nempty none\n"),
+    (G, 1_000, "tasks 2\nload 4/4\nhorizon 8\nverdict passes\nsettled 8\nworst 0 2\nworst 1 4\nidle 4\n"),
     (H, 1_000, "tasks 2\nload 4/4\nhorizon 12\nverdict late\nsettled 7\ninterval 4 7 demand 4\n"),
     (I, 1_000, "tasks 2\nload 6/5\nhorizon 12\nverdict overload\nsettled 0\n"),
     (I, 0, "tasks 2\nload 6/5\nhorizon 12\nverdict overload\nsettled 0\n"),
-    (J, 1_000, "tasks 1\nload 1/2\nhorizon 8\nverdict passes\nsettled 8\nworst 0 1\nempty 0\n"),
-    (J, u64::MAX, "tasks 1\nload 1/2\nhorizon 8\nverdict passes\nsettled 8\nworst 0 1\nempty 0\n"),
+    (J, 1_000, "tasks 1\nload 1/2\nhorizon 8\nverdict passes\nsettled 8\nworst 0 1\nidle 1\n"),
+    (J, u64::MAX, "tasks 1\nload 1/2\nhorizon 8\nverdict passes\nsettled 8\nworst 0 1\nidle 1\n"),
     (LONGEST, 10, "tasks 2\nload 63245/999982506\nhorizon 1999965012\nverdict undecided\nsettled 10\n"),
 ];
 

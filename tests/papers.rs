@@ -6,7 +6,7 @@ use std::fs;
 use std::path::Path;
 
 const PAPER: &str = "docs/PROMISES.md";
-const THEORY: &str = "crates/backlog/specs";
+const THEORIES: &[&str] = &["crates/backlog/specs", "crates/patterns/specs", "crates/walks/specs"];
 const PROMISES: &str = "crates/promises/specs";
 
 /// Laws that the paper names and that are no promises, each with its file.
@@ -55,13 +55,14 @@ fn headline(text: &str) -> Option<&str> {
 
 /// A file of the theory has one theorem for its headline: its first line names it, and no other line begins like one.
 pub fn headlines(bench: &mut Bench) {
-    for name in names(THEORY, ".antt").into_iter().filter(|name| name != "Lib" && name != "Instances") {
-        let text = read(&format!("{THEORY}/{name}.antt"));
+    let files = |theory: &&'static str| names(theory, ".antt").into_iter().map(|name| (*theory, name)).collect::<Vec<_>>();
+    for (theory, name) in THEORIES.iter().flat_map(files).filter(|(_, name)| name != "Lib" && name != "Instances") {
+        let text = read(&format!("{theory}/{name}.antt"));
         let law = headline(&text);
         let comments = text.lines().skip(1).filter_map(|line| line.trim_start().strip_prefix("-- "));
         let others = comments.filter(|words| words.split_whitespace().take(2).any(loud)).count();
         let good = law.is_some_and(|law| laws(&text).contains(&law)) && others == 0;
-        bench.count(good, || format!("{THEORY}/{name}.antt: {law:?} is not its one headline"));
+        bench.count(good, || format!("{theory}/{name}.antt: {law:?} is not its one headline"));
     }
     bench.end_group("headlines of the theory");
 }

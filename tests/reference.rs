@@ -279,23 +279,26 @@ fn next_job(open: &[Job]) -> Option<usize> {
     (0..open.len()).min_by_key(|&index| (open[index].deadline, open[index].task))
 }
 
-/// Worst responses and first empty slot, over all jobs released before a time.
-fn run(tasks: &[Task], until: u64) -> (Vec<u64>, Option<u64>) {
+/// Worst responses, over all jobs released before a time, and the first instant after 0 at which every job that was released
+/// strictly before it is finished.
+fn run(tasks: &[Task], until: u64) -> (Vec<u64>, u64) {
     let mut coming = jobs_before(tasks, until);
     coming.sort_by_key(|job| std::cmp::Reverse(job.release));
-    let (mut open, mut worst, mut empty): (Vec<Job>, _, _) = (Vec::new(), vec![0; tasks.len()], None);
+    let (mut open, mut worst, mut idle): (Vec<Job>, _, _) = (Vec::new(), vec![0; tasks.len()], None);
     let mut slot = 0;
     while !(coming.is_empty() && open.is_empty()) {
         while coming.last().map_or(false, |job| job.release == slot) {
             open.extend(coming.pop());
         }
-        match next_job(&open) {
-            None => empty = empty.or(Some(slot)),
-            Some(index) => give(&mut open, index, slot, &mut worst),
+        if let Some(index) = next_job(&open) {
+            give(&mut open, index, slot, &mut worst);
         }
         slot += 1;
+        if open.is_empty() {
+            idle = idle.or(Some(slot));
+        }
     }
-    (worst, empty)
+    (worst, idle.unwrap())
 }
 
 fn give(open: &mut Vec<Job>, index: usize, slot: u64, worst: &mut [u64]) {
@@ -312,7 +315,7 @@ fn give(open: &mut Vec<Job>, index: usize, slot: u64, worst: &mut [u64]) {
 
 #[derive(Clone, PartialEq, Eq, Debug)]
 pub enum Verdict {
-    Passes(Vec<u64>, Option<u64>),
+    Passes(Vec<u64>, u64),
     Overload,
     Late(Late),
     Undecided,
@@ -334,8 +337,8 @@ pub fn decide(tasks: &[Task], budget: u64) -> Answer {
         Some(late) => Answer { verdict: Verdict::Late(late), settled: late.end },
         None if budget < horizon => Answer { verdict: Verdict::Undecided, settled: budget },
         None => {
-            let (worst, empty) = run(tasks, horizon + round);
-            Answer { verdict: Verdict::Passes(worst, empty.filter(|&slot| slot < horizon)), settled: horizon }
+            let (worst, idle) = run(tasks, horizon + round);
+            Answer { verdict: Verdict::Passes(worst, idle), settled: horizon }
         }
     }
 }
@@ -344,9 +347,9 @@ pub fn decide(tasks: &[Task], budget: u64) -> Answer {
 
 fn details(verdict: &Verdict) -> String {
     match verdict {
-        Verdict::Passes(worst, empty) => {
+        Verdict::Passes(worst, idle) => {
             let lines: String = worst.iter().enumerate().map(|(task, worst)| format!("worst {task} {worst}\n")).collect();
-            lines + &empty.map_or("empty none\n".to_string(), |slot| format!("empty {slot}\n"))
+            lines + &format!("idle {idle}\n")
         }
         Verdict::Late(late) => format!("interval {} {} demand {}\n", late.start, late.end, late.demand),
         Verdict::Overload | Verdict::Undecided => String::new(),

@@ -8,7 +8,9 @@ use Rattle.values.specs.declared.Verdict.{Verdict}
 use Rattle.values.specs.declared.Outcome.{Outcome}
 use Rattle.values.specs.declared.Answer.{Answer}
 use Rattle.model.specs.Tasks.{horizon, judged}
-use Rattle.model.specs.Verdict.{verdict, settledBy, emptyIn, brief, Answers, PermittedBy, Permitted}
+use Rattle.model.specs.Run.{tieOrder}
+use Rattle.model.specs.Idle.{firstIdle}
+use Rattle.model.specs.Verdict.{verdict, settledBy, brief, Answers, PermittedBy, Permitted}
 use Rattle.wellformed.specs.WellFormed.{well-formed}
 use Rattle.wellformed.specs.Ranges.{Ranged}
 use Rattle.backlog.specs.TableSystem.{tie-ranks}
@@ -17,7 +19,7 @@ use Rattle.backlog.specs.WalkWorst.{worstBy, walk-worsts}
 
 -- The answer by its verdict, and by the judgement of the table.
 abbrev pub answerBy : Table → ℕ → Measure → Verdict → Answer
-answerBy t budget m Verdict.Passes = record { outcome = Outcome.Tested Verdict.Passes; measure = m; settled = settledBy t budget; worst = worstBy t (horizon t); empty = emptyIn t }
+answerBy t budget m Verdict.Passes = record { outcome = Outcome.Tested Verdict.Passes; measure = m; settled = settledBy t budget; worst = worstBy t (horizon t); idle = firstIdle t (tieOrder t) }
 answerBy t budget m Verdict.Overload = brief (Outcome.Tested Verdict.Overload) m (settledBy t budget)
 answerBy t budget m (Verdict.Late from to asked) = brief (Outcome.Tested (Verdict.Late from to asked)) m (settledBy t budget)
 answerBy t budget m Verdict.Undecided = brief (Outcome.Tested Verdict.Undecided) m (settledBy t budget)

@@ -15,7 +15,7 @@ use Rattle.values.specs.declared.Outcome.{Outcome}
 use Rattle.model.specs.Limits.{taskLimit}
 use Rattle.model.specs.Tasks.{task, release, due, taskFault, firstFaulty, round, load, horizon, judged}
 use Rattle.model.specs.Demand.{jobsIn, demand, lateAt, asksTooMuch}
-use Rattle.model.specs.Run.{tieOrder, choose, firstEmpty, run, Worst}
+use Rattle.model.specs.Run.{choose, run, Worst}
 use Rattle.model.specs.Verdict.{needed, lateStart, verdict, settledBy, Worsts, Permitted}
 use Rattle.model.specs.Dispatcher.{State, Stepped, firstStrange, startOf, isLate, ownerNow, after, turn, stepped}
 use Rattle.model.specs.History.{stateAt, ownerAt, had, Finished}
@@ -61,7 +61,6 @@ use Rattle.backlog.specs.NoneWaits.{none-waits}
 use Rattle.backlog.specs.Walk.{quiet, Clear}
 use Rattle.backlog.specs.WalkLate.{late-iff}
 use Rattle.backlog.specs.WalkWorst.{worstBy, walk-worsts}
-use Rattle.backlog.specs.WalkEmpty.{walk-empty}
 use Rattle.backlog.specs.Computed.{answerOf, computed}
 
 -- Two units in each slot leave a backlog.
@@ -117,15 +116,12 @@ b-finish j = finish (jobs b-system) (servedOf b-system) (model-run b-system) 0 j
 b-one-run : (s : ℕ → ℕ → ℕ) → Run (jobs b-system) s → (u i : ℕ) → i < 2 → s u i ≡ servedOf b-system u i
 b-one-run s R = run-unique (jobs b-system) s (servedOf b-system) R (model-run b-system)
 
--- No interval of it asks too much, so a walk to its horizon finds its worst responses, and the first slot without a job.
+-- No interval of it asks too much, so a walk to its horizon finds its worst responses.
 b-clear : Clear table-b (horizon table-b)
 b-clear u l = never-iff table-b .0 (feasible-iff table-b b-ranged .0 b-feasible) u
 
 b-walk-worsts : Worsts table-b (worstBy table-b (horizon table-b))
 b-walk-worsts = walk-worsts table-b b-ranged b-met
-
-b-walk-empty : first (λ u. eqb (ownerAt table-b quiet u) taskLimit) 0 (horizon table-b) ≡ firstEmpty table-b (tieOrder table-b)
-b-walk-empty = walk-empty table-b b-ranged b-clear
 
 -- Table g has load exactly 1, and passes.
 g-ranged : Ranged table-g

@@ -55,7 +55,6 @@ pub mod NoneWaits
 pub mod Walk
 pub mod WalkLate
 pub mod WalkWorst
-pub mod WalkEmpty
 pub mod Computed
 -- No theorem is empty.
 pub mod Instances

@@ -34,6 +34,13 @@ pub is-false : (b : Bool) → (T b → ⊥) → b ≡ false
 is-false true x = absurd (x tt)
 is-false false x = refl
 
+-- Two tests that hold together are one.
+pub same-test : (a b : Bool) → (T a → T b) → (T b → T a) → a ≡ b
+same-test true true f g = refl
+same-test true false f g = absurd (f tt)
+same-test false true f g = absurd (g tt)
+same-test false false f g = refl
+
 -- It holds, or it does not.
 pub decT : (b : Bool) → Dec (T b)
 decT true = yes tt

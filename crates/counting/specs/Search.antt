@@ -48,7 +48,7 @@ is-first p n (suc m) = go (p n) refl (is-first p (suc n) m)
         }
 
 -- The first is at least n.
-first-from : (p : ℕ → Bool) (n m : ℕ) → n ≤ first p n m
+pub first-from : (p : ℕ → Bool) (n m : ℕ) → n ≤ first p n m
 first-from p n m = is-first p n m .from
 
 -- The first is at most n + m.

@@ -1,31 +1,30 @@
--- The walk, slot by slot: what holds before each slot, and that what it says at its end is the permitted answer.
-use mathlib.Core.Path.{_≡_, refl, sym, subst, _∙_}
+-- The walk of the exact test, slot by slot: what holds before each slot, and that what it says at its end is the permitted answer.
+use mathlib.Core.Path.{_≡_, refl, sym, _∙_}
 use mathlib.Core.Logic.{_⊎_, inl, inr}
 use mathlib.Core.List.{List}
-use mathlib.Core.Bool.{Bool, true, false, cond}
+use mathlib.Core.Bool.{false, cond}
 use Prim.Native.Nat.{ℕ, suc, _+_, _-_, _≤_, _<_, min}
-use native.Mathlib.Nat.{le-refl, le-step}
 use native.Mathlib.Numerals.{add-one}
-use native.Mathlib.Decide.{decLt}
+use native.Mathlib.Decide.{decLe, decLt}
 use native.Mathlib.Omega.{arith}
 use borrow.Author.Tests.{lt-ltb, le-ltb}
-use lib.Dec.{T, ltb, eqb, eqb→eq}
+use lib.Dec.{T, ltb}
 use lib.ListN.{replicate}
 use Rattle.values.specs.declared.Table.{Table}
 use Rattle.values.specs.declared.Measure.{Measure}
 use Rattle.values.specs.declared.Judgement.{Judgement}
 use Rattle.values.specs.declared.Verdict.{Verdict}
 use Rattle.values.specs.declared.Answer.{Answer}
-use Rattle.model.specs.Notation.{first}
 use Rattle.model.specs.Limits.{taskLimit}
 use Rattle.model.specs.Tasks.{task, round, load, horizon, judged}
 use Rattle.model.specs.Demand.{demand, asksTooMuch, lateAt}
-use Rattle.model.specs.Run.{tieOrder, firstEmpty}
-use Rattle.model.specs.Verdict.{needed, lateStart, verdict, emptyIn, Worsts, Answers, Permitted}
-use Rattle.model.specs.Dispatcher.{State, startOf, waitOf, isLate, leftLate, ownerNow, after}
+use Rattle.model.specs.Run.{tieOrder}
+use Rattle.model.specs.Idle.{idleAt, firstIdle}
+use Rattle.model.specs.Verdict.{needed, lateStart, verdict, Worsts, Answers, Permitted}
+use Rattle.model.specs.Dispatcher.{startOf}
 use Rattle.model.specs.History.{stateAt, ownerAt}
-use Rattle.counting.specs.Count.{is-false, eq→eqb, decT}
-use Rattle.counting.specs.Search.{NoneFrom, first-le, first-longer, first-is, first-none, first-before, none-up, below-suc}
+use Rattle.counting.specs.Count.{is-true, is-false, decT}
+use Rattle.counting.specs.Search.{first-from, least-le}
 use Rattle.wellformed.specs.Ranges.{Ranged}
 use Rattle.wellformed.specs.WellFormed.{WellFormed, well-formed}
 use Rattle.backlog.specs.TooMuch.{too-much-iff}
@@ -35,120 +34,80 @@ use Rattle.backlog.specs.Verdicts.{is-undecided, is-late, is-passed}
 use Rattle.backlog.specs.PassedWorst.{met-of-passed}
 use Rattle.backlog.specs.Taken.{owner-one}
 use Rattle.backlog.specs.Walk.{quiet, Clear}
-use Rattle.backlog.specs.WalkLate.{late-iff}
 use Rattle.backlog.specs.WalkWorst.{worstBy, walk-worsts}
-use Rattle.backlog.specs.WalkEmpty.{walk-empty}
 use Rattle.backlog.specs.TableSystem.{tie-ranks}
-use Rattle.slots.specs.Slot as slot
+use Rattle.patterns.specs.FirstIdle.{first-idle}
+use Rattle.slots.specs.Slot.{noneLeft}
 use Rattle.slots.specs.Columns.{columnsOf}
-use Rattle.slots.specs.Laws as slots-laws
-use Rattle.slots.specs.Laws.{Has, fill-has, slack-has, table-served}
+use Rattle.slots.specs.Laws.{fill-has}
 use Rattle.slots.specs.declared.Seen.{Seen}
 use Rattle.slots.specs.Serve.{Served}
-use Rattle.exact.specs.Walked.{notedOf, emptied, emptyOf, concluded}
+use Rattle.walks.specs.Walked.{Setting, Walked, walked-start, walked-next, owner-is}
+use Rattle.walks.specs.Caught.{none-left-idle}
+use Rattle.exact.specs.Noted.{notedOf, idleNoted, concluded}
 
--- The first empty slot before n, or the end.
-abbrev emptySlot : Table → ℕ → Bool
-emptySlot t u = eqb (ownerAt t quiet u) taskLimit
-
-unfoldable pub emptyBy : Table → ℕ → ℕ → ℕ
-emptyBy t end n = cond (ltb (first (emptySlot t) 0 n) n) (first (emptySlot t) 0 n) end
+-- The first idle instant after 0 if it is at most n, and else 0.
+unfoldable pub idleBy : Table → ℕ → ℕ
+idleBy t n = let u = firstIdle t (tieOrder t) in cond (ltb n u) 0 u
 
 -- What holds before slot n.
-pub record Walking (t : Table) (n : ℕ) (wait left worst : List ℕ) (empty : ℕ) : Type 0 where
-  pub clear : Clear t n
-  pub waits : wait ≡ stateAt t quiet n .wait
-  pub lefts : left ≡ stateAt t quiet n .left
+pub record Walking (t : Table) (n : ℕ) (wait left worst : List ℕ) (idle : ℕ) : Type 0 where
+  pub walk : Walked t n wait left
   pub worsts : worst ≡ worstBy t n
-  pub empties : empty ≡ emptyBy t (horizon t) n
+  pub idles : idle ≡ idleBy t n
 
-pub walking-start : (t : Table) → Walking t 0 (startOf t .wait) (replicate taskLimit 0) (replicate taskLimit 0) (horizon t)
-unfolding stateAt startOf worstBy emptyBy first
-walking-start t = record { clear = λ u l. absurd (omega arith); waits = refl; lefts = refl; worsts = refl; empties = refl }
+-- The first idle instant is after 0.
+idle-later : (t : Table) → 0 < firstIdle t (tieOrder t)
+unfolding firstIdle
+idle-later t = first-from (idleAt t (tieOrder t)) 1 (round t)
 
-module _ (t : Table) (r : Ranged t) (n : ℕ) where
-  abbrev st : State
-  st = stateAt t quiet n
+pub walking-start : (t : Table) → Walking t 0 (startOf t .wait) (replicate taskLimit 0) (replicate taskLimit 0) 0
+unfolding worstBy idleBy
+walking-start t = record { walk = walked-start t; worsts = refl; idles = rw (lt-ltb 0 (firstIdle t (tieOrder t)) (idle-later t)) refl }
 
-  -- The jobs that the walk looks for are those that step n would close as late.
-  abbrev seen : ℕ → Bool
-  seen = slot.isLate (st .wait) (st .left) (columnsOf t .slack) (t .count)
+-- The idle instant is noted where no slot is left for the first time after 0.
+module _ (t : Table) (r : Ranged t) (light : load t ≤ round t) (n : ℕ) {wait left : List ℕ} (w : Walked t (suc n) wait left) where
+  idle-next : idleNoted (idleBy t n) left (t .count) (suc n) ≡ idleBy t (suc n)
+  unfolding idleBy
+  idle-next = go (decLe u n) (decT (idleAt t (tieOrder t) (suc n)))
+    where
+      u : ℕ
+      u = firstIdle t (tieOrder t)
 
-  same-late : (i : ℕ) → seen i ≡ isLate t st false i
-  same-late i = elim (decLt i (t .count)) [
-    | yes l ↦ rw (slack-has t (r .few) i l)
-    | no l ↦ rw (le-ltb i (t .count) (omega arith))
-  ]
+      none-left : noneLeft left (t .count) ≡ idleAt t (tieOrder t) (suc n)
+      none-left = none-left-idle r w
 
-  clear-more : Clear t n → ((i : ℕ) → i < t .count → T (seen i) → ⊥) → Clear t (suc n)
-  clear-more c none = below-suc (λ u. T (lateAt t u) → ⊥) n c (λ h. let (i, m, x) = late-iff t r n c .1 h in none i m (subst T (sym (same-late i)) x))
+      go : Dec (u ≤ n) → Dec (T (idleAt t (tieOrder t) (suc n))) → idleNoted (idleBy t n) left (t .count) (suc n) ≡ idleBy t (suc n)
+      go (yes p) d = rw (le-ltb n u p, lt-ltb 0 u (idle-later t), le-ltb (suc n) u (omega arith))
+      go (no p) (yes h) =
+          let e : u ≡ suc n = omega (arith, least-le (λ (u : ℕ). (0 < u) × T (idleAt t (tieOrder t) u)) u (suc n) (first-idle t r _ (tie-ranks t) light .0) (omega arith, h)) in
+          rw (lt-ltb n u (omega arith), le-ltb (suc n) u (omega arith), none-left, is-true (idleAt t (tieOrder t) (suc n)) h) (sym e)
+      go (no p) (no h) = rw (lt-ltb n u (omega arith), none-left, is-false (idleAt t (tieOrder t) (suc n)) h, lt-ltb (suc n) u (later (first-idle t r _ (tie-ranks t) light .0 .0 .1)))
+        where
+          later : T (idleAt t (tieOrder t) u) → suc n < u
+          later x = elim (decLt (suc n) u) [ yes l ↦ l | no l ↦ let e : u ≡ suc n = omega arith in absurd (h (rw e at x)) ]
 
-  late-found : Clear t n → (i : ℕ) × (i < t .count) × T (seen i) → T (lateAt t n)
-  late-found c h = let (i, l, x) = h in late-iff t r n c .0 (i, l, subst T (same-late i) x)
+-- The responses are noted at the last slot of a job.
+module _ (t : Table) (r : Ranged t) (n : ℕ) {wait left : List ℕ} {owner : ℕ} (w : Walked t (suc n) wait left) (owned : owner ≡ ownerAt t quiet n) where
+  worst-next : notedOf (worstBy t n) owner (columnsOf t .period) wait left ≡ worstBy t (suc n)
+  unfolding worstBy columnsOf
+  worst-next = go (rw owned (owner-one t (stateAt t quiet n) false (r .few)))
+    where
+      go : (owner ≡ taskLimit) ⊎ (owner < t .count) → notedOf (worstBy t n) owner (columnsOf t .period) wait left ≡ worstBy t (suc n)
+      go (inl e) = rw (le-ltb owner taskLimit (omega arith), ← owned, le-ltb owner (t .count) (omega (arith, r .few)))
+      go (inr l) = rw (lt-ltb owner taskLimit (omega (arith, r .few)), ← owned, lt-ltb owner (t .count) l, w .waits, w .lefts, fill-has (t .count) (λ i. task t i .period) (replicate taskLimit 0) (r .few) owner l)
 
-  -- A served slot is step n.
-  module _ (clear : Clear t (suc n)) {wait′ left′ : List ℕ} {owner : ℕ} (s : slots-laws.Slotted (t .count) (slot.at (st .wait)) (slot.at (st .left)) (slot.at (columnsOf t .period)) (slot.at (columnsOf t .cost)) (slot.at (columnsOf t .slack)) (slot.at (columnsOf t .rank)) (st .wait) (st .left) wait′ left′ owner) where
-    lefts-have : Has (t .count) (st .left) (leftLate t st false)
-    lefts-have i l = rw (is-false (isLate t st false i) (λ h. clear n (le-refl (suc n)) (late-iff t r n (λ u m. clear u (le-step m)) .0 (i, l, h)))) refl
-
-    slotted : slots-laws.Slotted (t .count) (waitOf st) (leftLate t st false) (λ i. task t i .period) (λ i. task t i .cost) (λ i. task t i .period - task t i .deadline) (tieOrder t) (st .wait) (st .left) wait′ left′ owner
-    slotted = table-served t (r .few) (st .wait) (st .left) (waitOf st) (leftLate t st false) (λ i l. refl) lefts-have s
-
-    pub owner-is : owner ≡ ownerAt t quiet n
-    unfolding ownerNow
-    owner-is = slotted .owned
-
-    waits-are : wait′ ≡ stateAt t quiet (suc n) .wait
-    unfolding stateAt after
-    waits-are = slotted .waits
-
-    pub lefts-are : left′ ≡ stateAt t quiet (suc n) .left
-    unfolding stateAt after
-    lefts-are = slotted .lefts ∙ rw owner-is refl
-
-    -- Its owner is a task or none.
-    owner-range : (owner ≡ taskLimit) ⊎ (owner < t .count)
-    owner-range = rw owner-is (owner-one t st false (r .few))
-
-    worst-next : notedOf (worstBy t n) owner (columnsOf t .period) wait′ left′ ≡ worstBy t (suc n)
-    unfolding worstBy columnsOf
-    worst-next = go owner-range
-      where
-        go : (owner ≡ taskLimit) ⊎ (owner < t .count) → notedOf (worstBy t n) owner (columnsOf t .period) wait′ left′ ≡ worstBy t (suc n)
-        go (inl e) = rw (le-ltb owner taskLimit (omega arith), ← owner-is, le-ltb owner (t .count) (omega (arith, r .few)))
-        go (inr l) = rw (lt-ltb owner taskLimit (omega (arith, r .few)), ← owner-is, lt-ltb owner (t .count) l, waits-are, lefts-are, fill-has (t .count) (λ i. task t i .period) (replicate taskLimit 0) (r .few) owner l)
-
-    empty-next : n < horizon t → emptied (emptyBy t (horizon t) n) (horizon t) owner n ≡ emptyBy t (horizon t) (suc n)
-    unfolding emptyBy
-    empty-next h = go (decLt (first (emptySlot t) 0 n) n) owner-range
-      where
-        go : Dec (first (emptySlot t) 0 n < n) → (owner ≡ taskLimit) ⊎ (owner < t .count) → emptied (emptyBy t (horizon t) n) (horizon t) owner n ≡ emptyBy t (horizon t) (suc n)
-        go (yes p) o =
-            let e : first (emptySlot t) 0 (suc n) ≡ first (emptySlot t) 0 n = first-longer (emptySlot t) 0 n (suc n) (omega arith) (omega arith) in
-            rw (lt-ltb (first (emptySlot t) 0 n) n p, e, lt-ltb (first (emptySlot t) 0 n) (suc n) (omega arith), lt-ltb (first (emptySlot t) 0 n) (horizon t) (omega arith)) (both (ltb owner taskLimit))
-          where
-            both : (b : Bool) → cond b (first (emptySlot t) 0 n) (first (emptySlot t) 0 n) ≡ first (emptySlot t) 0 n
-            both true = refl
-            both false = refl
-        go (no p) (inl e) =
-            let f : first (emptySlot t) 0 (suc n) ≡ n = first-is (emptySlot t) 0 (suc n) n (omega arith) (omega arith) (eq→eqb _ _ (sym owner-is ∙ e)) (λ u a b. first-before (emptySlot t) 0 n u a (omega (arith, first-le (emptySlot t) 0 n))) in
-            rw (le-ltb (first (emptySlot t) 0 n) n (omega arith), le-ltb owner taskLimit (omega arith), le-ltb (horizon t) (horizon t) (le-refl _), f, lt-ltb n (suc n) (le-refl (suc n)))
-        go (no p) (inr l) =
-            let f : first (emptySlot t) 0 (suc n) ≡ suc n = omega (arith, first-none (emptySlot t) 0 (suc n) none) in
-            rw (le-ltb (first (emptySlot t) 0 n) n (omega arith), lt-ltb owner taskLimit (omega (arith, r .few)), f, le-ltb (suc n) (suc n) (le-refl _))
-          where
-            none : NoneFrom (emptySlot t) 0 (0 + suc n)
-            none u a b =
-                none-up (emptySlot t) 0 n (λ u a b. first-before (emptySlot t) 0 n u a (omega (arith, first-le (emptySlot t) 0 n)))
-                (λ x. let y : ownerAt t quiet n ≡ taskLimit = eqb→eq _ _ x in absurd (omega (arith, owner-is, r .few))) u a (omega arith)
-
-    -- So what holds before slot n holds before the next.
-    walking-next : {worst : List ℕ} {empty : ℕ} → worst ≡ worstBy t n → empty ≡ emptyBy t (horizon t) n → n < horizon t
-        → Walking t (n + 1) wait′ left′ (notedOf worst owner (columnsOf t .period) wait′ left′) (emptied empty (horizon t) owner n)
-    walking-next e f h = rw (add-one, e, f) (record { clear = clear; waits = waits-are; lefts = lefts-are; worsts = worst-next; empties = empty-next h })
+-- One turn of the walk, in the lists that it holds.
+pub walking-next :
+    {t : Table} (r : Ranged t) → load t ≤ round t → {n : ℕ} {period cost slack rank : List ℕ} (set : Setting t (t .count) period cost slack rank)
+    {wait left worst wait′ left′ worst′ : List ℕ} {idle idle′ : ℕ} {now : Seen} (w : Walking t n wait left worst idle) (turned : Served wait left period cost slack rank (t .count) wait′ left′ now)
+    → now .late ≡ false → worst′ ≡ notedOf worst (now .owner) period wait′ left′ → idle′ ≡ idleNoted idle left′ (t .count) (n + 1) → Walking t (n + 1) wait′ left′ worst′ idle′
+walking-next {t} r light {n} set w turned e f g =
+    let next : Walked t (suc n) _ _ = walked-next r set (w .walk) turned e in
+    rw (f, g, add-one, w .worsts, w .idles, set .periods) (record { walk = next; worsts = worst-next t r n next (owner-is r set (w .walk) turned e); idles = idle-next t r light n next })
 
 -- The end of a walk on a well-formed table without overload.
-module _ (t : Table) (m : Measure) (budget : ℕ) (well : judged t ≡ Judgement.WellFormed m) (light : m .load ≤ m .round) {n : ℕ} {wait left worst : List ℕ} {empty : ℕ} (w : Walking t n wait left worst empty) where
+module _ (t : Table) (m : Measure) (budget : ℕ) (well : judged t ≡ Judgement.WellFormed m) (light : m .load ≤ m .round) {n : ℕ} {wait left worst : List ℕ} {idle : ℕ} (w : Walking t n wait left worst idle) where
   abbrev facts : WellFormed t m
   facts = well-formed t m well
 
@@ -162,21 +121,16 @@ module _ (t : Table) (m : Measure) (budget : ℕ) (well : judged t ≡ Judgement
   unfolding Permitted
   permitted a v e h = rw (well, e) h
 
-  -- The first empty slot, told.
-  empty-told : n ≡ horizon t → Clear t (horizon t) → emptyOf empty (m .horizon) ≡ emptyIn t
-  unfolding emptyBy
-  empty-told e c =
-      rw (facts .horizon-is, w .empties, e, walk-empty t r c) (go (decLt (firstEmpty t (tieOrder t)) (horizon t)))
-    where
-      go : Dec (firstEmpty t (tieOrder t) < horizon t) → emptyOf (cond (ltb (firstEmpty t (tieOrder t)) (horizon t)) (firstEmpty t (tieOrder t)) (horizon t)) (horizon t) ≡ emptyIn t
-      go (yes p) = rw (lt-ltb (firstEmpty t (tieOrder t)) (horizon t) p, lt-ltb (firstEmpty t (tieOrder t)) (horizon t) p)
-      go (no p) = rw (le-ltb (firstEmpty t (tieOrder t)) (horizon t) (omega arith), le-ltb (horizon t) (horizon t) (le-refl _))
+  -- The first idle instant, told.
+  idle-told : horizon t ≤ n → idle ≡ firstIdle t (tieOrder t)
+  unfolding idleBy
+  idle-told h = w .idles ∙ rw (le-ltb n (firstIdle t (tieOrder t)) (omega (arith, first-idle t r _ (tie-ranks t) fits .1, facts .offset-le 0 (r .some), facts .horizon-is)))
 
   -- It reached the budget or the horizon and found nothing late.
-  pub permitted-quiet : (from : ℕ) → Clear t (suc n) → n ≡ min budget (m .horizon) → Permitted t budget (concluded m from 0 n worst empty)
+  pub permitted-quiet : (from : ℕ) → Clear t (suc n) → n ≡ min budget (m .horizon) → Permitted t budget (concluded m from 0 n worst idle)
   permitted-quiet from c e = go (decLt n (horizon t)) (decT (lateAt t (needed t)))
     where
-      go : Dec (n < horizon t) → Dec (T (lateAt t (needed t))) → Permitted t budget (concluded m from 0 n worst empty)
+      go : Dec (n < horizon t) → Dec (T (lateAt t (needed t))) → Permitted t budget (concluded m from 0 n worst idle)
       go (yes p) d =
           let b : n ≡ budget = omega (arith, facts .horizon-is) in
           let u = is-undecided t budget fits (short d) in
@@ -190,42 +144,15 @@ module _ (t : Table) (m : Measure) (budget : ℕ) (well : judged t ≡ Judgement
           let b : n ≡ horizon t = omega (arith, facts .horizon-is) in
           let a : needed t ≡ horizon t = none-within t h .0 in
           let u = is-passed t budget fits (omega (arith, facts .horizon-is)) h in
-          let k : Clear t (horizon t) = λ v l. c v (omega arith) in
           let q : Worsts t worst = rw (w .worsts, b) (walk-worsts t r (met-of-passed t r budget (u .0) _ (tie-ranks t))) in
-          permitted _ Verdict.Passes (u .0) (worst, q, rw (le-ltb n (m .horizon) (omega (arith, facts .horizon-is)), u .1, a, ← empty-told b k, ← b))
+          permitted _ Verdict.Passes (u .0) (worst, q, rw (le-ltb n (m .horizon) (omega (arith, facts .horizon-is)), u .1, a, ← idle-told (omega arith), ← b))
 
   -- It found, at a late deadline, the largest start that asks too much.
   pub permitted-late : (from asked : ℕ) → n ≤ min budget (m .horizon) → T (lateAt t n) → from < n → asked ≡ demand t from n → n - from < asked
-      → ((later : ℕ) → from < later → later < n → T (asksTooMuch t later n) → ⊥) → Permitted t budget (concluded m from asked n worst empty)
+      → ((later : ℕ) → from < later → later < n → T (asksTooMuch t later n) → ⊥) → Permitted t budget (concluded m from asked n worst idle)
   permitted-late from asked b h l e o none =
-      let a : needed t ≡ n = needed-is t n (omega (arith, facts .horizon-is)) (w .clear) (λ x. h) in
+      let a : needed t ≡ n = needed-is t n (omega (arith, facts .horizon-is)) (w .walk .clear) (λ x. h) in
       let u = is-late t budget fits (omega arith) (rw a h) in
       let f : lateStart t n ≡ from = start-is t n from (too-much-iff t from n .1 (l, omega arith)) (λ later x y. none later x (too-much-iff t later n .0 y .0) y) in
       let v : verdict t budget ≡ Verdict.Late from n asked = u .0 ∙ rw (a, f, e) in
       permitted _ (Verdict.Late from n asked) v (rw (lt-ltb 0 asked (omega arith), u .1, a))
-
--- What a walk does not change: the end, the number of tasks, and the table's columns.
-pub record Setting (t : Table) (m : Measure) (budget n end : ℕ) (period cost slack rank : List ℕ) : Type 0 where
-  pub end-is : end ≡ min budget (m .horizon)
-  pub tasks : n ≡ t .count
-  pub periods : period ≡ columnsOf t .period
-  pub costs : cost ≡ columnsOf t .cost
-  pub slacks : slack ≡ columnsOf t .slack
-  pub ranks : rank ≡ columnsOf t .rank
-
--- One turn of the walk, in the lists that it holds.
-module _
-    (t : Table) (r : Ranged t) (m : Measure) (horizon-is : m .horizon ≡ horizon t) {budget end n : ℕ} {period cost slack rank : List ℕ} (setting : Setting t m budget (t .count) end period cost slack rank)
-    {wait left worst wait′ left′ : List ℕ} {empty : ℕ} {now : Seen} (w : Walking t n wait left worst empty) (turned : Served wait left period cost slack rank (t .count) wait′ left′ now)
-  where
-    pub none-found : now .late ≡ false → Clear t (suc n)
-    none-found e = clear-more t r n (w .clear) (rw (w .waits, w .lefts, setting .slacks) at (turned .quiet e))
-
-    pub one-found : now .late ≡ true → T (lateAt t n)
-    one-found e = late-found t r n (w .clear) (rw (w .waits, w .lefts, setting .slacks) at (turned .found e))
-
-    pub walk-slot : {worst′ : List ℕ} {empty′ : ℕ} → now .late ≡ false → n < horizon t
-        → worst′ ≡ notedOf worst (now .owner) period wait′ left′ → empty′ ≡ emptied empty (m .horizon) (now .owner) n → Walking t (n + 1) wait′ left′ worst′ empty′
-    walk-slot e h f g =
-        rw (f, g, setting .periods, horizon-is)
-        (walking-next t r n (none-found e) (rw (w .waits, w .lefts, setting .periods, setting .costs, setting .slacks, setting .ranks) at (turned .slot e)) (w .worsts) (w .empties) h)

@@ -2,13 +2,13 @@
 ghost use mathlib.Core.Path.{_≡_};
 ghost use Prim.Native.Nat.{_≤_, max, min};
 ghost use Rattle.values.specs.declared.Judgement.{Judgement};
+ghost use Rattle.model.specs.Limits.{taskLimit};
 ghost use Rattle.model.specs.Tasks.{judged};
 ghost use Rattle.model.specs.Verdict.{brief as briefly, Permitted};
-ghost use Rattle.exact.specs.Walked.{notedOf, emptied, emptyOf, concluded};
+ghost use Rattle.exact.specs.Noted.{notedOf, idleNoted, concluded};
 use slots::NO_TASK;
 use slots::Numbers;
 use values::Answer;
-use values::Empty;
 use values::Judgement;
 use values::Measure;
 use values::Outcome;
@@ -34,14 +34,15 @@ fn note(worst: &mut Numbers, owner: u32, period: &Numbers, wait: &Numbers, left:
     }
 }
 
-// The first empty slot, or still the horizon.
-fn first_empty(empty: u64, horizon: u64, owner: u32, at: u64) -> u64
-    ensures { λ r. ⌜ r ≡ emptied empty horizon owner at ⌝ }
+// The first idle instant after 0 is looked for until it is found: then no job that was released before is open.
+fn first_idle(idle: u64, left: &Numbers, n: usize, at: u64) -> u64
+    requires { ⌜ n ≤ taskLimit ⌝ }
+    ensures { λ r. ⌜ r ≡ idleNoted idle (now (left .entry)) n at ⌝ }
 {
-    if owner < NO_TASK {
-        return empty;
+    if 0 < idle {
+        return idle;
     }
-    if empty < horizon { empty } else { at }
+    if slots::none_left(left, n) { at } else { 0 }
 }
 
 fn brief(outcome: Outcome, measure: Measure, settled: u64) -> Answer
@@ -52,14 +53,14 @@ fn brief(outcome: Outcome, measure: Measure, settled: u64) -> Answer
         measure: measure,
         settled: settled,
         worst: [0u32; TASK_LIMIT],
-        empty: Empty::Nowhere,
+        idle: 0,
     }
 }
 
 // What a walk that ended at `at` says: late, where an interval was found that asks for some slots; undecided short of the
 // horizon; or passes.
-fn conclude(m: Measure, from: u64, asked: u64, at: u64, worst: Numbers, empty: u64) -> Answer
-    ensures { λ r. ⌜ r ≡ concluded m from asked at worst empty ⌝ }
+fn conclude(m: Measure, from: u64, asked: u64, at: u64, worst: Numbers, idle: u64) -> Answer
+    ensures { λ r. ⌜ r ≡ concluded m from asked at worst idle ⌝ }
 {
     if 0 < asked {
         let late = Verdict::Late {
@@ -77,17 +78,7 @@ fn conclude(m: Measure, from: u64, asked: u64, at: u64, worst: Numbers, empty: u
         measure: m,
         settled: at,
         worst: worst,
-        empty: slot_or_nowhere(empty, m.horizon),
-    }
-}
-
-fn slot_or_nowhere(empty: u64, horizon: u64) -> Empty
-    ensures { λ r. ⌜ r ≡ emptyOf empty horizon ⌝ }
-{
-    if empty < horizon {
-        Empty::Slot(empty)
-    } else {
-        Empty::Nowhere
+        idle: idle,
     }
 }
 
@@ -114,7 +105,7 @@ fn walk(t: Table, m: Measure, budget: u64) -> Answer
     let mut wait = slots::offsets(t);
     let mut left = [0u32; TASK_LIMIT];
     let mut worst = [0u32; TASK_LIMIT];
-    let mut empty = m.horizon;
+    let mut idle: u64 = 0;
     let mut from: u64 = 0;
     let mut asked: u64 = 0;
     let mut at: u64 = 0;
@@ -126,8 +117,8 @@ fn walk(t: Table, m: Measure, budget: u64) -> Answer
             }
             let owner = seen.owner;
             note(&mut worst, owner, &period, &wait, &left);
-            empty = first_empty(empty, m.horizon, owner, at);
             at = at + 1;
+            idle = first_idle(idle, &left, n, at);
         } else {
             from = at;
             while from > 0 {
@@ -139,7 +130,7 @@ fn walk(t: Table, m: Measure, budget: u64) -> Answer
             }
         }
     }
-    conclude(m, from, asked, at, worst, empty)
+    conclude(m, from, asked, at, worst, idle)
 }
 
 // The one permitted answer to any table and budget.

@@ -6,14 +6,15 @@ use mathlib.Core.Bool.{Bool, true, false}
 use Prim.Native.Nat.{ℕ, zero, suc, _-_, _/_, _%_}
 use lib.Dec.{eqb, lit≤, lit<}
 use lib.ListN.{length, getD, replicate}
-use Rattle.model.specs.Values.{Task, Table, Measure, Judgement, Verdict, Outcome, Empty, Admission, Given, Writing, refusal, verdictSaid, judgementSaid, admissionSaid, givenSaid, emptySaid, outcomeSaid}
+use Rattle.model.specs.Values.{Task, Table, Measure, Judgement, Verdict, Outcome, Admission, Given, Writing, refusal, verdictSaid, judgementSaid, admissionSaid, givenSaid, outcomeSaid}
 use Rattle.model.specs.Notation.{sum, largest, count, first, last, bits, fill, text, digits, decimal}
 use Rattle.model.specs.Limits.{taskLimit, longestFile, longestText}
 use Rattle.model.specs.Tasks.{taskFault, firstFaulty, round, load, horizon, measure, judgedBy, judged}
 use Rattle.model.specs.Demand.{jobsIn, demand, asksTooMuch, lateAt}
 use Rattle.model.specs.Schedule.{none, given}
-use Rattle.model.specs.Run.{tieOrder, choose, ownerOf, served, owner, run, response, firstEmpty}
-use Rattle.model.specs.Verdict.{needed, lateStart, verdict, settledBy, emptyIn, brief, Permitted}
+use Rattle.model.specs.Run.{tieOrder, choose, ownerOf, served, owner, run, response}
+use Rattle.model.specs.Idle.{idleAt, firstIdle}
+use Rattle.model.specs.Verdict.{needed, lateStart, verdict, settledBy, brief, Permitted}
 use Rattle.model.specs.TableFile.{taskIn, tableOf, bytesOf, taskRecords, fileOf, readFrom, formOf, loadedFrom}
 use Rattle.model.specs.Dispatcher.{State, firstStrange, startOf, started, ownerNow, after, turn, stepped}
 use Rattle.model.specs.History.{stateAt, ownerAt, reported, had, Finished}
@@ -170,9 +171,6 @@ said-file = refl
 said-step : map givenSaid (Given.Refused (refusal 8 16) ∷ Given.Slot (record { owner = 16; late = 6; closed = 2; lowest = 1 }) ∷ []) ≡ (8 ∷ 16 ∷ []) ∷ (0 ∷ 16 ∷ 6 ∷ 2 ∷ 1 ∷ []) ∷ []
 said-step = refl
 
-said-empty : map emptySaid (Empty.Slot 2 ∷ Empty.Nowhere ∷ []) ≡ (2 ∷ []) ∷ [] ∷ []
-said-empty = refl
-
 -- A budget equal to the needed count suffices, and one slot less does not; overload needs none.
 budgets :
     map (verdict table-b) (37 ∷ 38 ∷ []) ++ map (verdict table-c) (14 ∷ 15 ∷ []) ++ (verdict table-i 0 ∷ [])
@@ -238,10 +236,10 @@ job-deadlines : map (owner table-l (tieOrder table-l)) (0 ∷ 1 ∷ 2 ∷ 3 ∷ 
 unfolding owner ownerOf served choose
 job-deadlines = refl
 
--- The first empty slots.
-empties : map emptyIn (table-a ∷ table-b ∷ table-e ∷ table-g ∷ table-j ∷ []) ≡ Empty.Nowhere ∷ Empty.Slot 2 ∷ Empty.Nowhere ∷ Empty.Nowhere ∷ Empty.Slot 0 ∷ []
-unfolding firstEmpty owner ownerOf served choose first round horizon largest count
-empties = refl
+-- The first idle instants after 0. Where a job is released at an instant, as at 1 in a and e, it is idle all the same.
+idles : map (λ t. firstIdle t (tieOrder t)) (table-a ∷ table-b ∷ table-e ∷ table-g ∷ table-j ∷ []) ≡ 1 ∷ 2 ∷ 1 ∷ 4 ∷ 1 ∷ []
+unfolding firstIdle idleAt first round count served ownerOf choose
+idles = refl
 
 -- ---- table files
 
@@ -417,9 +415,9 @@ finished = (inr (1, lit< tt, lit≤ tt, tt), inl refl, inl refl)
 
 -- The whole report on b, with its worst responses given (`promises/specs/Tables.antt` computes them); that on c, which is late.
 report-b :
-    reportOf (table-b .count) (record { outcome = Outcome.Tested Verdict.Passes; measure = measure table-b; settled = settledBy table-b 1000; worst = 7 ∷ 2 ∷ replicate 14 0; empty = emptyIn table-b }) (verdict table-b 1000)
-    ≡ text "tasks 2\nload 11/15\nhorizon 38\nverdict passes\nsettled 38\nworst 0 7\nworst 1 2\nempty 2\n"
-unfolding reportOf worstLines text decimal digits settledBy verdict needed lateStart lateAt first last round load horizon largest sum count demand jobsIn firstEmpty owner ownerOf served choose
+    reportOf (table-b .count) (record { outcome = Outcome.Tested Verdict.Passes; measure = measure table-b; settled = settledBy table-b 1000; worst = 7 ∷ 2 ∷ replicate 14 0; idle = firstIdle table-b (tieOrder table-b) }) (verdict table-b 1000)
+    ≡ text "tasks 2\nload 11/15\nhorizon 38\nverdict passes\nsettled 38\nworst 0 7\nworst 1 2\nidle 2\n"
+unfolding reportOf worstLines text decimal digits settledBy verdict needed lateStart lateAt first last round load horizon largest sum count demand jobsIn firstIdle idleAt ownerOf served choose
 report-b = refl
 
 report-c :
@@ -428,7 +426,7 @@ report-c :
 unfolding reportOf text decimal digits
 report-c = refl
 
--- Overload and undecided have neither an interval nor worst and empty lines; with no empty slot the last line is `empty none`.
+-- Overload and undecided have neither an interval nor worst and idle lines. A fully loaded table has an idle line too.
 report-i :
     reportOf 2 (brief (Outcome.Tested Verdict.Overload) (record { round = 5; load = 6; horizon = 12 }) 0) Verdict.Overload
     ≡ text "tasks 2\nload 6/5\nhorizon 12\nverdict overload\nsettled 0\n"
@@ -442,8 +440,8 @@ unfolding reportOf text decimal digits
 report-undecided = refl
 
 report-a :
-    reportOf 1 (record { outcome = Outcome.Tested Verdict.Passes; measure = record { round = 1; load = 1; horizon = 2 }; settled = 2; worst = 1 ∷ replicate 15 0; empty = Empty.Nowhere }) Verdict.Passes
-    ≡ text "tasks 1\nload 1/1\nhorizon 2\nverdict passes\nsettled 2\nworst 0 1\nempty none\n"
+    reportOf 1 (record { outcome = Outcome.Tested Verdict.Passes; measure = record { round = 1; load = 1; horizon = 2 }; settled = 2; worst = 1 ∷ replicate 15 0; idle = 1 }) Verdict.Passes
+    ≡ text "tasks 1\nload 1/1\nhorizon 2\nverdict passes\nsettled 2\nworst 0 1\nidle 1\n"
 unfolding reportOf worstLines text decimal digits
 report-a = refl
 
@@ -451,7 +449,7 @@ report-a = refl
 permitted :
     Permitted table-i 5 (brief (Outcome.Tested Verdict.Overload) (measured 5 6 12) 0)
     × Permitted table-c 15 (brief (Outcome.Tested (Verdict.Late 8 15 8)) (measured 15 12 38) 15)
-    × Permitted table-b 37 (record { outcome = Outcome.Tested Verdict.Undecided; measure = measured 15 11 38; settled = 37; worst = replicate 16 0; empty = Empty.Nowhere })
+    × Permitted table-b 37 (record { outcome = Outcome.Tested Verdict.Undecided; measure = measured 15 11 38; settled = 37; worst = replicate 16 0; idle = 0 })
     × Permitted (tableOf []) 5 (brief (Outcome.Refused (refusal 1 0)) (measured 0 0 0) 0)
 unfolding Permitted judged firstFaulty taskFault settledBy verdict needed lateStart lateAt first last round load horizon largest sum count demand jobsIn
 permitted = (refl, refl, refl, refl)

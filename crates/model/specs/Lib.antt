@@ -6,6 +6,7 @@ pub mod Tasks
 pub mod Schedule
 pub mod Demand
 pub mod Run
+pub mod Idle
 pub mod Verdict
 pub mod TableFile
 pub mod Dispatcher

@@ -1,6 +1,6 @@
 -- The report on an answer, byte for byte; the exported call; the program's output.
 use Rattle.model.specs.Notation.{List, [], _++_, cond, _≡_, ℕ, zero, suc, _+_, _*_, ltb, getD, length, drop, text, decimal}
-use Rattle.model.specs.Values.{Refusal, Verdict, Outcome, Empty, Answer, Admission, Loaded, refusal}
+use Rattle.model.specs.Values.{Refusal, Verdict, Outcome, Answer, Admission, Loaded, refusal}
 use Rattle.model.specs.Limits.{reportBytes}
 use Rattle.model.specs.TableFile.{loadedFrom}
 use Rattle.model.specs.Verdict.{Permitted}
@@ -16,18 +16,14 @@ verdictWord Verdict.Overload = text "overload"
 verdictWord (Verdict.Late from to asked) = text "late"
 verdictWord Verdict.Undecided = text "undecided"
 
--- The worst response of each of the first n tasks, and the first empty slot.
+-- The worst response of each of the first n tasks.
 unfoldable pub worstLines : List ℕ → ℕ → List ℕ
 worstLines worst zero = []
 worstLines worst (suc n) = worstLines worst n ++ line (text "worst " ++ decimal n ++ text " " ++ decimal (getD worst n 0))
 
-abbrev pub emptyWord : Empty → List ℕ
-emptyWord (Empty.Slot u) = decimal u
-emptyWord Empty.Nowhere = text "none"
-
--- What follows the settled count.
+-- What follows the settled count: the worst responses and the first idle instant after 0, or the interval of a late deadline.
 abbrev pub details : ℕ → Answer → Verdict → List ℕ
-details n a Verdict.Passes = worstLines (a .worst) n ++ line (text "empty " ++ emptyWord (a .empty))
+details n a Verdict.Passes = worstLines (a .worst) n ++ line (text "idle " ++ decimal (a .idle))
 details n a Verdict.Overload = []
 details n a (Verdict.Late from to asked) = line (text "interval " ++ decimal from ++ text " " ++ decimal to ++ text " demand " ++ decimal asked)
 details n a Verdict.Undecided = []

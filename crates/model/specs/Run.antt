@@ -1,8 +1,8 @@
 -- The run: in each slot the released, unfinished job with the earliest deadline, ties by a fixed order of the tasks.
-use Rattle.model.specs.Notation.{_≡_, List, Bool, cond, _&&_, _||_, ℕ, zero, suc, _+_, _-_, _/_, _≤_, leb, ltb, eqb, getD, set, replicate, first, Least}
+use Rattle.model.specs.Notation.{_≡_, List, Bool, cond, _&&_, _||_, ℕ, zero, suc, _+_, _-_, _/_, _≤_, leb, ltb, eqb, getD, set, replicate, Least}
 use Rattle.model.specs.Values.{Table}
 use Rattle.model.specs.Limits.{taskLimit}
-use Rattle.model.specs.Tasks.{task, release, due, horizon}
+use Rattle.model.specs.Tasks.{task, release, due}
 use Rattle.model.specs.Schedule.{none, job, Schedule, given}
 
 -- An order of the tasks: of two that tie, the one of lower rank goes first, and of one rank the lower number.
@@ -55,7 +55,3 @@ response t i j f = f - release (task t i) j
 pub record Worst (t : Table) (rank : Order) (i w : ℕ) : Type 0 where
   pub attained : (j : ℕ) × (f : ℕ) × Finishes t rank i j f × (response t i j f ≡ w)
   pub bound : (j f : ℕ) → Finishes t rank i j f → response t i j f ≤ w
-
--- The first empty slot of the run before the horizon, or the horizon.
-unfoldable pub firstEmpty : Table → Order → ℕ
-firstEmpty t rank = first (λ u. eqb (owner t rank u) taskLimit) 0 (horizon t)

@@ -1,4 +1,4 @@
--- The values of crate `values` by their names, and each case of an answer as a list: document 01's number first (0, ours, where nothing is refused), then its values (the first empty slot has no number).
+-- The values of crate `values` by their names, and each case of an answer as a list: document 01's number first (0, ours, where nothing is refused), then its values.
 use Rattle.model.specs.Notation.{List, [], _∷_, ℕ}
 pub use Rattle.values.specs.declared.Task.{Task}
 pub use Rattle.values.specs.declared.Table.{Table}
@@ -7,7 +7,6 @@ pub use Rattle.values.specs.declared.Measure.{Measure}
 pub use Rattle.values.specs.declared.Judgement.{Judgement}
 pub use Rattle.values.specs.declared.Verdict.{Verdict}
 pub use Rattle.values.specs.declared.Outcome.{Outcome}
-pub use Rattle.values.specs.declared.Empty.{Empty}
 pub use Rattle.values.specs.declared.Answer.{Answer}
 pub use Rattle.values.specs.declared.Admission.{Admission}
 pub use Rattle.values.specs.declared.Loaded.{Loaded}
@@ -22,11 +21,6 @@ verdictSaid Verdict.Overload = 1 ∷ []
 verdictSaid Verdict.Undecided = 2 ∷ []
 verdictSaid (Verdict.Late from to demand) = 3 ∷ from ∷ to ∷ demand ∷ []
 verdictSaid Verdict.Passes = 4 ∷ []
-
--- The first empty slot of a pass: the slot, or nothing where there is none.
-abbrev pub emptySaid : Empty → List ℕ
-emptySaid (Empty.Slot u) = u ∷ []
-emptySaid Empty.Nowhere = []
 
 -- A refusal: its number and its place.
 abbrev pub refusal : ℕ → ℕ → Refusal

@@ -1,10 +1,11 @@
 -- The verdict, and the one permitted answer to a table and a budget.
 use Rattle.model.specs.Notation.{_≡_, List, cond, ℕ, _≤_, _<_, ltb, getD, length, replicate, first, last}
-use Rattle.model.specs.Values.{Table, Measure, Judgement, Verdict, Outcome, Empty, Answer}
+use Rattle.model.specs.Values.{Table, Measure, Judgement, Verdict, Outcome, Answer}
 use Rattle.model.specs.Limits.{taskLimit}
 use Rattle.model.specs.Tasks.{round, load, horizon, judged}
 use Rattle.model.specs.Demand.{demand, asksTooMuch, lateAt}
-use Rattle.model.specs.Run.{tieOrder, Worst, firstEmpty}
+use Rattle.model.specs.Run.{tieOrder, Worst}
+use Rattle.model.specs.Idle.{firstIdle}
 
 -- The slots that an answer needs: the smallest late deadline, if one lies within the horizon, else the horizon.
 unfoldable pub needed : Table → ℕ
@@ -32,18 +33,14 @@ pub record Worsts (t : Table) (w : List ℕ) : Type 0 where
   pub worst : (i : ℕ) → i < t .count → Worst t (tieOrder t) i (getD w i 0)
   pub past : (i : ℕ) → t .count ≤ i → getD w i 0 ≡ 0
 
--- The first empty slot of the run before the horizon, or none.
-abbrev pub emptyIn : Table → Empty
-emptyIn t = let u = firstEmpty t (tieOrder t) in cond (ltb u (horizon t)) (Empty.Slot u) Empty.Nowhere
-
--- An answer that has no responses and no empty slot to tell.
+-- An answer that has no responses and no idle instant to tell.
 abbrev pub brief : Outcome → Measure → ℕ → Answer
-brief o m settled = record { outcome = o; measure = m; settled = settled; worst = replicate taskLimit 0; empty = Empty.Nowhere }
+brief o m settled = record { outcome = o; measure = m; settled = settled; worst = replicate taskLimit 0; idle = 0 }
 
 -- The permitted answer, by its verdict.
 abbrev pub Answers : Table → ℕ → Measure → Answer → Verdict → Type 0
 Answers t budget m a Verdict.Passes =
-    (w : List ℕ) × Worsts t w × (a ≡ record { outcome = Outcome.Tested Verdict.Passes; measure = m; settled = settledBy t budget; worst = w; empty = emptyIn t })
+    (w : List ℕ) × Worsts t w × (a ≡ record { outcome = Outcome.Tested Verdict.Passes; measure = m; settled = settledBy t budget; worst = w; idle = firstIdle t (tieOrder t) })
 Answers t budget m a Verdict.Overload = a ≡ brief (Outcome.Tested Verdict.Overload) m (settledBy t budget)
 Answers t budget m a (Verdict.Late from to asked) = a ≡ brief (Outcome.Tested (Verdict.Late from to asked)) m (settledBy t budget)
 Answers t budget m a Verdict.Undecided = a ≡ brief (Outcome.Tested Verdict.Undecided) m (settledBy t budget)

@@ -4,10 +4,8 @@
 use mathlib.Core.Path.{_≡_, refl, sym, ap, subst, _∙_}
 use native.Mathlib.Omega.{arith}
 use mathlib.Core.Logic.{_↔_, _⊎_, _≢_}
-use mathlib.Core.Bool.{Bool, true, false, cond}
-use mathlib.Core.List.{[], _∷_}
 use Prim.Native.Nat.{ℕ, _≤_, _<_}
-use lib.Dec.{T, ltb}
+use lib.Dec.{T}
 use lib.ListN.{getD}
 use Rattle.values.specs.declared.Table.{Table}
 use Rattle.values.specs.declared.Measure.{Measure}
@@ -15,14 +13,14 @@ use Rattle.values.specs.declared.Judgement.{Judgement}
 use Rattle.values.specs.declared.Verdict.{Verdict}
 use Rattle.values.specs.declared.Outcome.{Outcome}
 use Rattle.values.specs.declared.Answer.{Answer}
-use Rattle.values.specs.declared.Empty.{Empty}
 use Rattle.model.specs.Notation.{Least}
-use Rattle.model.specs.Values.{verdictSaid, outcomeSaid, emptySaid}
+use Rattle.model.specs.Values.{verdictSaid, outcomeSaid}
 use Rattle.model.specs.Tasks.{task, release, due, round, load, horizon, judged}
 use Rattle.model.specs.Demand.{demand, asksTooMuch, lateAt}
 use Rattle.model.specs.Schedule.{none, job, Schedule, given, Good}
-use Rattle.model.specs.Run.{tieOrder, run, firstEmpty}
-use Rattle.model.specs.Verdict.{needed, lateStart, verdict, settledBy, emptyIn, Worsts, Answers, PermittedBy, Permitted}
+use Rattle.model.specs.Run.{Order, tieOrder, run}
+use Rattle.model.specs.Idle.{firstIdle}
+use Rattle.model.specs.Verdict.{needed, lateStart, verdict, settledBy, Worsts, Answers, PermittedBy, Permitted}
 use Rattle.wellformed.specs.WellFormed.{well-formed}
 use Rattle.backlog.specs.Sufficient.{sufficient}
 use Rattle.backlog.specs.Needed.{needed-le, needed-is, none-before, none-within}
@@ -31,11 +29,14 @@ use Rattle.backlog.specs.Verdicts.{is-overload, is-undecided, is-late, is-passe
 use Rattle.backlog.specs.Longer.{longer}
 use Rattle.backlog.specs.RunRule.{run-rule}
 use Rattle.backlog.specs.Worst.{worst-range}
+use Rattle.backlog.specs.System.{Ranks}
 use Rattle.backlog.specs.TableSystem.{tie-ranks, tieSystem}
 use Rattle.backlog.specs.Passes.{never-of-passed, passes-iff, overload-infeasible, late-infeasible}
 use Rattle.backlog.specs.PassedWorst.{met-of-passed}
 use Rattle.backlog.specs.Unique.{permitted-unique}
 use Rattle.backlog.specs.AnswersSay.{answers-say}
+use Rattle.patterns.specs.IdleInstants.{idle-iff}
+use Rattle.patterns.specs.FirstIdle.{passed-idle, first-any-order}
 
 module _ (t : Table) (m : Measure) (well : judged t ≡ Judgement.WellFormed m) where
   -- With a budget that reaches the horizon it passes exactly if some schedule is good.
@@ -120,28 +121,36 @@ answer-exactly t m well budget a h =
     let (o, s, k) = answers-say t budget m a (verdict t budget) (rw well at h) in
     record { outcome = o; said = ap outcomeSaid o; settled = s; measures = k }
 
--- The worst responses of a passing answer are exact, for all jobs for ever, and its first empty slot is the run's.
-answered : (t : Table) (budget : ℕ) (m : Measure) (a : Answer) (v : Verdict) → Answers t budget m a v → a .outcome ≡ Outcome.Tested Verdict.Passes → (v ≡ Verdict.Passes) × Worsts t (a .worst) × (a .empty ≡ emptyIn t)
-answered t budget m a Verdict.Passes (w, p, e) o = let q : a .worst ≡ w = ap (λ (x : Answer). x .worst) e in (refl, subst (Worsts t) (sym q) p, ap (λ (x : Answer). x .empty) e)
+-- The worst responses of a passing answer are exact, for all jobs for ever, and its idle instant is the run's first after 0.
+answered : (t : Table) (budget : ℕ) (m : Measure) (a : Answer) (v : Verdict) → Answers t budget m a v → a .outcome ≡ Outcome.Tested Verdict.Passes → (v ≡ Verdict.Passes) × Worsts t (a .worst) × (a .idle ≡ firstIdle t (tieOrder t))
+answered t budget m a Verdict.Passes (w, p, e) o = let q : a .worst ≡ w = ap (λ (x : Answer). x .worst) e in (refl, subst (Worsts t) (sym q) p, ap (λ (x : Answer). x .idle) e)
 answered t budget m a Verdict.Overload e o = let z : _≡_ {A = ℕ} 0 1 = cc (ap (λ (x : Answer). x .outcome) e) in absurd (omega arith)
 answered t budget m a (Verdict.Late f k d) e o = let z : _≡_ {A = ℕ} 0 1 = cc (ap (λ (x : Answer). x .outcome) e) in absurd (omega arith)
 answered t budget m a Verdict.Undecided e o = let z : _≡_ {A = ℕ} 0 1 = cc (ap (λ (x : Answer). x .outcome) e) in absurd (omega arith)
 
-judged-passed : (t : Table) (budget : ℕ) (a : Answer) (j : Judgement) → PermittedBy t budget a j → a .outcome ≡ Outcome.Tested Verdict.Passes → (verdict t budget ≡ Verdict.Passes) × Worsts t (a .worst) × (a .empty ≡ emptyIn t)
+judged-passed : (t : Table) (budget : ℕ) (a : Answer) (j : Judgement) → PermittedBy t budget a j → a .outcome ≡ Outcome.Tested Verdict.Passes → (verdict t budget ≡ Verdict.Passes) × Worsts t (a .worst) × (a .idle ≡ firstIdle t (tieOrder t))
 judged-passed t budget a (Judgement.Refused r) e o = let z : _≡_ {A = ℕ} 0 1 = cc (ap (λ (x : Answer). x .outcome) e) in absurd (omega arith)
 judged-passed t budget a (Judgement.WellFormed m) h o = answered t budget m a (verdict t budget) h o
 
-pub passed-exactly : (t : Table) (budget : ℕ) (a : Answer) → Permitted t budget a → a .outcome ≡ Outcome.Tested Verdict.Passes → (verdict t budget ≡ Verdict.Passes) × Worsts t (a .worst) × (a .empty ≡ emptyIn t)
+pub passed-exactly : (t : Table) (budget : ℕ) (a : Answer) → Permitted t budget a → a .outcome ≡ Outcome.Tested Verdict.Passes → (verdict t budget ≡ Verdict.Passes) × Worsts t (a .worst) × (a .idle ≡ firstIdle t (tieOrder t))
 unfolding Permitted
 passed-exactly t budget a = judged-passed t budget a (judged t)
 
--- It is said as that slot, if one lies before the horizon, and else as nothing.
-pub empty-said : (t : Table) (budget : ℕ) (a : Answer) → Permitted t budget a → a .outcome ≡ Outcome.Tested Verdict.Passes → let u = firstEmpty t (tieOrder t) in emptySaid (a .empty) ≡ cond (ltb u (horizon t)) (u ∷ []) []
-empty-said t budget a p o = rw (passed-exactly t budget a p o .2) (go (ltb (firstEmpty t (tieOrder t)) (horizon t)))
-  where
-    go : (b : Bool) → emptySaid (cond b (Empty.Slot (firstEmpty t (tieOrder t))) Empty.Nowhere) ≡ cond b (firstEmpty t (tieOrder t) ∷ []) []
-    go true = refl
-    go false = refl
+-- By u every job that was released strictly before u is finished. A job that is released at u does not matter.
+abbrev AllFinished : Table → ℕ → Type 0
+AllFinished t u = (i j : ℕ) → i < t .count → release (task t i) j < u → task t i .cost ≤ given (run t (tieOrder t)) i j 0 u
+
+-- The first idle instant is the least after 0 by which every job released before is finished; there always is one, and it is at most H.
+pub idle-exactly : (t : Table) (m : Measure) → judged t ≡ Judgement.WellFormed m → (budget : ℕ) (a : Answer) → Permitted t budget a → a .outcome ≡ Outcome.Tested Verdict.Passes → Least (λ u. (0 < u) × AllFinished t u) (a .idle) × (a .idle ≤ round t)
+idle-exactly t m well budget a p o =
+    let r = well-formed t m well .ranged in
+    let (v, w, e) = passed-exactly t budget a p o in
+    let (((pos, idle), least), soon) = passed-idle t r budget v _ (tie-ranks t) in
+    rw e (((pos, idle-iff (tieSystem t r) _ .0 idle), λ u l h. least u l (h .0, idle-iff (tieSystem t r) u .1 (h .1))), soon)
+
+-- It does not depend on how ties are broken: in any order of the tasks it is the same.
+pub idle-any-order : (t : Table) (m : Measure) → judged t ≡ Judgement.WellFormed m → (rank rank′ : Order) → Ranks t rank → Ranks t rank′ → firstIdle t rank ≡ firstIdle t rank′
+idle-any-order t m well = first-any-order t (well-formed t m well .ranged)
 
 -- A worst response is at least 1 and at most the deadline.
 pub worst-by-deadline : (t : Table) (m : Measure) → judged t ≡ Judgement.WellFormed m → (budget : ℕ) (a : Answer) → Permitted t budget a → a .outcome ≡ Outcome.Tested Verdict.Passes → (i : ℕ) → i < t .count → (0 < getD (a .worst) i 0) × (getD (a .worst) i 0 ≤ task t i .deadline)

@@ -7,13 +7,13 @@ use Rattle.values.specs.declared.Table.{Table}
 use Rattle.values.specs.declared.Measure.{Measure}
 use Rattle.values.specs.declared.Verdict.{Verdict}
 use Rattle.values.specs.declared.Outcome.{Outcome}
-use Rattle.values.specs.declared.Empty.{Empty}
 use Rattle.values.specs.declared.Answer.{Answer}
 use Rattle.model.specs.Values.{outcomeSaid}
 use Rattle.model.specs.Notation.{sum, largest, count, first, last, fill}
 use Rattle.model.specs.Tasks.{taskFault, firstFaulty, round, load, horizon, judged}
 use Rattle.model.specs.Demand.{jobsIn, demand, lateAt}
-use Rattle.model.specs.Run.{choose, ownerOf, served, owner, firstEmpty}
+use Rattle.model.specs.Run.{choose, ownerOf, served}
+use Rattle.model.specs.Idle.{idleAt, firstIdle}
 use Rattle.model.specs.Verdict.{needed, lateStart, verdict, settledBy, brief, Permitted}
 use Rattle.model.specs.Dispatcher.{startOf, ownerNow, after}
 use Rattle.model.specs.History.{stateAt}
@@ -30,8 +30,8 @@ pub record Row : Type 0 where
 abbrev measured : ℕ → ℕ → ℕ → Measure
 measured round load horizon = record { round = round; load = load; horizon = horizon }
 
-abbrev passes : Measure → List ℕ → Empty → Answer
-passes m worst empty = record { outcome = Outcome.Tested Verdict.Passes; measure = m; settled = m .horizon; worst = worst; empty = empty }
+abbrev passes : Measure → List ℕ → ℕ → Answer
+passes m worst idle = record { outcome = Outcome.Tested Verdict.Passes; measure = m; settled = m .horizon; worst = worst; idle = idle }
 
 abbrev told : Verdict → Measure → ℕ → Answer
 told v m settled = brief (Outcome.Tested v) m settled
@@ -41,18 +41,18 @@ row t budget a = record { table = t; budget = budget; answer = a }
 
 abbrev pub rows : List Row
 rows =
-    row table-a 1000 (passes (measured 1 1 2) (1 ∷ replicate 15 0) Empty.Nowhere)
-    ∷ row table-b 1000 (passes (measured 15 11 38) (7 ∷ 2 ∷ replicate 14 0) (Empty.Slot 2))
+    row table-a 1000 (passes (measured 1 1 2) (1 ∷ replicate 15 0) 1)
+    ∷ row table-b 1000 (passes (measured 15 11 38) (7 ∷ 2 ∷ replicate 14 0) 2)
     ∷ row table-c 1000 (told (Verdict.Late 8 15 8) (measured 15 12 38) 15)
     ∷ row table-d 1000 (told (Verdict.Late 0 7 9) (measured 15 11 30) 7)
-    ∷ row table-e 1000 (passes (measured 2 2 5) (1 ∷ 1 ∷ replicate 14 0) Empty.Nowhere)
+    ∷ row table-e 1000 (passes (measured 2 2 5) (1 ∷ 1 ∷ replicate 14 0) 1)
     ∷ row table-f 1000 (told (Verdict.Late 0 1 2) (measured 2 2 4) 1)
-    ∷ row table-g 1000 (passes (measured 4 4 8) (2 ∷ 4 ∷ replicate 14 0) Empty.Nowhere)
+    ∷ row table-g 1000 (passes (measured 4 4 8) (2 ∷ 4 ∷ replicate 14 0) 4)
     ∷ row table-h 1000 (told (Verdict.Late 4 7 4) (measured 4 4 12) 7)
     ∷ row table-i 1000 (told Verdict.Overload (measured 5 6 12) 0)
-    ∷ row table-j 1000 (passes (measured 2 1 8) (1 ∷ replicate 15 0) (Empty.Slot 0))
+    ∷ row table-j 1000 (passes (measured 2 1 8) (1 ∷ replicate 15 0) 1)
     ∷ row table-b 37 (told Verdict.Undecided (measured 15 11 38) 37)
-    ∷ row table-b 38 (passes (measured 15 11 38) (7 ∷ 2 ∷ replicate 14 0) (Empty.Slot 2))
+    ∷ row table-b 38 (passes (measured 15 11 38) (7 ∷ 2 ∷ replicate 14 0) 2)
     ∷ row table-c 14 (told Verdict.Undecided (measured 15 12 38) 14)
     ∷ row table-c 15 (told (Verdict.Late 8 15 8) (measured 15 12 38) 15)
     ∷ []
@@ -72,7 +72,7 @@ all-permitted (r ∷ rs) e =
 
 -- The test, computed.
 rows-computed : map (λ r. answerOf (r .table) (r .budget)) rows ≡ map (λ r. r .answer) rows
-unfolding answerOf judged firstFaulty taskFault first last round load horizon largest sum count verdict settledBy needed lateStart lateAt demand jobsIn worstBy stateAt startOf after ownerNow choose fill firstEmpty owner ownerOf served
+unfolding answerOf judged firstFaulty taskFault first last round load horizon largest sum count verdict settledBy needed lateStart lateAt demand jobsIn worstBy stateAt startOf after ownerNow choose fill firstIdle idleAt ownerOf served
 rows-computed = refl
 
 pub tables-answered : AllPermitted rows

@@ -4,22 +4,18 @@ use Prim.Native.Nat.{ℕ, zero, suc, _+_, _*_, _-_, _^_, _≤_, _<_}
 use native.Mathlib.Omega.{arith}
 use lib.ListN.{length, getD, length-append}
 use Rattle.values.specs.declared.Answer.{Answer}
-use Rattle.values.specs.declared.Empty.{Empty}
 use Rattle.values.specs.declared.Verdict.{Verdict}
 use Rattle.model.specs.Limits.{taskLimit, reportBytes}
 use Rattle.model.specs.Notation.{text, decimal}
-use Rattle.model.specs.Report.{line, verdictWord, worstLines, emptyWord, details, reportOf}
+use Rattle.model.specs.Report.{line, verdictWord, worstLines, details, reportOf}
 use Rattle.text.specs.Decimal.{numberBytes, short, wide}
 
--- The lines `verdict undecided`, `worst 15 ..` with a number of 32 bits, `empty ..` and `interval .. .. demand ..`.
+-- The lines `verdict undecided`, `worst 15 ..` with a number of 32 bits, and `interval .. .. demand ..`.
 abbrev pub verdictBytes : ℕ
 verdictBytes = 18
 
 abbrev pub worstBytes : ℕ
 worstBytes = 20
-
-abbrev pub emptyBytes : ℕ
-emptyBytes = 7 + numberBytes
 
 abbrev pub intervalBytes : ℕ
 intervalBytes = 19 + 3 * numberBytes
@@ -36,10 +32,6 @@ detailsBytes = (taskLimit - 1) * worstBytes + worstRoom
 abbrev pub Wide : ℕ → Type 0
 Wide x = x < 2 ^ 64
 
-abbrev pub EmptyWide : Empty → Type 0
-EmptyWide (Empty.Slot u) = Wide u
-EmptyWide Empty.Nowhere = Unit
-
 abbrev pub VerdictWide : Verdict → Type 0
 VerdictWide (Verdict.Late from to asked) = Wide from × Wide to × Wide asked
 VerdictWide Verdict.Passes = Unit
@@ -53,7 +45,7 @@ pub record Printable (n : ℕ) (a : Answer) (v : Verdict) : Type 0 where
   pub horizon : Wide (a .measure .horizon)
   pub settled : Wide (a .settled)
   pub worst : (k : ℕ) → k < n → getD (a .worst) k 0 < 2 ^ 32
-  pub empty : EmptyWide (a .empty)
+  pub idle : Wide (a .idle)
   pub verdict : VerdictWide v
 
 pub worst-short : (k x : ℕ) → k < taskLimit → x < 2 ^ 32 → length (line (text "worst " ++ decimal k ++ text " " ++ decimal x)) ≤ worstBytes
@@ -74,14 +66,9 @@ verdict-short Verdict.Overload = omega arith
 verdict-short (Verdict.Late from to asked) = omega arith
 verdict-short Verdict.Undecided = omega arith
 
-empty-short : (e : Empty) → EmptyWide e → length (emptyWord e) ≤ numberBytes
-unfolding text
-empty-short (Empty.Slot u) h = wide u h
-empty-short Empty.Nowhere h = omega arith
-
 details-short : (n : ℕ) (a : Answer) (v : Verdict) → Printable n a v → length (details n a v) ≤ detailsBytes
 unfolding text
-details-short n a Verdict.Passes p = simp length-append (omega (arith, lines-short (a .worst) n (p .tasks) (p .worst), empty-short (a .empty) (p .empty)))
+details-short n a Verdict.Passes p = simp length-append (omega (arith, lines-short (a .worst) n (p .tasks) (p .worst), wide (a .idle) (p .idle)))
 details-short n a Verdict.Overload p = omega arith
 details-short n a (Verdict.Late from to asked) p =
     simp length-append (omega (arith, wide from (p .verdict .0), wide to (p .verdict .1), wide asked (p .verdict .2)))

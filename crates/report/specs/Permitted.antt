@@ -3,9 +3,7 @@ use mathlib.Core.Path.{_≡_, refl, sym, subst}
 use mathlib.Core.List.{List}
 use Prim.Native.Nat.{ℕ, _^_, _≤_, _<_}
 use native.Mathlib.Nat.{mul-le-mul}
-use native.Mathlib.Decide.{decLt}
 use native.Mathlib.Omega.{arith}
-use borrow.Author.Tests.{lt-ltb, le-ltb}
 use lib.ListN.{length, getD, getD-replicate}
 use lib.Dec.{T}
 use Rattle.values.specs.declared.Table.{Table}
@@ -16,11 +14,13 @@ use Rattle.values.specs.declared.Outcome.{Outcome}
 use Rattle.values.specs.declared.Answer.{Answer}
 use Rattle.model.specs.Limits.{taskLimit, reportBytes}
 use Rattle.model.specs.Tasks.{round, load, horizon, judged}
-use Rattle.model.specs.Run.{tieOrder, firstEmpty}
-use Rattle.model.specs.Verdict.{needed, lateStart, verdict, settledBy, emptyIn, Worsts, brief, Answers, PermittedBy, Permitted}
+use Rattle.model.specs.Run.{tieOrder}
+use Rattle.model.specs.Idle.{idleAt, firstIdle}
+use Rattle.model.specs.Verdict.{needed, lateStart, verdict, settledBy, Worsts, brief, Answers, PermittedBy, Permitted}
 use Rattle.model.specs.Report.{reportOf}
 use Rattle.model.specs.Demand.{lateAt}
 use Rattle.counting.specs.Sum.{sum-bound}
+use Rattle.counting.specs.Search.{first-le}
 use Rattle.wellformed.specs.Round.{share, share-le}
 use Rattle.wellformed.specs.Refused.{Tellable, JudgementTellable, judged-tellable}
 use Rattle.wellformed.specs.WellFormed.{horizonLimit, WellFormed, well-formed}
@@ -33,7 +33,7 @@ use Rattle.backlog.specs.PassedWorst.{met-of-passed}
 use Rattle.backlog.specs.AnswersSay.{answers-say}
 use Rattle.backlog.specs.TableSystem.{tie-ranks, tieSystem}
 use Rattle.backlog.specs.Worst.{worst-range}
-use Rattle.report.specs.Fits.{Wide, EmptyWide, VerdictWide, Printable, fits}
+use Rattle.report.specs.Fits.{Wide, VerdictWide, Printable, fits}
 
 module _ (t : Table) (m : Measure) (well : WellFormed t m) where
   round-wide : Wide (round t)
@@ -62,11 +62,9 @@ module _ (t : Table) (m : Measure) (well : WellFormed t m) where
   verdict-wide v n (late g b l) = (late-wide l, needed-le t)
   verdict-wide v n (passed g b l) = (tt, needed-le t)
 
-  empty-wide : EmptyWide (emptyIn t)
-  empty-wide = elim (decLt (firstEmpty t (tieOrder t)) (horizon t)) [
-    | yes p ↦ rw (lt-ltb (firstEmpty t (tieOrder t)) (horizon t) p) (omega (arith, well .horizon-le))
-    | no p ↦ rw (le-ltb (firstEmpty t (tieOrder t)) (horizon t) (omega arith)) tt
-  ]
+  idle-wide : Wide (firstIdle t (tieOrder t))
+  unfolding firstIdle
+  idle-wide = omega (arith, first-le (idleAt t (tieOrder t)) 1 (round t), well .offset-le 0 (well .ranged .some), well .horizon-le)
 
   module _ (budget : ℕ) where
     worst-wide : verdict t budget ≡ Verdict.Passes → (w : List ℕ) → Worsts t w → (k : ℕ) → k < t .count → getD w k 0 < 2 ^ 32
@@ -87,7 +85,7 @@ module _ (t : Table) (m : Measure) (well : WellFormed t m) where
       horizon = omega (arith, well .horizon-is, well .horizon-le);
       settled = settled-wide;
       worst = λ k l. rw (getD-replicate {A = ℕ} taskLimit k 0 0 (omega (arith, well .ranged .few))) (omega arith);
-      empty = tt;
+      idle = omega arith;
       verdict = w;
     }
 
@@ -102,7 +100,7 @@ module _ (t : Table) (m : Measure) (well : WellFormed t m) where
           horizon = omega (arith, well .horizon-is, well .horizon-le);
           settled = settled-wide;
           worst = worst-wide e w q;
-          empty = empty-wide;
+          idle = idle-wide;
           verdict = tt;
         })
         go Verdict.Overload e f x = rw f (brief-printable Verdict.Overload x)

@@ -5,12 +5,11 @@ ghost use Prim.Native.Nat.{_+_, _*_, _<_, _≤_};
 ghost use lib.ListN.{length};
 ghost use Rattle.model.specs.Limits.{taskLimit, reportBytes};
 ghost use Rattle.model.specs.Notation.{text, decimal};
-ghost use Rattle.model.specs.Report.{line, verdictWord, worstLines, emptyWord, details, reportOf, refusalLine, written};
+ghost use Rattle.model.specs.Report.{line, verdictWord, worstLines, details, reportOf, refusalLine, written};
 ghost use Rattle.counting.specs.Put.{Put};
 ghost use Rattle.report.specs.Put.{exported};
-ghost use Rattle.report.specs.Fits.{verdictBytes, worstBytes, worstRoom, emptyBytes, intervalBytes, detailsBytes};
+ghost use Rattle.report.specs.Fits.{verdictBytes, worstBytes, worstRoom, intervalBytes, detailsBytes};
 use values::Answer;
-use values::Empty;
 use values::Refusal;
 use values::TASK_LIMIT;
 use values::Verdict;
@@ -72,9 +71,8 @@ fn put_details(
     match verdict {
         Verdict::Passes => {
             let worst = answer.worst;
-            let empty = answer.empty;
             let at = put_worst_lines(buffer, at, tasks, worst);
-            put_empty(buffer, at, empty)
+            text::put_line(buffer, at, b"idle ", answer.idle)
         }
         Verdict::Overload => at,
         Verdict::Late { from, to, demand } => put_interval(buffer, at, from, to, demand),
@@ -102,17 +100,6 @@ fn put_worst_line(buffer: &mut [u8], at: usize, task: usize, worst: u32) -> usiz
     ensures { λ r. ⌜ r ≤ at + worstBytes ⌝ }
 {
     text::put_pair(buffer, at, b"worst ", task as u64, b" ", worst as u64)
-}
-
-fn put_empty(buffer: &mut [u8], at: usize, empty: Empty) -> usize
-    requires { ⌜ at + emptyBytes ≤ length (now buffer) ⌝ }
-    ensures { λ r. ⌜ Put (line (text "empty " ++ emptyWord empty)) at (now (buffer .entry)) (now (buffer .exit)) r ⌝ }
-    ensures { λ r. ⌜ r ≤ at + emptyBytes ⌝ }
-{
-    match empty {
-        Empty::Slot(slot) => text::put_line(buffer, at, b"empty ", slot),
-        Empty::Nowhere => text::put_text(buffer, at, b"empty none\n"),
-    }
 }
 
 fn put_interval(buffer: &mut [u8], at: usize, from: u64, to: u64, demand: u64) -> usize

@@ -13,10 +13,10 @@ use Rattle.model.specs.Limits.{taskLimit}
 use Rattle.model.specs.Notation.{bit, bits, fill}
 use Rattle.model.specs.Tasks.{task}
 use Rattle.model.specs.Run.{Order, tieOrder, choose}
-use Rattle.counting.specs.Count.{and-iff}
+use Rattle.counting.specs.Count.{tests, and-iff, every-iff, eq→eqb, is-true, is-false}
 use Rattle.counting.specs.Fill.{at-end, fill-passed, fill-eq, fill-same, fill-set}
 use Rattle.counting.specs.Bits.{bits-at, bits-past}
-use Rattle.slots.specs.Slot.{at, isLate, isMember, closed}
+use Rattle.slots.specs.Slot.{at, isLate, isMember, noneLeft, closed}
 use Rattle.slots.specs.Columns.{columnsOf}
 use Rattle.slots.specs.Choice.{choose-eq}
 
@@ -35,6 +35,13 @@ member-is p i l = ap (λ (x : ℕ). eqb x 1) (bits-at p taskLimit i l) ∙ go (p
     go : (b : Bool) → eqb (bit b) 1 ≡ b
     go true = refl
     go false = refl
+
+-- Some task has a slot left, or none has.
+pub one-left : (left : List ℕ) (n i : ℕ) → i < n → 0 < at left i → noneLeft left n ≡ false
+one-left left n i l h = is-false (noneLeft left n) (λ x. absurd (omega (tests, every-iff (λ k. eqb (at left k) 0) n .0 x i l)))
+
+pub all-given : (left : List ℕ) (n : ℕ) → ((i : ℕ) → i < n → at left i ≡ 0) → noneLeft left n ≡ true
+all-given left n h = is-true (noneLeft left n) (every-iff (λ k. eqb (at left k) 0) n .1 (λ i l. eq→eqb (at left i) 0 (h i l)))
 
 -- The list has the numbers f 0, f 1, .. for the n tasks.
 abbrev pub Has : ℕ → List ℕ → (ℕ → ℕ) → Type 0

@@ -5,7 +5,7 @@ use Prim.Native.Nat.{ℕ, _/_, _%_, _^_}
 use lib.Dec.{ltb, eqb}
 use lib.ListN.{getD, set}
 use Rattle.model.specs.Limits.{taskLimit}
-use Rattle.model.specs.Notation.{fill}
+use Rattle.model.specs.Notation.{every, fill}
 
 -- The number that a list has for task i.
 abbrev pub at : List ℕ → ℕ → ℕ
@@ -25,6 +25,10 @@ isMember tasks i = eqb (tasks / 2 ^ i % 2) 1
 
 unfoldable pub closedAll : List ℕ → ℕ → ℕ → List ℕ
 closedAll left tasks n = fill n (λ i. cond (isMember tasks i) 0 (at left i)) left
+
+-- None of the n tasks has a slot left.
+abbrev pub noneLeft : List ℕ → ℕ → Bool
+noneLeft left n = every (λ i. eqb (at left i) 0) n
 
 -- Where the wait is 0 a job is released, and the wait is a period.
 abbrev pub waitReleased : List ℕ → List ℕ → ℕ → ℕ

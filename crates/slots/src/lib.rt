@@ -11,7 +11,7 @@ ghost use Rattle.model.specs.Dispatcher.{startOf};
 ghost use Rattle.slots.specs.Columns.{columnsOf};
 ghost use Rattle.slots.specs.Choice.{ranks, keyOf};
 ghost use Rattle.slots.specs.Serve.{Served};
-ghost use Rattle.slots.specs.Slot.{closed, isLate, isMember, closedAll, waitReleased, leftReleased};
+ghost use Rattle.slots.specs.Slot.{closed, isLate, isMember, closedAll, noneLeft, waitReleased, leftReleased};
 use values::TASK_LIMIT;
 use values::Table;
 
@@ -147,6 +147,19 @@ pub fn close(left: &mut Numbers, task: u32)
         let i = task as usize;
         left[i] = 0;
     }
+}
+
+// None of the n tasks has a slot left.
+pub fn none_left(left: &Numbers, n: usize) -> bool
+    requires { ⌜ n ≤ taskLimit ⌝ }
+    ensures { λ r. ⌜ r ≡ noneLeft (now (left .entry)) n ⌝ }
+{
+    for i in 0..n {
+        if left[i] > 0 {
+            return false;
+        }
+    }
+    true
 }
 
 fn key_of(left: u32, due: u32, rank: u16) -> u64

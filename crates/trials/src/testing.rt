@@ -1,9 +1,8 @@
-// The exact test: its verdicts, settled counts, worst responses and empty slots.
+// The exact test: its verdicts, settled counts, worst responses and idle instants.
 use crate::say;
 use crate::tables;
 use crate::tables::task;
 use values::Answer;
-use values::Empty;
 use values::Outcome;
 use values::Table;
 use values::Verdict;
@@ -51,7 +50,6 @@ fn say_answer(a: Answer) {
     let outcome = a.outcome;
     let measure = a.measure;
     let worst = a.worst;
-    let empty = a.empty;
     say_outcome(outcome);
     say::words(b", settled ");
     say::number(a.settled);
@@ -59,8 +57,8 @@ fn say_answer(a: Answer) {
     say::measure(measure);
     say::words(b", worst ");
     say::numbers(worst);
-    say::words(b", empty ");
-    say_empty(empty);
+    say::words(b", idle ");
+    say::number(a.idle);
 }
 
 fn say_outcome(outcome: Outcome) {
@@ -83,12 +81,5 @@ fn say_verdict(verdict: Verdict) {
             say::number(demand);
         }
         Verdict::Undecided => say::words(b"undecided"),
-    }
-}
-
-fn say_empty(empty: Empty) {
-    match empty {
-        Empty::Slot(at) => say::number(at),
-        Empty::Nowhere => say::words(b"none"),
     }
 }

@@ -60,19 +60,13 @@ pub enum Outcome {
     Tested(Verdict),
 }
 
-// The first empty slot of the run before the horizon, or none.
-pub enum Empty {
-    Slot(u64),
-    Nowhere,
-}
-
-// All that the exact test says. What the outcome leaves nothing to say of is 0, or nowhere.
+// All that the exact test says: the first idle instant after 0 stands last. What the outcome leaves nothing to say of is 0.
 pub struct Answer {
     pub outcome: Outcome,
     pub measure: Measure,
     pub settled: u64,
     pub worst: [u32; TASK_LIMIT],
-    pub empty: Empty,
+    pub idle: u64,
 }
 
 // Whether a buffer, a file, or a table to start with, is taken.

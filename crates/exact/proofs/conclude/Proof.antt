@@ -17,13 +17,10 @@ brief-requires-2 c κs = search needs
 returns-2 : tie.Need-returns-2
 returns-2 c = let s = c .before .before .before .before .args in rw (le-ltb 0 (s .asked) (omega arith), lt-ltb (s .at) (s .m .horizon) (omega arith)) (c .brief2 .ensures)
 
-slot-or-nowhere-requires : tie.Need-slot-or-nowhere-requires
-slot-or-nowhere-requires c κs = search needs
-
 returns-3 : tie.Need-returns-3
-returns-3 c = let s = c .before .before .before .before .args in rw (le-ltb 0 (s .asked) (omega arith), le-ltb (s .at) (s .m .horizon) (omega arith)) (cc)
+returns-3 c = let s = c .before .before .before .args in rw (le-ltb 0 (s .asked) (omega arith), le-ltb (s .at) (s .m .horizon) (omega arith))
 
 pub conclude-spec : {M : Type 1} → statement M
 conclude-spec =
     tie.close
-    (tie.spec brief-requires returns brief-requires-2 returns-2 slot-or-nowhere-requires returns-3)
+    (tie.spec brief-requires returns brief-requires-2 returns-2 returns-3)

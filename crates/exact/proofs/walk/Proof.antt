@@ -2,7 +2,7 @@
 use mathlib.Core.Logic.{inl, inr}
 use mathlib.Core.Bool.{Bool, true, false, not}
 use mathlib.Core.Path.{_≡_, refl, sym, ap, subst, _∙_}
-use Prim.Native.Nat.{ℕ, _≤_, _<_, _-_}
+use Prim.Native.Nat.{ℕ, _≤_, _<_, _-_, min}
 use native.Mathlib.Decide.{decLt}
 use native.Mathlib.Omega.{arith}
 use lib.Dec.{T}
@@ -12,25 +12,25 @@ use Rattle.model.specs.Tasks.{round, load}
 use Rattle.model.specs.Demand.{demand, asksTooMuch}
 use Rattle.wellformed.specs.WellFormed.{WellFormed, well-formed}
 use Rattle.backlog.specs.TooMuch.{late-at-iff, too-much-iff}
-use Rattle.slots.specs.declared.Columns.{Columns}
 use Rattle.intervals.specs.Starts.{demand-none, none-between}
-use Rattle.exact.specs.Walking.{Setting, Walking, walking-start, one-found, none-found, walk-slot, permitted-quiet, permitted-late}
+use Rattle.walks.specs.Walked.{Setting, setting, one-found, none-found}
+use Rattle.exact.specs.Walking.{Walking, walking-start, walking-next, permitted-quiet, permitted-late}
 use Rattle.exact.proofs.walk.Statement.{statement}
 use Rattle.exact.proofs.walk.Tie as tie
 
 abbrev Inv-loop : tie.InvT-loop
-Inv-loop t m budget n end period cost slack rank wait left worst empty from₀ asked₀ at from asked =
+Inv-loop t m budget n end period cost slack rank wait left worst idle from₀ asked₀ at from asked =
     (from ≤ at) × (asked ≡ demand t from at) × (asked ≤ at - from) × ((later : ℕ) → from < later → later < at → T (asksTooMuch t later at) → ⊥)
 
 abbrev μ-loop : tie.MeasureT-loop
-μ-loop t m budget n end period cost slack rank wait left worst empty from₀ asked₀ at from asked = from
+μ-loop t m budget n end period cost slack rank wait left worst idle from₀ asked₀ at from asked = from
 
 abbrev Inv-search : tie.InvT-search
-Inv-search t m budget n end period cost slack rank wait₀ left₀ worst₀ empty₀ from₀ asked₀ at₀ wait left worst empty from asked at =
-    Setting t m budget n end period cost slack rank × (at ≤ end) × (asked ≡ 0) × Walking t at wait left worst empty
+Inv-search t m budget n end period cost slack rank wait₀ left₀ worst₀ idle₀ from₀ asked₀ at₀ wait left worst idle from asked at =
+    (Setting t n period cost slack rank × (end ≡ min budget (m .horizon))) × (at ≤ end) × (asked ≡ 0) × Walking t at wait left worst idle
 
 abbrev μ-search : tie.MeasureT-search
-μ-search t m budget n end period cost slack rank wait₀ left₀ worst₀ empty₀ from₀ asked₀ at₀ wait left worst empty from asked at =
+μ-search t m budget n end period cost slack rank wait₀ left₀ worst₀ idle₀ from₀ asked₀ at₀ wait left worst idle from asked at =
     end - at
 
 -- The two ways of the test.
@@ -74,19 +74,8 @@ offsets-requires c κs = well-formed _ _ (c .before .before .before .before .bef
 search-holds : tie.Need-search-holds Inv-loop μ-loop Inv-search μ-search
 search-holds c =
     let s = c .before .before .before .before .before .before .before in
-    let u = c .before .before .before .before .before .unpack .ensures in (
-      record {
-        end-is = c .before .before .before .before .before .before .smaller .ensures;
-        tasks = refl;
-        periods = ap (λ (x : Columns). x .period) u;
-        costs = ap (λ (x : Columns). x .cost) u;
-        slacks = ap (λ (x : Columns). x .slack) u;
-        ranks = ap (λ (x : Columns). x .rank) u;
-      },
-      omega arith,
-      refl,
-      rw (c .offsets .ensures, well-formed _ _ (s .pre .0) .horizon-is) (walking-start (s .args .t)),
-    )
+    let u = c .before .before .before .before .before .unpack .ensures in
+    ((setting _ u, c .before .before .before .before .before .before .smaller .ensures), omega arith, refl, rw (c .offsets .ensures) (walking-start (s .args .t)))
 
 serve-requires : tie.Need-serve-requires Inv-loop μ-loop Inv-search μ-search
 serve-requires c κs = facts (c .before .before .before .before .before .before) .ranged .few
@@ -94,25 +83,23 @@ serve-requires c κs = facts (c .before .before .before .before .before .before)
 note-requires : tie.Need-note-requires Inv-loop μ-loop Inv-search μ-search
 note-requires c κs = search needs
 
-first-empty-requires : tie.Need-first-empty-requires Inv-loop μ-loop Inv-search μ-search
-first-empty-requires c κs = search needs
-
 add-at : tie.Need-add-at Inv-loop μ-loop Inv-search μ-search
-add-at c = let a = home (c .before .before .before .before .before .before .before .before) in let f = facts a in omega (arith, f .horizon-is, f .horizon-le, a .search .inv .0 .end-is)
+add-at c = let a = home (c .before .before .before .before .before .before .before) in let f = facts a in omega (arith, f .horizon-is, f .horizon-le, a .search .inv .0 .1)
+
+first-idle-requires : tie.Need-first-idle-requires Inv-loop μ-loop Inv-search μ-search
+first-idle-requires c κs = facts (home (c .before .before .before .before .before .before .before .before)) .ranged .few
 
 search-less : tie.Need-search-less Inv-loop μ-loop Inv-search μ-search
 search-less c = search needs
 
 search-again : tie.Need-search-again Inv-loop μ-loop Inv-search μ-search
 search-again c =
-    let a = home (c .before .before .before .before .before .before .before .before) in
-    let i = a .search .inv in
-    let f = facts a in
-    let more = c .before .before .before .before .before .before .if2 .left in (
+    let a = home (c .before .before .before .before .before .before .before .before .before) in
+    let i = a .search .inv in (
       i .0,
-      omega (arith, i .1, more),
+      omega (arith, i .1, c .before .before .before .before .before .before .before .if2 .left),
       i .2,
-      walk-slot _ (f .ranged) _ (f .horizon-is) (i .0) (i .3) (c .before .before .before .before .before .before .before .before .before .serve .ensures) (not-late (c .before .before .before .before .before .before .before .if1 .taken)) (omega (arith, i .0 .end-is, f .horizon-is, i .1, more)) (c .before .note .ensures) (c .first-empty .ensures),
+      walking-next (facts a .ranged) (light a) (i .0 .0) (i .3) (c .before .before .before .before .before .before .before .before .before .before .serve .ensures) (not-late (c .before .before .before .before .before .before .before .before .if1 .taken)) (c .before .before .note .ensures) (c .first-idle .ensures),
     )
 
 -- A late deadline has a start: the search for it does not come to its end.
@@ -122,7 +109,7 @@ found c =
     let i = a .search .inv in
     let f = facts a in
     let v = c .before .loop .inv in
-    let h = one-found _ (f .ranged) _ (f .horizon-is) (i .0) (i .3) (c .before .before .before .before .serve .ensures) (is-late (c .before .before .if1 .left)) in
+    let h = one-found (f .ranged) (i .0 .0) (i .3 .walk) (c .before .before .before .before .serve .ensures) (is-late (c .before .before .if1 .left)) in
     let (from, x) = late-at-iff _ _ .0 h in
     let y = too-much-iff _ from _ .0 x in
     elim (decLt (c .before .loop .from) from) [
@@ -159,7 +146,7 @@ demand-requires : tie.Need-demand-requires Inv-loop μ-loop Inv-search μ-search
 demand-requires c κs =
     let a = home (c .before .before .before .before) in
     let f = facts a in
-    (f .ranged, (omega (arith, down c, c .before .before .loop .inv .0), omega (arith, f .horizon-is, f .horizon-le, a .search .inv .0 .end-is, a .search .inv .1)))
+    (f .ranged, (omega (arith, down c, c .before .before .loop .inv .0), omega (arith, f .horizon-is, f .horizon-le, a .search .inv .0 .1, a .search .inv .1)))
 
 sub-if3 : tie.Need-sub-if3 Inv-loop μ-loop Inv-search μ-search
 sub-if3 c = omega (arith, down (c .before), c .before .before .before .loop .inv .0)
@@ -190,8 +177,8 @@ returns c =
     let f = facts a in
     let seen = c .before .before .before .serve .ensures in
     rw (c .conclude .ensures) (elim (c .before .if1 .came) [
-      | inl (if1, if2, from, asked) ↦ rw (asked, i .2) (permitted-quiet (s .args .t) (s .args .m) (s .args .budget) (s .pre .0) (s .pre .1) (i .3) (c .before .if1 .from) (none-found _ (f .ranged) _ (f .horizon-is) (i .0) (i .3) seen (not-late (if1 .taken))) (if2 .taken ∙ i .0 .end-is))
-      | inr (if1, loop, test, start, asks, if3, from, asked) ↦ rw (from, asked) (permitted-late (s .args .t) (s .args .m) (s .args .budget) (s .pre .0) (s .pre .1) (i .3) _ _ (omega (arith, i .0 .end-is)) (one-found _ (f .ranged) _ (f .horizon-is) (i .0) (i .3) seen (is-late (if1 .left))) (omega (arith, loop .inv .0, start .ensures .0 (test .taken))) (asks .ensures) (if3 .taken) (none-between (s .args .t) (f .ranged) (light a) (loop .inv .0) (omega (arith, loop .inv .1, loop .inv .2)) (start .ensures .1) (loop .inv .3)))
+      | inl (if1, if2, from, asked) ↦ rw (asked, i .2) (permitted-quiet (s .args .t) (s .args .m) (s .args .budget) (s .pre .0) (s .pre .1) (i .3) (c .before .if1 .from) (none-found (f .ranged) (i .0 .0) (i .3 .walk) seen (not-late (if1 .taken))) (if2 .taken ∙ i .0 .1))
+      | inr (if1, loop, test, start, asks, if3, from, asked) ↦ rw (from, asked) (permitted-late (s .args .t) (s .args .m) (s .args .budget) (s .pre .0) (s .pre .1) (i .3) _ _ (omega (arith, i .0 .1)) (one-found (f .ranged) (i .0 .0) (i .3 .walk) seen (is-late (if1 .left))) (omega (arith, loop .inv .0, start .ensures .0 (test .taken))) (asks .ensures) (if3 .taken) (none-between (s .args .t) (f .ranged) (light a) (loop .inv .0) (omega (arith, loop .inv .1, loop .inv .2)) (start .ensures .1) (loop .inv .3)))
     ])
 
 pub walk-spec : {M : Type 1} → statement M
@@ -208,8 +195,8 @@ walk-spec =
     search-holds
     serve-requires
     note-requires
-    first-empty-requires
     add-at
+    first-idle-requires
     search-less
     search-again
     loop-holds

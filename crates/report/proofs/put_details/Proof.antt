@@ -1,6 +1,9 @@
+use mathlib.Core.List.{_++_}
 use native.Mathlib.Omega.{arith}
 use borrow.Author.Needs.{needs}
-use Rattle.counting.specs.Put.{nothing, join}
+use Rattle.model.specs.Notation.{text, decimal}
+use Rattle.model.specs.Report.{line}
+use Rattle.counting.specs.Put.{Put, nothing, join}
 use Rattle.report.proofs.put_details.Statement.{statement}
 use Rattle.report.proofs.put_details.Tie as tie
 
@@ -10,8 +13,11 @@ enum-told c = search needs
 put-worst-lines-requires : tie.Need-put-worst-lines-requires
 put-worst-lines-requires c κs = search needs
 
-put-empty-requires : tie.Need-put-empty-requires
-put-empty-requires c κs = search needs
+slice-aggregate-put-line : tie.Need-slice-aggregate-put-line
+slice-aggregate-put-line c = search needs
+
+put-line-requires : tie.Need-put-line-requires
+put-line-requires c κs = search needs
 
 enum-told-2 : tie.Need-enum-told-2
 enum-told-2 c = search needs
@@ -29,10 +35,12 @@ same-length : tie.Need-same-length
 same-length c = search needs
 
 returns : tie.Need-returns
+unfolding text
 returns c =
     let e = c .before .before in
-    let w = e .before .before .before .before in
-    rw (w .before .before .before .enum-told .given .1) (join (w .put-worst-lines .ensures .0) (e .put-empty .ensures .0), omega arith)
+    let w = e .before .before .before .before .before in
+    let idle : Put (line (text "idle " ++ decimal (w .before .before .before .before .before .before .args .answer .idle))) _ _ _ _ = e .put-line .ensures .0 in
+    rw (w .before .before .before .enum-told .given .1) (join (w .put-worst-lines .ensures .0) idle, omega arith)
 
 returns-2 : tie.Need-returns-2
 returns-2 c = rw (c .enum-told2 .given .1) (nothing _ _, omega arith)
@@ -54,7 +62,8 @@ put-details-spec =
     (tie.spec
     enum-told
     put-worst-lines-requires
-    put-empty-requires
+    slice-aggregate-put-line
+    put-line-requires
     enum-told-2
     enum-known-verdict
     put-interval-requires

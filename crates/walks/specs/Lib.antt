@@ -1,0 +1,3 @@
+-- What a walk over a table holds before each slot, whoever walks.
+pub mod Walked
+pub mod Caught
