@@ -1,16 +1,17 @@
 /*
  * Yolizadwa for C (from C99 on) and C++: judge a table of tasks, then give out time slot by slot.
  *
- * Six calls, in the static library that `rt staticlib yolizadwa` writes for x86-64:
+ * Seven calls, in the static library that `rt staticlib yolizadwa` writes for x86-64:
  *
  *   yolizadwa_write       writes a table file from the numbers of its tasks
  *   yolizadwa_from_text   writes the table file of a table in plain text
  *   yolizadwa_to_text     writes the plain text of a table file
  *   yolizadwa_check       judges a table file and writes its report as text
+ *   yolizadwa_quick       judges it in short, with all tasks started at once: pass, or no answer
  *   yolizadwa_start       makes the dispatcher's first state for a table file
  *   yolizadwa_step        gives out one slot and makes the next state
  *
- * What holds for all six:
+ * What holds for all seven:
  *   - They keep nothing between calls, allocate nothing, and may run in several threads at once on different buffers.
  *   - Of the C library they need memcpy and memset alone. The host tests hold the stack of each call to 16 KiB.
  *   - A result below 65,536 is an answer. Any other is a refusal: 65,536 x number + place. A refusal changes no byte.
@@ -142,6 +143,7 @@ uint64_t yolizadwa_to_text(const uint8_t *file, size_t file_len, uint8_t *text, 
  *
  *   tasks 2            how many tasks
  *   load 11/15         slots asked for in every round / slots of the round (least common multiple of the periods)
+ *   quick none         the quick test's answer, pass or none: see yolizadwa_quick
  *   horizon 38         slots that decide for ever: the largest offset and two rounds
  *   verdict passes     or: overload, late, undecided
  *   settled 38         slots up to which the answer is known
@@ -151,19 +153,35 @@ uint64_t yolizadwa_to_text(const uint8_t *file, size_t file_len, uint8_t *text, 
  * Late has in place of the last two `interval 8 15 demand 8`: the jobs that are released at 8 or later and due by 15 ask
  * for 8 slots. Undecided: the budget ended before the answer was known; `settled` is the budget.
  *
- * A camera runs a table only if the report's fourth line is `verdict passes`; only then does what is said of the worst
+ * A camera runs a table only if the report has the line `verdict passes`; only then does what is said of the worst
  * responses hold.
  *
- * The time needed grows with `settled`, which is at most the budget and at most 2,000,060,000. No call can stop a check: only
- * the budget bounds it. The time of start and step does not depend on the budget. Measured (docs/PERFORMANCE.md): compiled for
- * an Arm machine (Neoverse V1), a slot of a check took about 2 ns with 1 task and 19 to 41 ns with 16, and a step 0.6
- * microseconds. On x86-64 (a virtual machine, Xeon at 2.5 GHz) a slot with 1 task took 4 to 7 ns, and a step about 1
- * microsecond. The search for a late table's interval took at most a third of the time of its slots, and up to 11 times that
- * time on a table made so that no start is passed over.
+ * The time needed grows with `settled`, which is at most the budget and at most 2,000,060,000, and with the slots that the
+ * quick test looks at (see yolizadwa_quick), which the budget does not bound. No call can stop a check. The time of start and
+ * step does not depend on the budget. Measured (docs/PERFORMANCE.md): compiled for an Arm machine (Neoverse V1), a slot of a
+ * check took about 2 ns with 1 task and 19 to 41 ns with 16, and a step 0.6 microseconds. On x86-64 (a virtual machine, Xeon
+ * at 2.5 GHz) a slot with 1 task took 4 to 7 ns, and a step about 1 microsecond. The search for a late table's interval took
+ * at most a third of the time of its slots, and up to 11 times that time on a table made so that no start is passed over.
  *
  * Refusals: 30; 20 to 26; 1 and 3 to 7.
  */
 uint64_t yolizadwa_check(const uint8_t *file, size_t file_len, uint8_t *report, size_t report_len);
+
+/*
+ * The quick test: lets all tasks start at 0, whatever their offsets, and looks at the slots up to the first instant after 0
+ * by which every job released before it is finished. The result is 1 for pass, if no deadline is missed by then, and 0 for
+ * no answer. On overload there is no answer, and late is never said.
+ *
+ * Pass: a check of the file, with any budget that reaches the horizon, says `verdict passes`. No answer says nothing about
+ * that. The budget must stand in the file and plays no part.
+ *
+ * Mostly few slots are looked at. But with a load near 1 they may be as many as a round has, up to 1,000,000,000, here and in a
+ * check whatever its budget: the longest that was measured, of 16 tasks, took 26 seconds (docs/PERFORMANCE.md). No call can
+ * stop it.
+ *
+ * Refusals: 20 to 26; 1 and 3 to 7.
+ */
+uint64_t yolizadwa_quick(const uint8_t *file, size_t file_len);
 
 /*
  * The dispatcher's state: 144 bytes, 36 little-endian words of 32 bits each. On x86-64 this struct is that layout; hand

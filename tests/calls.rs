@@ -14,15 +14,17 @@ pub enum Call {
     Write,
     FromText,
     ToText,
+    Quick,
 }
 
-pub const CALLS: [(Call, &str); 6] = [
+pub const CALLS: [(Call, &str); 7] = [
     (Call::Check, "check"),
     (Call::Start, "start"),
     (Call::Step, "step"),
     (Call::Write, "write"),
     (Call::FromText, "from text"),
     (Call::ToText, "to text"),
+    (Call::Quick, "quick"),
 ];
 
 #[derive(Clone, Debug)]
@@ -59,6 +61,10 @@ impl Request {
 
     pub fn to_text(file: Vec<u8>) -> Request {
         Request { call: Call::ToText, file, buffer: vec![0xE7; LONGEST_TEXT + 8], number: 0 }
+    }
+
+    pub fn quick(file: Vec<u8>) -> Request {
+        Request { call: Call::Quick, file, buffer: Vec::new(), number: 0 }
     }
 }
 

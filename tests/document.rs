@@ -1,4 +1,4 @@
-//! What document 01 gives by the letter: tables and reports, dispatcher runs, refusals with their places.
+//! What document 01, and document 02 where it has changed it, give by the letter: tables and reports, dispatcher runs, refusals with their places.
 
 use crate::bench::Bench;
 use crate::calls::Request;
@@ -23,24 +23,28 @@ pub const TOO_LONG: Rows = &[(0, 1, 31_623, 31_623), (0, 1, 31_624, 31_624)];
 
 /// Tables with a budget and the report they give.
 const REPORTS: &[(Rows, u64, &str)] = &[
-    (A, 1_000, "tasks 1\nload 1/1\nhorizon 2\nverdict passes\nsettled 2\nworst 0 1\nidle 1\n"),
-    (B, 1_000, "tasks 2\nload 11/15\nhorizon 38\nverdict passes\nsettled 38\nworst 0 7\nworst 1 2\nidle 2\n"),
-    (B, 38, "tasks 2\nload 11/15\nhorizon 38\nverdict passes\nsettled 38\nworst 0 7\nworst 1 2\nidle 2\n"),
-    (B, 37, "tasks 2\nload 11/15\nhorizon 38\nverdict undecided\nsettled 37\n"),
-    (C, 1_000, "tasks 2\nload 12/15\nhorizon 38\nverdict late\nsettled 15\ninterval 8 15 demand 8\n"),
-    (C, 15, "tasks 2\nload 12/15\nhorizon 38\nverdict late\nsettled 15\ninterval 8 15 demand 8\n"),
-    (C, 14, "tasks 2\nload 12/15\nhorizon 38\nverdict undecided\nsettled 14\n"),
-    (D, 1_000, "tasks 2\nload 11/15\nhorizon 30\nverdict late\nsettled 7\ninterval 0 7 demand 9\n"),
-    (E, 1_000, "tasks 2\nload 2/2\nhorizon 5\nverdict passes\nsettled 5\nworst 0 1\nworst 1 1\nidle 1\n"),
-    (F, 1_000, "tasks 2\nload 2/2\nhorizon 4\nverdict late\nsettled 1\ninterval 0 1 demand 2\n"),
-    (G, 1_000, "tasks 2\nload 4/4\nhorizon 8\nverdict passes\nsettled 8\nworst 0 2\nworst 1 4\nidle 4\n"),
-    (H, 1_000, "tasks 2\nload 4/4\nhorizon 12\nverdict late\nsettled 7\ninterval 4 7 demand 4\n"),
-    (I, 1_000, "tasks 2\nload 6/5\nhorizon 12\nverdict overload\nsettled 0\n"),
-    (I, 0, "tasks 2\nload 6/5\nhorizon 12\nverdict overload\nsettled 0\n"),
-    (J, 1_000, "tasks 1\nload 1/2\nhorizon 8\nverdict passes\nsettled 8\nworst 0 1\nidle 1\n"),
-    (J, u64::MAX, "tasks 1\nload 1/2\nhorizon 8\nverdict passes\nsettled 8\nworst 0 1\nidle 1\n"),
-    (LONGEST, 10, "tasks 2\nload 63245/999982506\nhorizon 1999965012\nverdict undecided\nsettled 10\n"),
+    (A, 1_000, "tasks 1\nload 1/1\nquick pass\nhorizon 2\nverdict passes\nsettled 2\nworst 0 1\nidle 1\n"),
+    (B, 1_000, "tasks 2\nload 11/15\nquick none\nhorizon 38\nverdict passes\nsettled 38\nworst 0 7\nworst 1 2\nidle 2\n"),
+    (B, 38, "tasks 2\nload 11/15\nquick none\nhorizon 38\nverdict passes\nsettled 38\nworst 0 7\nworst 1 2\nidle 2\n"),
+    (B, 37, "tasks 2\nload 11/15\nquick none\nhorizon 38\nverdict undecided\nsettled 37\n"),
+    (C, 1_000, "tasks 2\nload 12/15\nquick none\nhorizon 38\nverdict late\nsettled 15\ninterval 8 15 demand 8\n"),
+    (C, 15, "tasks 2\nload 12/15\nquick none\nhorizon 38\nverdict late\nsettled 15\ninterval 8 15 demand 8\n"),
+    (C, 14, "tasks 2\nload 12/15\nquick none\nhorizon 38\nverdict undecided\nsettled 14\n"),
+    (D, 1_000, "tasks 2\nload 11/15\nquick none\nhorizon 30\nverdict late\nsettled 7\ninterval 0 7 demand 9\n"),
+    (E, 1_000, "tasks 2\nload 2/2\nquick none\nhorizon 5\nverdict passes\nsettled 5\nworst 0 1\nworst 1 1\nidle 1\n"),
+    (F, 1_000, "tasks 2\nload 2/2\nquick none\nhorizon 4\nverdict late\nsettled 1\ninterval 0 1 demand 2\n"),
+    (G, 1_000, "tasks 2\nload 4/4\nquick pass\nhorizon 8\nverdict passes\nsettled 8\nworst 0 2\nworst 1 4\nidle 4\n"),
+    (H, 1_000, "tasks 2\nload 4/4\nquick none\nhorizon 12\nverdict late\nsettled 7\ninterval 4 7 demand 4\n"),
+    (I, 1_000, "tasks 2\nload 6/5\nquick none\nhorizon 12\nverdict overload\nsettled 0\n"),
+    (I, 0, "tasks 2\nload 6/5\nquick none\nhorizon 12\nverdict overload\nsettled 0\n"),
+    (J, 1_000, "tasks 1\nload 1/2\nquick pass\nhorizon 8\nverdict passes\nsettled 8\nworst 0 1\nidle 1\n"),
+    (J, u64::MAX, "tasks 1\nload 1/2\nquick pass\nhorizon 8\nverdict passes\nsettled 8\nworst 0 1\nidle 1\n"),
+    (LONGEST, 10, "tasks 2\nload 63245/999982506\nquick pass\nhorizon 1999965012\nverdict undecided\nsettled 10\n"),
 ];
+
+/// Tables, and whether the quick test passes them.
+const QUICK: &[(Rows, u64)] =
+    &[(A, 1), (B, 0), (C, 0), (D, 0), (E, 0), (F, 0), (G, 1), (H, 0), (I, 0), (J, 1), (LONGEST, 1)];
 
 fn report_is(bench: &mut Bench, rows: Rows, budget: u64, report: &str) {
     let request = Request::check(file_of(budget, &table_of(rows)));
@@ -56,6 +60,9 @@ pub fn tables(bench: &mut Bench) {
     for &(rows, budget, report) in REPORTS {
         report_is(bench, rows, budget, report);
         ask_all(bench, &file_of(budget, &table_of(rows)));
+    }
+    for &(rows, result) in QUICK {
+        bench.ask_knowing(Request::quick(file_of(0, &table_of(rows))), (result, Vec::new()));
     }
     bench.end_group("document 01's tables");
 }
@@ -140,6 +147,7 @@ pub fn refusals(bench: &mut Bench) {
     let b = file_of(38, &table_of(B));
     for (file, number, place) in refused_files() {
         refused_with(bench, Request::check(file.clone()), number, place);
+        refused_with(bench, Request::quick(file.clone()), number, place);
         refused_with(bench, Request::start(file.clone()), number, place);
         refused_with(bench, Request::step(file, vec![0xE7; 144], 0), number, place);
     }

@@ -73,7 +73,9 @@ pub fn affordable(file: &[u8]) -> bool {
     match reference::read_file(file) {
         Ok((budget, tasks)) if reference::judge(&tasks).is_ok() => {
             let round = reference::round(&tasks).unwrap();
-            budget.min(reference::horizon(&tasks, round)) <= SLOTS || reference::asked_in_round(&tasks, round) > round
+            let walk =
+                budget.min(reference::horizon(&tasks, round)) <= SLOTS || reference::asked_in_round(&tasks, round) > round;
+            walk && reference::quick_within(&tasks, SLOTS).is_some()
         }
         _ => true,
     }

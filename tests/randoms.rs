@@ -4,7 +4,7 @@ use crate::bench::{Bench, Permitted};
 use crate::calls::Request;
 use crate::files::ask_all;
 use crate::inputs::*;
-use crate::reference::{self, Task, REPORT_BYTES, TASKS};
+use crate::reference::{self, Task, Verdict, REPORT_BYTES, TASKS};
 
 /// The two ways of the reference to look for a late deadline, held to each other.
 pub fn reference_itself(bench: &mut Bench, rng: &mut Rng) {
@@ -15,10 +15,19 @@ pub fn reference_itself(bench: &mut Bench, rng: &mut Rng) {
         if limit <= 100 {
             let (plain, quick) = (reference::late_by_definition(&tasks, limit), reference::first_late(&tasks, limit));
             bench.count(plain == quick, || format!("{tasks:?}: {plain:?} by definition, {quick:?} by the tree"));
+            let (run, late) = (reference::quick(&tasks), late_with_all_at_0(&tasks));
+            bench.count(run != late, || format!("{tasks:?}: quick {run}, but late with all offsets 0: {late}"));
             tried += 1;
         }
     }
-    bench.end_group("the reference's two searches");
+    bench.end_group("the reference's two searches, and its quick test");
+}
+
+/// Overloaded, or some interval asks too much.
+fn late_with_all_at_0(tasks: &[Task]) -> bool {
+    let tasks = reference::simultaneous(tasks);
+    let horizon = reference::horizon(&tasks, reference::round(&tasks).unwrap());
+    !matches!(reference::decide(&tasks, horizon).verdict, Verdict::Passes(..))
 }
 
 fn field_of(task: &mut Task, field: usize) -> &mut u32 {
@@ -82,6 +91,38 @@ pub fn checks(bench: &mut Bench, rng: &mut Rng, count: u64) {
     }
     verdicts.hold(bench, count);
     bench.end_group("check near the border of what passes");
+}
+
+/// Of the tables that pass quickly the check, whose budget reaches the horizon, says that they pass.
+fn pass_the_check(bench: &mut Bench, passed: &[Vec<u8>]) {
+    let checks: Vec<Request> = passed.iter().cloned().map(Request::check).collect();
+    for (file, reply) in passed.iter().zip(bench.answer(&checks)) {
+        let report = String::from_utf8_lossy(&reply.written()).to_string();
+        let good = report.contains("\nquick pass\n") && report.contains("\nverdict passes\n");
+        bench.count(good, || format!("quick pass of {file:?}, and then {report}"));
+    }
+}
+
+pub fn quicks(bench: &mut Bench, rng: &mut Rng, count: u64) {
+    let files: Vec<Vec<u8>> = (0..count).map(|_| file_of(u64::MAX, &near_border(rng))).collect();
+    let mut passes = 0;
+    for some in files.chunks(2_000) {
+        let requests: Vec<Request> = some.iter().cloned().map(Request::quick).collect();
+        let replies = bench.answer(&requests);
+        for (request, reply) in requests.iter().zip(&replies) {
+            let permitted = reference::answer(request).0;
+            let good = reply.intact && reply.result == permitted;
+            bench.count(good, || format!("quick of {:?}: {}, permitted {permitted}", request.file, reply.result));
+        }
+        let passed = some.iter().zip(&replies).filter(|(_, reply)| reply.result == 1);
+        let passed: Vec<Vec<u8>> = passed.map(|(file, _)| file.clone()).collect();
+        passes += passed.len() as u64;
+        pass_the_check(bench, &passed);
+    }
+    println!("quick: pass {passes}, none {}", count - passes);
+    let both = passes.min(count - passes) >= count / INPUTS_PER_VERDICT;
+    bench.count(both, || format!("quick pass {passes} times in {count} inputs"));
+    bench.end_group("quick near the border of what passes");
 }
 
 pub fn long_rounds(bench: &mut Bench, rng: &mut Rng, count: u64) {

@@ -311,6 +311,54 @@ fn give(open: &mut Vec<Job>, index: usize, slot: u64, worst: &mut [u64]) {
     }
 }
 
+// The quick test.
+
+fn overloaded(tasks: &[Task]) -> bool {
+    let round = round(tasks).unwrap();
+    asked_in_round(tasks, round) > round
+}
+
+pub fn simultaneous(tasks: &[Task]) -> Vec<Task> {
+    tasks.iter().map(|task| Task { offset: 0, ..*task }).collect()
+}
+
+fn released_at(tasks: &[Task], slot: u64) -> Vec<Job> {
+    let mut jobs = Vec::new();
+    for (number, task) in tasks.iter().enumerate().filter(|(_, task)| slot % u64::from(task.period) == 0) {
+        jobs.push(Job {
+            task: number,
+            release: slot,
+            deadline: slot + u64::from(task.deadline),
+            left: u64::from(task.cost),
+        });
+    }
+    jobs
+}
+
+/// All tasks start at 0; the run goes on to the first instant after 0 at which every job that was released before is finished.
+/// Whether no deadline is missed by then, if that is known within so many slots.
+pub fn quick_within(tasks: &[Task], slots: u64) -> Option<bool> {
+    if overloaded(tasks) {
+        return Some(false);
+    }
+    let mut open: Vec<Job> = Vec::new();
+    for slot in 0..slots {
+        open.extend(released_at(tasks, slot));
+        if let Some(index) = next_job(&open) {
+            open[index].left -= 1;
+        }
+        open.retain(|job| job.left > 0);
+        if open.is_empty() || open.iter().any(|job| job.deadline <= slot + 1) {
+            return Some(open.is_empty());
+        }
+    }
+    None
+}
+
+pub fn quick(tasks: &[Task]) -> bool {
+    quick_within(tasks, u64::MAX).expect("the run is caught up within a round")
+}
+
 // The verdict.
 
 #[derive(Clone, PartialEq, Eq, Debug)]
@@ -330,7 +378,7 @@ pub struct Answer {
 pub fn decide(tasks: &[Task], budget: u64) -> Answer {
     let round = round(tasks).unwrap();
     let horizon = horizon(tasks, round);
-    if asked_in_round(tasks, round) > round {
+    if overloaded(tasks) {
         return Answer { verdict: Verdict::Overload, settled: 0 };
     }
     match first_late(tasks, horizon.min(budget)) {
@@ -369,10 +417,11 @@ pub fn report(tasks: &[Task], budget: u64) -> String {
     let round = round(tasks).unwrap();
     let answer = decide(tasks, budget);
     format!(
-        "tasks {}\nload {}/{}\nhorizon {}\nverdict {}\nsettled {}\n{}",
+        "tasks {}\nload {}/{}\nquick {}\nhorizon {}\nverdict {}\nsettled {}\n{}",
         tasks.len(),
         asked_in_round(tasks, round),
         round,
+        if quick(tasks) { "pass" } else { "none" },
         horizon(tasks, round),
         verdict_word(&answer.verdict),
         answer.settled,
@@ -559,6 +608,7 @@ fn answered(request: &Request) -> Result<(u64, Vec<u8>), Refusal> {
             let (budget, tasks) = read_table(request)?;
             fitting(request, plain::text_of(budget, &tasks))
         }
+        Call::Quick => Ok((u64::from(quick(&read_table(request)?.1)), Vec::new())),
     }
 }
 

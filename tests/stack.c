@@ -46,7 +46,8 @@ uint64_t plain_call(uint32_t call, const uint8_t *file, size_t file_len, uint8_t
     case STEP: return yolizadwa_step(file, file_len, buffer, buffer_len, (uint32_t)number);
     case WRITE: return write_words(file, file_len, number, buffer, buffer_len);
     case FROM_TEXT: return yolizadwa_from_text(file, file_len, buffer, buffer_len);
-    default: return yolizadwa_to_text(file, file_len, buffer, buffer_len);
+    case TO_TEXT: return yolizadwa_to_text(file, file_len, buffer, buffer_len);
+    default: return yolizadwa_quick(file, file_len);
     }
 }
 

@@ -79,7 +79,7 @@ module _ (J : Jobs) (D : Dues J) where
           rw (e, mul-sub) (omega arith)
 
   -- So it is what of it is released from t1 on, up to t2.
-  demand-arrives : (t1 t2 : ℕ) → demand J D t1 t2 + arrivals J (D .cut t2) t1 ≡ arrivals J (D .cut t2) t2
+  pub demand-arrives : (t1 t2 : ℕ) → demand J D t1 t2 + arrivals J (D .cut t2) t1 ≡ arrivals J (D .cut t2) t2
   demand-arrives t1 t2 = demand-is t1 t2 ∙ sum-eq (J .n) _ _ (λ i l. omega (arith, work-released i t2 l))
 
 module _ (J : Jobs) (D : Dues J) (s : ℕ → ℕ → ℕ) where

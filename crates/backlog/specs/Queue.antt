@@ -3,6 +3,7 @@ use mathlib.Core.Path.{_≡_}
 use mathlib.Core.Logic.{_⊎_, inl, inr}
 use Prim.Native.Nat.{ℕ, zero, suc, _+_, _-_, _≤_, _<_}
 use native.Mathlib.Nat.{eq-zero-or-pos, le-suc-iff}
+use native.Mathlib.Decide.{le-ind}
 use native.Mathlib.Omega.{arith}
 use Rattle.model.specs.Notation.{sum}
 
@@ -41,6 +42,11 @@ busy-from a (suc t) h = go (eq-zero-or-pos (backlog a t)) (busy-from a t)
     go (inr p) ih =
         let (s, b) = ih p in
         (s, record { early = omega arith; empty = b .empty; exact = omega arith; busy = λ u l m. last u (b .busy u l) m })
+
+-- So up to each instant of it arrived what is left then, and one unit more for each slot.
+pub busy-exact : (a : ℕ → ℕ) (t s : ℕ) → Busy a t s → (u : ℕ) → s ≤ u → u ≤ t → sum u a ≡ sum s a + backlog a u + (u - s)
+unfolding sum backlog
+busy-exact a t s b u h = le-ind (λ (v : ℕ). v ≤ t → sum v a ≡ sum s a + backlog a v + (v - s)) (λ l. omega (arith, b .empty)) (λ v k ih l. omega (arith, ih (omega arith), b .busy (suc v) (omega arith) l)) u h
 
 -- Whatever starts no higher and grows no faster stays no higher.
 pub backlog-bounds : (a r : ℕ → ℕ) → r 0 ≤ backlog a 0 → ((t : ℕ) → r (suc t) ≤ (r t + a t) - 1) → (t : ℕ) → r t ≤ backlog a t

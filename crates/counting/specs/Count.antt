@@ -92,6 +92,10 @@ count-add p q r (suc n) h = omega (arith, h n (omega arith), count-add p q r n (
 pub count-le : (p q : ℕ → Bool) (n : ℕ) → ((j : ℕ) → j < n → T (p j) → T (q j)) → count p n ≤ count q n
 count-le p q n h = omega (arith, count-add p (λ j. false) q n (λ j l. bit-add (p j) false (q j) (λ x y. y) (h j l) (λ x. absurd x)))
 
+-- Two tests that agree are passed as often.
+pub count-eq : (p q : ℕ → Bool) (n : ℕ) → ((j : ℕ) → j < n → p j ≡ q j) → count p n ≡ count q n
+count-eq p q n h = omega (arith, count-le p q n (λ j l t. rw (h j l) at t), count-le q p n (λ j l t. rw (h j l) t))
+
 -- A test that the numbers from a up to b pass, and no others: below n it is passed min b n - a times.
 pub count-from : (p : ℕ → Bool) (a b n : ℕ) → ((j : ℕ) → j < n → T (p j) ↔ ((a ≤ j) × (j < b))) → count p n ≡ min b n - a
 unfolding count

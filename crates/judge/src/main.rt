@@ -17,15 +17,21 @@ use values::REPORT_BYTES;
 // One byte more than the longest legal file has.
 const INPUT_BYTES: usize = LONGEST_FILE + 1;
 
-fn write_outcome(buffer: &mut [u8], tasks: usize, answer: Answer, outcome: Outcome) -> usize
+fn write_outcome(
+    buffer: &mut [u8],
+    tasks: usize,
+    quick: bool,
+    answer: Answer,
+    outcome: Outcome,
+) -> usize
     requires { ⌜ tasks ≤ taskLimit ⌝ }
     requires { ⌜ reportBytes ≤ length (now buffer) ⌝ }
-    ensures { λ r. ⌜ exported r (now (buffer .exit)) ≡ written (outcomeTold refusalLine (λ report. report) tasks answer outcome) (now (buffer .entry)) ⌝ }
+    ensures { λ r. ⌜ exported r (now (buffer .exit)) ≡ written (outcomeTold refusalLine (λ report. report) tasks quick answer outcome) (now (buffer .entry)) ⌝ }
     ensures { λ r. ⌜ r ≤ reportBytes ⌝ }
 {
     match outcome {
         Outcome::Refused(why) => report::write_refusal(buffer, why),
-        Outcome::Tested(verdict) => report::write_report(buffer, tasks, answer, verdict),
+        Outcome::Tested(verdict) => report::write_report(buffer, tasks, quick, answer, verdict),
     }
 }
 
@@ -42,7 +48,8 @@ fn judge(input: &[u8], output: &mut [u8]) -> usize
             let table = loaded.table;
             let answer = exact::test(table, loaded.budget);
             let outcome = answer.outcome;
-            write_outcome(output, table.count, answer, outcome)
+            let quick = quick::is_pass(quick::test(table));
+            write_outcome(output, table.count, quick, answer, outcome)
         }
     }
 }

@@ -13,12 +13,13 @@ use Rattle.model.specs.Tasks.{taskFault, firstFaulty, round, load, horiz
 use Rattle.model.specs.Demand.{jobsIn, demand, asksTooMuch, lateAt}
 use Rattle.model.specs.Schedule.{none, given}
 use Rattle.model.specs.Run.{tieOrder, choose, ownerOf, served, owner, run, response}
-use Rattle.model.specs.Idle.{idleAt, firstIdle}
+use Rattle.model.specs.Idle.{idleAt, firstIdle, missedAt}
+use Rattle.model.specs.Patterns.{startingAt, calm, simultaneous, quickPass, quickAnswer}
 use Rattle.model.specs.Verdict.{needed, lateStart, verdict, settledBy, brief, Permitted}
 use Rattle.model.specs.TableFile.{taskIn, tableOf, bytesOf, taskRecords, fileOf, readFrom, formOf, loadedFrom}
 use Rattle.model.specs.Dispatcher.{State, firstStrange, startOf, started, ownerNow, after, turn, stepped}
 use Rattle.model.specs.History.{stateAt, ownerAt, reported, had, Finished}
-use Rattle.model.specs.Report.{worstLines, reportOf, refused, written, Checked, Printed}
+use Rattle.model.specs.Report.{worstLines, reportOf, refused, written, Checked, quickExported, Printed}
 use Rattle.model.specs.StateBuffer.{bufferOf, stateIn, startExported, stepExported, handed}
 use Rattle.model.specs.Writer.{fileWritten, firstStranger, tableIn, writeExported}
 use Rattle.model.specs.PlainText.{split, filled, allDigits, valueAfter, numbersFault, same, budgetLine, taskLine, lineOf, readLines, textForm, textLoaded, taskTexts, textOf, textWritten, fromTextExported, toTextExported}
@@ -241,6 +242,18 @@ idles : map (λ t. firstIdle t (tieOrder t)) (table-a ∷ table-b ∷ table-e �
 unfolding firstIdle idleAt first round count served ownerOf choose
 idles = refl
 
+-- ---- the quick test
+
+-- By 7, and not by 6, the run of d has missed a deadline. c is late at 15 only, behind its first idle instant, 2. With all offsets 0 table b is d.
+calm-or-not : (map (missedAt table-d (tieOrder table-d)) (6 ∷ 7 ∷ []) ≡ false ∷ true ∷ []) × (map calm (table-c ∷ table-d ∷ []) ≡ true ∷ false ∷ []) × (simultaneous table-b ≡ table-d)
+unfolding calm startingAt fill firstIdle idleAt missedAt first round count served ownerOf choose
+calm-or-not = (refl, refl, refl)
+
+-- Of tables a to j only a, g and j pass quickly; b and e pass the exact test alone, and i is overloaded.
+quick : map quickPass tables ≡ true ∷ false ∷ false ∷ false ∷ false ∷ false ∷ true ∷ false ∷ false ∷ true ∷ []
+unfolding quickPass calm startingAt fill firstIdle idleAt missedAt first round load sum count served ownerOf choose
+quick = refl
+
 -- ---- table files
 
 abbrev word : ℕ → List ℕ
@@ -415,33 +428,33 @@ finished = (inr (1, lit< tt, lit≤ tt, tt), inl refl, inl refl)
 
 -- The whole report on b, with its worst responses given (`promises/specs/Tables.antt` computes them); that on c, which is late.
 report-b :
-    reportOf (table-b .count) (record { outcome = Outcome.Tested Verdict.Passes; measure = measure table-b; settled = settledBy table-b 1000; worst = 7 ∷ 2 ∷ replicate 14 0; idle = firstIdle table-b (tieOrder table-b) }) (verdict table-b 1000)
-    ≡ text "tasks 2\nload 11/15\nhorizon 38\nverdict passes\nsettled 38\nworst 0 7\nworst 1 2\nidle 2\n"
-unfolding reportOf worstLines text decimal digits settledBy verdict needed lateStart lateAt first last round load horizon largest sum count demand jobsIn firstIdle idleAt ownerOf served choose
+    reportOf (table-b .count) (quickPass table-b) (record { outcome = Outcome.Tested Verdict.Passes; measure = measure table-b; settled = settledBy table-b 1000; worst = 7 ∷ 2 ∷ replicate 14 0; idle = firstIdle table-b (tieOrder table-b) }) (verdict table-b 1000)
+    ≡ text "tasks 2\nload 11/15\nquick none\nhorizon 38\nverdict passes\nsettled 38\nworst 0 7\nworst 1 2\nidle 2\n"
+unfolding reportOf worstLines text decimal digits settledBy verdict needed lateStart lateAt first last round load horizon largest sum count demand jobsIn firstIdle idleAt ownerOf served choose quickPass calm startingAt missedAt fill
 report-b = refl
 
 report-c :
-    reportOf 2 (brief (Outcome.Tested (Verdict.Late 8 15 8)) (record { round = 15; load = 12; horizon = 38 }) 15) (Verdict.Late 8 15 8)
-    ≡ text "tasks 2\nload 12/15\nhorizon 38\nverdict late\nsettled 15\ninterval 8 15 demand 8\n"
+    reportOf 2 false (brief (Outcome.Tested (Verdict.Late 8 15 8)) (record { round = 15; load = 12; horizon = 38 }) 15) (Verdict.Late 8 15 8)
+    ≡ text "tasks 2\nload 12/15\nquick none\nhorizon 38\nverdict late\nsettled 15\ninterval 8 15 demand 8\n"
 unfolding reportOf text decimal digits
 report-c = refl
 
 -- Overload and undecided have neither an interval nor worst and idle lines. A fully loaded table has an idle line too.
 report-i :
-    reportOf 2 (brief (Outcome.Tested Verdict.Overload) (record { round = 5; load = 6; horizon = 12 }) 0) Verdict.Overload
-    ≡ text "tasks 2\nload 6/5\nhorizon 12\nverdict overload\nsettled 0\n"
+    reportOf 2 false (brief (Outcome.Tested Verdict.Overload) (record { round = 5; load = 6; horizon = 12 }) 0) Verdict.Overload
+    ≡ text "tasks 2\nload 6/5\nquick none\nhorizon 12\nverdict overload\nsettled 0\n"
 unfolding reportOf text decimal digits
 report-i = refl
 
 report-undecided :
-    reportOf 2 (brief (Outcome.Tested Verdict.Undecided) (record { round = 15; load = 11; horizon = 38 }) 37) Verdict.Undecided
-    ≡ text "tasks 2\nload 11/15\nhorizon 38\nverdict undecided\nsettled 37\n"
+    reportOf 2 false (brief (Outcome.Tested Verdict.Undecided) (record { round = 15; load = 11; horizon = 38 }) 37) Verdict.Undecided
+    ≡ text "tasks 2\nload 11/15\nquick none\nhorizon 38\nverdict undecided\nsettled 37\n"
 unfolding reportOf text decimal digits
 report-undecided = refl
 
 report-a :
-    reportOf 1 (record { outcome = Outcome.Tested Verdict.Passes; measure = record { round = 1; load = 1; horizon = 2 }; settled = 2; worst = 1 ∷ replicate 15 0; idle = 1 }) Verdict.Passes
-    ≡ text "tasks 1\nload 1/1\nhorizon 2\nverdict passes\nsettled 2\nworst 0 1\nidle 1\n"
+    reportOf 1 true (record { outcome = Outcome.Tested Verdict.Passes; measure = record { round = 1; load = 1; horizon = 2 }; settled = 2; worst = 1 ∷ replicate 15 0; idle = 1 }) Verdict.Passes
+    ≡ text "tasks 1\nload 1/1\nquick pass\nhorizon 2\nverdict passes\nsettled 2\nworst 0 1\nidle 1\n"
 unfolding reportOf worstLines text decimal digits
 report-a = refl
 
@@ -465,18 +478,23 @@ exported :
 unfolding loadedFrom formOf readFrom
 exported = (refl, refl, refl, refl, refl)
 
--- A whole report, of 59 bytes, in the buffer and as it is printed: b with a budget of 37.
+-- A whole report, of 70 bytes, in the buffer and as it is printed: b with a budget of 37.
 abbrev report-short : List ℕ
-report-short = text "tasks 2\nload 11/15\nhorizon 38\nverdict undecided\nsettled 37\n"
+report-short = text "tasks 2\nload 11/15\nquick none\nhorizon 38\nverdict undecided\nsettled 37\n"
 
 abbrev file-short : List ℕ
 file-short = budgetOf 37 ++ rowOf (of 8 5 7 15) ++ rowOf (of 0 2 2 5) ++ (3 ∷ [])
 
-told : Checked file-short (replicate 512 7) (record { number = 59; buffer = report-short ++ replicate 453 7 }) × Printed file-short report-short
-unfolding loadedFrom formOf readFrom Permitted judged firstFaulty taskFault settledBy verdict needed lateStart lateAt first last round load horizon largest sum count demand jobsIn reportOf text decimal digits
+told : Checked file-short (replicate 512 7) (record { number = 70; buffer = report-short ++ replicate 442 7 }) × Printed file-short report-short
+unfolding loadedFrom formOf readFrom Permitted judged firstFaulty taskFault settledBy verdict needed lateStart lateAt first last round load horizon largest sum count demand jobsIn reportOf text decimal digits quickPass calm startingAt fill firstIdle idleAt missedAt ownerOf served choose
 told =
     let a = brief (Outcome.Tested Verdict.Undecided) (measured 15 11 38) 37 in
     ((a, refl, refl), (a, refl, refl))
+
+-- The exported quick test: no answer to b, pass for g; a file is refused by its form, and by its table.
+quick-told : map quickExported (file-short ∷ (budgetOf 0 ++ rowOf (of 0 2 4 4) ++ rowOf (of 0 2 4 4) ++ (3 ∷ [])) ∷ (9 ∷ []) ∷ (budgetOf 0 ++ (3 ∷ [])) ∷ []) ≡ 0 ∷ 1 ∷ 1376256 ∷ 65536 ∷ []
+unfolding formOf readFrom quickAnswer judged firstFaulty taskFault horizon largest quickPass calm startingAt fill firstIdle idleAt missedAt first round load sum count served ownerOf choose
+quick-told = refl
 
 -- The line of a refusal; a number as long as the longest of a report, 16 times the limit of H.
 refusal-lines : Printed (budgetOf 0 ++ (9 ∷ [])) (text "refused 21 at 9\n") × Printed (budgetOf 0 ++ (3 ∷ 3 ∷ [])) (text "refused 24 at 10\n") × (decimal 16000000000 ≡ text "16000000000")

@@ -8,6 +8,7 @@ pub mod Demand
 pub mod Run
 pub mod Idle
 pub mod Verdict
+pub mod Patterns
 pub mod TableFile
 pub mod Dispatcher
 pub mod History

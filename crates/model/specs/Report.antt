@@ -1,9 +1,10 @@
--- The report on an answer, byte for byte; the exported call; the program's output.
-use Rattle.model.specs.Notation.{List, [], _++_, cond, _≡_, ℕ, zero, suc, _+_, _*_, ltb, getD, length, drop, text, decimal}
-use Rattle.model.specs.Values.{Refusal, Verdict, Outcome, Answer, Admission, Loaded, refusal}
+-- The report on an answer, byte for byte; the exported calls on a file; the program's output.
+use Rattle.model.specs.Notation.{List, [], _++_, Bool, true, false, cond, _≡_, ℕ, zero, suc, _+_, _*_, ltb, getD, length, drop, text, decimal}
+use Rattle.model.specs.Values.{Refusal, Verdict, Outcome, Answer, QuickAnswer, Admission, Loaded, refusal}
 use Rattle.model.specs.Limits.{reportBytes}
-use Rattle.model.specs.TableFile.{loadedFrom}
+use Rattle.model.specs.TableFile.{formOf, loadedFrom}
 use Rattle.model.specs.Verdict.{Permitted}
+use Rattle.model.specs.Patterns.{quickPass, quickAnswer}
 
 -- A line of the report.
 abbrev pub line : List ℕ → List ℕ
@@ -15,6 +16,11 @@ verdictWord Verdict.Passes = text "passes"
 verdictWord Verdict.Overload = text "overload"
 verdictWord (Verdict.Late from to asked) = text "late"
 verdictWord Verdict.Undecided = text "undecided"
+
+-- The word of the quick test: whether it passes.
+abbrev pub quickWord : Bool → List ℕ
+quickWord true = text "pass"
+quickWord false = text "none"
 
 -- The worst response of each of the first n tasks.
 unfoldable pub worstLines : List ℕ → ℕ → List ℕ
@@ -28,11 +34,12 @@ details n a Verdict.Overload = []
 details n a (Verdict.Late from to asked) = line (text "interval " ++ decimal from ++ text " " ++ decimal to ++ text " demand " ++ decimal asked)
 details n a Verdict.Undecided = []
 
--- The report of a verdict on a table of n tasks.
-unfoldable pub reportOf : ℕ → Answer → Verdict → List ℕ
-reportOf n a v =
+-- The report of a verdict on a table of n tasks, which the quick test passes or not.
+unfoldable pub reportOf : ℕ → Bool → Answer → Verdict → List ℕ
+reportOf n quick a v =
     line (text "tasks " ++ decimal n)
     ++ line (text "load " ++ decimal (a .measure .load) ++ text "/" ++ decimal (a .measure .round))
+    ++ line (text "quick " ++ quickWord quick)
     ++ line (text "horizon " ++ decimal (a .measure .horizon))
     ++ line (text "verdict " ++ verdictWord v)
     ++ line (text "settled " ++ decimal (a .settled))
@@ -44,28 +51,40 @@ pub record Exported : Type 0 where
   pub buffer : List ℕ
 
 -- A refusal is 65,536 · number + place, and writes nowhere.
+abbrev pub refusalNumber : Refusal → ℕ
+refusalNumber r = 65536 * r .number + r .place
+
 abbrev pub refused : Refusal → List ℕ → Exported
-refused r buffer = record { number = 65536 * r .number + r .place; buffer = buffer }
+refused r buffer = record { number = refusalNumber r; buffer = buffer }
 
 -- A report is written from the front of the buffer, and its length returned. Bytes behind it stay as found.
 abbrev pub written : List ℕ → List ℕ → Exported
 written report buffer = record { number = length report; buffer = report ++ drop (length report) buffer }
 
 -- What an outcome is told as: `refuse` of its refusal, or `tell` of the report on it.
-abbrev pub outcomeTold : {A : Type 0} → (Refusal → A) → (List ℕ → A) → ℕ → Answer → Outcome → A
-outcomeTold refuse tell n a (Outcome.Refused r) = refuse r
-outcomeTold refuse tell n a (Outcome.Tested v) = tell (reportOf n a v)
+abbrev pub outcomeTold : {A : Type 0} → (Refusal → A) → (List ℕ → A) → ℕ → Bool → Answer → Outcome → A
+outcomeTold refuse tell n quick a (Outcome.Refused r) = refuse r
+outcomeTold refuse tell n quick a (Outcome.Tested v) = tell (reportOf n quick a v)
 
 -- What a file may be told as: the refusal of its form or table, or of a short buffer, or the outcome of the permitted answer.
 abbrev pub FileTold : {A : Type 0} → (Refusal → A) → (List ℕ → A) → Loaded → A → Admission → Type 0
 FileTold refuse tell l x (Admission.Refused r) = x ≡ refuse r
-FileTold refuse tell l x Admission.Admitted = (a : Answer) × Permitted (l .table) (l .budget) a × (x ≡ outcomeTold refuse tell (l .table .count) a (a .outcome))
+FileTold refuse tell l x Admission.Admitted = (a : Answer) × Permitted (l .table) (l .budget) a × (x ≡ outcomeTold refuse tell (l .table .count) (quickPass (l .table)) a (a .outcome))
 
 -- The one permitted result of the exported call on any file and any buffer. A short buffer is refused by 30 before all else.
 abbrev pub Checked : List ℕ → List ℕ → Exported → Type 0
 Checked file buffer e =
     let admission = cond (ltb (length buffer) reportBytes) (Admission.Refused (refusal 30 (length buffer))) (loadedFrom file .admission) in
     FileTold (λ r. refused r buffer) (λ report. written report buffer) (loadedFrom file) e admission
+
+-- The number that the exported quick test returns on any file: 1 for pass, 0 for no answer, or the refusal of its form or table.
+abbrev pub quickNumber : QuickAnswer → ℕ
+quickNumber (QuickAnswer.Refused r) = refusalNumber r
+quickNumber QuickAnswer.Pass = 1
+quickNumber QuickAnswer.NoAnswer = 0
+
+abbrev pub quickExported : List ℕ → ℕ
+quickExported file = elim (formOf file .admission) [ Admission.Refused r ↦ refusalNumber r | Admission.Admitted ↦ quickNumber (quickAnswer (formOf file .table)) ]
 
 -- The line that names a refusal.
 abbrev pub refusalLine : Refusal → List ℕ

@@ -8,6 +8,7 @@ pub use Rattle.values.specs.declared.Judgement.{Judgement}
 pub use Rattle.values.specs.declared.Verdict.{Verdict}
 pub use Rattle.values.specs.declared.Outcome.{Outcome}
 pub use Rattle.values.specs.declared.Answer.{Answer}
+pub use Rattle.values.specs.declared.QuickAnswer.{QuickAnswer}
 pub use Rattle.values.specs.declared.Admission.{Admission}
 pub use Rattle.values.specs.declared.Loaded.{Loaded}
 pub use Rattle.values.specs.declared.Writing.{Writing}

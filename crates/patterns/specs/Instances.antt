@@ -1,35 +1,54 @@
--- NO THEOREM OF THIS CRATE IS EMPTY: table g meets what they ask for.
+-- NO THEOREM OF THIS CRATE IS EMPTY: tables b, d and g meet what they ask for.
 use mathlib.Core.Path.{_≡_, refl}
+use mathlib.Core.Bool.{false}
 use Prim.Native.Nat.{ℕ, _-_, _≤_, _<_}
 use native.Mathlib.Omega.{arith}
-use lib.Dec.{T, lit≤}
+use lib.Dec.{T, lit≤, lit<}
+use Rattle.values.specs.declared.Judgement.{Judgement}
 use Rattle.values.specs.declared.Verdict.{Verdict}
-use Rattle.model.specs.Notation.{sum, largest, count, first, last, Least}
+use Rattle.model.specs.Notation.{sum, largest, count, first, fill, Least}
 use Rattle.model.specs.Tasks.{taskFault, firstFaulty, round, load, horizon, judged}
 use Rattle.model.specs.Demand.{jobsIn, demand, lateAt}
 use Rattle.model.specs.Run.{tieOrder, choose, ownerOf, served}
-use Rattle.model.specs.Verdict.{needed, lateStart, verdict}
-use Rattle.model.specs.Idle.{idleAt, firstIdle}
-use Rattle.model.specs.Examples.{table-g}
+use Rattle.model.specs.Verdict.{needed, verdict}
+use Rattle.model.specs.Dispatcher.{startOf, after, ownerNow}
+use Rattle.model.specs.History.{stateAt}
+use Rattle.model.specs.Idle.{idleAt, firstIdle, missedAt}
+use Rattle.model.specs.Patterns.{startingAt, calm, simultaneous, quickPass}
+use Rattle.model.specs.Examples.{table-b, table-d, table-g}
+use Rattle.counting.specs.Search.{first-before}
 use Rattle.wellformed.specs.Ranges.{Ranged}
 use Rattle.wellformed.specs.WellFormed.{well-formed}
-use Rattle.backlog.specs.System.{Ranks}
+use Rattle.backlog.specs.System.{System, Ranks, jobs, dues}
 use Rattle.backlog.specs.TableSystem.{tieSystem, tie-ranks}
 use Rattle.backlog.specs.TooMuch.{never-iff}
-use Rattle.backlog.specs.Passes.{never-of-passed}
+use Rattle.backlog.specs.ModelRun.{servedOf, model-run}
+use Rattle.backlog.specs.Criterion.{late-iff-over}
+use Rattle.backlog.specs.EveryInstant.{over-iff}
+use Rattle.backlog.specs.Needed.{none-before}
+use Rattle.backlog.specs.Feasible.{Feasible}
 use Rattle.backlog.specs.Walk.{Clear}
 use Rattle.patterns.specs.IdleInstants.{CaughtUp, idle-iff}
 use Rattle.patterns.specs.FirstIdle.{first-idle, passed-idle, first-any-order}
 use Rattle.patterns.specs.WalkIdle.{noneLeft, walk-idle}
+use Rattle.patterns.specs.WalkCalm.{walk-calm, walk-not-calm}
+use Rattle.patterns.specs.Pulled.{pulled-late}
+use Rattle.patterns.specs.Missed.{missed-late}
+use Rattle.patterns.specs.Starting.{starting-well-formed}
+use Rattle.patterns.specs.Quick.{quick-passes, quick-never, quick-iff}
 
--- Table g has load exactly 1, and passes.
+-- Table g has load exactly 1 and passes quickly, so the exact test passes it.
 g-ranged : Ranged table-g
 unfolding judged firstFaulty taskFault first round load horizon largest sum count
 g-ranged = well-formed table-g (record { round = 4; load = 4; horizon = 8 }) refl .ranged
 
+g-quick : T (quickPass table-g)
+unfolding quickPass calm startingAt fill firstIdle idleAt missedAt first round load sum count served ownerOf choose
+g-quick = tt
+
 g-passes : verdict table-g 8 ≡ Verdict.Passes
-unfolding verdict needed lateStart lateAt first last round load horizon largest sum count demand jobsIn
-g-passes = refl
+unfolding horizon largest round first count
+g-passes = quick-passes table-g g-ranged g-quick 8 (lit≤ tt)
 
 -- Its first idle instant is 4, in the other order of its two tasks too.
 g-reversed : Ranks table-g (λ i. 1 - i)
@@ -50,10 +69,57 @@ g-caught-up : CaughtUp (tieSystem table-g g-ranged) 4
 unfolding idleAt served ownerOf choose count
 g-caught-up = idle-iff (tieSystem table-g g-ranged) 4 .0 tt
 
--- A walk finds it.
+-- A walk finds it, and that the table is calm.
 g-clear : (n : ℕ) → Clear table-g n
-g-clear n u l = never-iff table-g .0 (never-of-passed table-g g-ranged 8 g-passes .1) u
+g-clear n u l = never-iff table-g .0 (quick-never table-g g-ranged g-quick) u
 
 g-walk-idle : first (noneLeft table-g) 1 8 ≡ firstIdle table-g (tieOrder table-g)
 unfolding round load first sum count
 g-walk-idle = walk-idle table-g g-ranged (lit≤ tt) (g-clear (firstIdle table-g (tieOrder table-g))) 8 (lit≤ tt)
+
+g-walk-calm : T (calm table-g)
+unfolding round load first sum count stateAt startOf after ownerNow choose fill
+g-walk-calm = walk-calm table-g g-ranged (lit≤ tt) 4 (lit< tt) (g-clear 4) tt
+
+-- Table b does not pass quickly: with all offsets 0 it is well-formed, and is table d, which has no good schedule.
+b-ranged : Ranged table-b
+unfolding judged firstFaulty taskFault first round load horizon largest sum count
+b-ranged = well-formed table-b (record { round = 15; load = 11; horizon = 38 }) refl .ranged
+
+b-not-quick : quickPass table-b ≡ false
+unfolding quickPass calm startingAt fill firstIdle idleAt missedAt first round load sum count served ownerOf choose
+b-not-quick = refl
+
+b-simultaneous : judged (simultaneous table-b) ≡ Judgement.WellFormed (record { round = 15; load = 11; horizon = 30 })
+unfolding judged firstFaulty taskFault first round load horizon largest sum count startingAt fill
+b-simultaneous = starting-well-formed table-b (record { round = 15; load = 11; horizon = 38 }) (λ i. 0) refl (λ i l. omega arith)
+
+d-infeasible : Feasible table-d → ⊥
+unfolding quickPass calm startingAt fill firstIdle idleAt missedAt first round load sum count served ownerOf choose
+d-infeasible h = quick-iff table-b b-ranged .1 h
+
+-- Table d is late first at 7, before a walk of it has nothing left, and so is not calm.
+d-ranged : Ranged table-d
+unfolding judged firstFaulty taskFault first round load horizon largest sum count
+d-ranged = well-formed table-d (record { round = 15; load = 11; horizon = 30 }) refl .ranged
+
+d-clear : Clear table-d 7
+unfolding needed lateAt first round horizon largest sum count demand jobsIn
+d-clear u l = none-before table-d u l
+
+d-not-calm : T (calm table-d) → ⊥
+unfolding lateAt first round load sum count demand jobsIn stateAt startOf after ownerNow choose fill
+d-not-calm = walk-not-calm table-d d-ranged (lit≤ tt) 7 d-clear (λ n a b. first-before (noneLeft table-d) 1 6 n a (omega arith)) tt
+
+-- Its run has missed that deadline by then.
+d-missed : T (missedAt table-d (tieOrder table-d) 7)
+unfolding lateAt sum count demand jobsIn
+d-missed = rw (missed-late (tieSystem table-d d-ranged) 7) tt
+
+-- As a pattern of itself it misses it while it waits.
+d-pulled : (from : ℕ) × (from < 7)
+unfolding lateAt first round load sum count demand jobsIn
+d-pulled =
+    let S : System = tieSystem table-d d-ranged in
+    let (from, l, rest) = pulled-late (jobs S) (dues S) (servedOf S) (model-run S) 7 (late-iff-over (jobs S) (dues S) (servedOf S) (model-run S) 7 .1 (over-iff S 7 .0 tt)) in
+    (from, l)

@@ -1,9 +1,16 @@
--- Any streams of jobs: all that waits.
+-- Any streams of jobs: all that waits, and streams pulled back.
 pub mod Waiting
 pub mod IdleSoon
--- Idle instants.
+pub mod Pulled
+-- Idle instants, and deadlines that are missed.
 pub mod IdleInstants
 pub mod FirstIdle
 pub mod WalkIdle
+pub mod Missed
+-- Calm patterns and the quick test.
+pub mod Starting
+pub mod Calm
+pub mod WalkCalm
+pub mod Quick
 -- No theorem is empty.
 pub mod Instances

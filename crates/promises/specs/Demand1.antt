@@ -33,6 +33,7 @@ use Rattle.dispatch.specs.declared.Dispatcher.{Dispatcher}
 use Rattle.dispatch.specs.declared.Started.{Started}
 use Rattle.dispatch.specs.declared.Stepped.{Stepped}
 use Rattle.dispatch.specs.State.{stateOf, startedOf, steppedOf, one-started, one-stepped}
+use Rattle.model.specs.Patterns.{quickPass}
 use Rattle.model.specs.Report.{reportOf, Exported, refused, written, outcomeTold, FileTold, Checked, refusalLine, Printed}
 use Rattle.model.specs.Notation.{count, first, bits}
 use Rattle.wellformed.specs.Ranges.{InRange, Ranged}
@@ -112,7 +113,7 @@ told-once refuse tell l x y Admission.Admitted (a, p, e) (b, q, f) = let s : a �
 
 told-some : {A : Type 0} (refuse : Refusal → A) (tell : List ℕ → A) (l : Loaded) (a : Admission) → (x : A) × FileTold refuse tell l x a
 told-some refuse tell l (Admission.Refused r) = (refuse r, refl)
-told-some refuse tell l Admission.Admitted = let a = answerOf (l .table) (l .budget) in (outcomeTold refuse tell (l .table .count) a (a .outcome), (a, computed (l .table) (l .budget), refl))
+told-some refuse tell l Admission.Admitted = let a = answerOf (l .table) (l .budget) in (outcomeTold refuse tell (l .table .count) (quickPass (l .table)) a (a .outcome), (a, computed (l .table) (l .budget), refl))
 
 told-refused : {A : Type 0} (refuse : Refusal → A) (tell : List ℕ → A) (l : Loaded) (x : A) (r : Refusal) (a : Admission) → a ≡ Admission.Refused r → FileTold refuse tell l x a → x ≡ refuse r
 told-refused refuse tell l x r (Admission.Refused w) q e = let s : w ≡ r = cc in e ∙ rw s
@@ -131,15 +132,15 @@ some-export file buffer = told-some (λ r. refused r buffer) (λ s. written s bu
 
 -- What is returned and left is that of the report on the permitted answer.
 abbrev pub Reported : Loaded → List ℕ → Exported → Type 0
-Reported l buffer e = (a : Answer) × (v : Verdict) × Permitted (l .table) (l .budget) a × (a .outcome ≡ Outcome.Tested v) × (e ≡ written (reportOf (l .table .count) a v) buffer) × (length (reportOf (l .table .count) a v) ≤ reportBytes)
+Reported l buffer e = (a : Answer) × (v : Verdict) × Permitted (l .table) (l .budget) a × (a .outcome ≡ Outcome.Tested v) × (e ≡ written (reportOf (l .table .count) (quickPass (l .table)) a v) buffer) × (length (reportOf (l .table .count) (quickPass (l .table)) a v) ≤ reportBytes)
 
-outcome-apart : (l : Loaded) (buffer : List ℕ) (a : Answer) → Permitted (l .table) (l .budget) a → (o : Outcome) → a .outcome ≡ o → Fitting (l .table .count) a o → Apart (Reported l buffer) buffer (outcomeTold (λ r. refused r buffer) (λ s. written s buffer) (l .table .count) a o)
+outcome-apart : (l : Loaded) (buffer : List ℕ) (a : Answer) → Permitted (l .table) (l .budget) a → (o : Outcome) → a .outcome ≡ o → Fitting (l .table .count) (quickPass (l .table)) a o → Apart (Reported l buffer) buffer (outcomeTold (λ r. refused r buffer) (λ s. written s buffer) (l .table .count) (quickPass (l .table)) a o)
 outcome-apart l buffer a p (Outcome.Refused r) q h = inr (r, refl, h)
 outcome-apart l buffer a p (Outcome.Tested v) q h = inl (a, v, p, q, refl, h)
 
 told-apart : (buffer : List ℕ) (l : Loaded) (e : Exported) (a : Admission) → AdmissionTellable a → FileTold (λ r. refused r buffer) (λ s. written s buffer) l e a → Apart (Reported l buffer) buffer e
 told-apart buffer l e (Admission.Refused r) h q = inr (r, q, h)
-told-apart buffer l e Admission.Admitted h (a, p, q) = rw q (outcome-apart l buffer a p (a .outcome) refl (permitted-fits (l .table) (l .budget) a p))
+told-apart buffer l e Admission.Admitted h (a, p, q) = rw q (outcome-apart l buffer a p (a .outcome) refl (permitted-fits (l .table) (l .budget) (quickPass (l .table)) a p))
 
 -- The exported call writes the report on the permitted answer, of at most 512 bytes, and returns its length, or it refuses by a
 -- number above 0 and a place below 65,536 and changes no byte.
@@ -160,10 +161,10 @@ reported-export file buffer e long good = told (taken file buffer) (rw long good
     tested : (a : Answer) → Permitted (l .table) (l .budget) a → a .outcome ≡ Outcome.Tested (verdict (l .table) (l .budget))
     tested a p = let (same, (m, well)) = admitted file good in answer-exactly (l .table) m (rw same well) (l .budget) a p .outcome
 
-    report : (a : Answer) (v : Verdict) → Permitted (l .table) (l .budget) a → a .outcome ≡ Outcome.Tested v → e ≡ outcomeTold (λ r. refused r buffer) (λ s. written s buffer) (l .table .count) a (a .outcome) → Reported l buffer e
+    report : (a : Answer) (v : Verdict) → Permitted (l .table) (l .budget) a → a .outcome ≡ Outcome.Tested v → e ≡ outcomeTold (λ r. refused r buffer) (λ s. written s buffer) (l .table .count) (quickPass (l .table)) a (a .outcome) → Reported l buffer e
     report a v p o q =
-        let fit : Fitting (l .table .count) a (Outcome.Tested v) = subst (Fitting (l .table .count) a) o (permitted-fits (l .table) (l .budget) a p) in
-        (a, v, p, o, q ∙ ap (outcomeTold (λ r. refused r buffer) (λ s. written s buffer) (l .table .count) a) o, fit)
+        let fit : Fitting (l .table .count) (quickPass (l .table)) a (Outcome.Tested v) = subst (Fitting (l .table .count) (quickPass (l .table)) a) o (permitted-fits (l .table) (l .budget) (quickPass (l .table)) a p) in
+        (a, v, p, o, q ∙ ap (outcomeTold (λ r. refused r buffer) (λ s. written s buffer) (l .table .count) (quickPass (l .table)) a) o, fit)
 
     told : (a : Admission) → a ≡ Admission.Admitted → FileTold (λ r. refused r buffer) (λ s. written s buffer) l e a → Reported l buffer e
     told (Admission.Refused r) q h = let z : _≡_ {A = ℕ} 0 1 = cc in absurd (omega arith)

@@ -6,3 +6,4 @@ pub mod Tables
 pub mod Camera
 pub mod Writer
 pub mod PlainText
+pub mod QuickTests

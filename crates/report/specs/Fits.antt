@@ -1,4 +1,5 @@
 -- How many bytes each part of a report takes at most, and that a report takes at most the bytes of a report buffer.
+use mathlib.Core.Bool.{Bool, true, false}
 use mathlib.Core.List.{List, _++_}
 use Prim.Native.Nat.{ℕ, zero, suc, _+_, _*_, _-_, _^_, _≤_, _<_}
 use native.Mathlib.Omega.{arith}
@@ -7,10 +8,13 @@ use Rattle.values.specs.declared.Answer.{Answer}
 use Rattle.values.specs.declared.Verdict.{Verdict}
 use Rattle.model.specs.Limits.{taskLimit, reportBytes}
 use Rattle.model.specs.Notation.{text, decimal}
-use Rattle.model.specs.Report.{line, verdictWord, worstLines, details, reportOf}
+use Rattle.model.specs.Report.{line, quickWord, verdictWord, worstLines, details, reportOf}
 use Rattle.text.specs.Decimal.{numberBytes, short, wide}
 
--- The lines `verdict undecided`, `worst 15 ..` with a number of 32 bits, and `interval .. .. demand ..`.
+-- The lines `quick pass` or `quick none`, `verdict undecided`, `worst 15 ..` with a number of 32 bits, and `interval .. .. demand ..`.
+abbrev pub quickBytes : ℕ
+quickBytes = 11
+
 abbrev pub verdictBytes : ℕ
 verdictBytes = 18
 
@@ -59,6 +63,11 @@ lines-short w (suc n) h f =
     rw length-append
     (omega (arith, lines-short w n (omega arith) (λ k l. f k (omega arith)), worst-short n (getD w n 0) (omega arith) (f n (omega arith))))
 
+quick-short : (b : Bool) → length (quickWord b) ≤ 4
+unfolding text
+quick-short true = omega arith
+quick-short false = omega arith
+
 verdict-short : (v : Verdict) → length (verdictWord v) ≤ 9
 unfolding text
 verdict-short Verdict.Passes = omega arith
@@ -75,15 +84,16 @@ details-short n a (Verdict.Late from to asked) p =
 details-short n a Verdict.Undecided p = omega arith
 
 -- A report fits a report buffer.
-pub fits : (n : ℕ) (a : Answer) (v : Verdict) → Printable n a v → length (reportOf n a v) ≤ reportBytes
+pub fits : (n : ℕ) (quick : Bool) (a : Answer) (v : Verdict) → Printable n a v → length (reportOf n quick a v) ≤ reportBytes
 unfolding reportOf text
-fits n a v p =
+fits n quick a v p =
     simp length-append
     (omega (
       arith,
       short 1 n (omega arith),
       wide (a .measure .load) (p .load),
       wide (a .measure .round) (p .round),
+      quick-short quick,
       wide (a .measure .horizon) (p .horizon),
       wide (a .settled) (p .settled),
       verdict-short v,

@@ -1,5 +1,6 @@
 -- What a permitted answer tells: a refusal of which number and place can be told, or a verdict whose report fits a report buffer.
 use mathlib.Core.Path.{_≡_, refl, sym, subst}
+use mathlib.Core.Bool.{Bool}
 use mathlib.Core.List.{List}
 use Prim.Native.Nat.{ℕ, _^_, _≤_, _<_}
 use native.Mathlib.Nat.{mul-le-mul}
@@ -108,15 +109,15 @@ module _ (t : Table) (m : Measure) (well : WellFormed t m) where
         go Verdict.Undecided e f x = rw f (brief-printable Verdict.Undecided x)
 
 -- A refusal is tellable, and the report of a verdict fits.
-abbrev pub Fitting : ℕ → Answer → Outcome → Type 0
-Fitting n a (Outcome.Refused r) = Tellable r
-Fitting n a (Outcome.Tested v) = length (reportOf n a v) ≤ reportBytes
+abbrev pub Fitting : ℕ → Bool → Answer → Outcome → Type 0
+Fitting n quick a (Outcome.Refused r) = Tellable r
+Fitting n quick a (Outcome.Tested v) = length (reportOf n quick a v) ≤ reportBytes
 
-pub permitted-fits : (t : Table) (budget : ℕ) (a : Answer) → Permitted t budget a → Fitting (t .count) a (a .outcome)
+pub permitted-fits : (t : Table) (budget : ℕ) (quick : Bool) (a : Answer) → Permitted t budget a → Fitting (t .count) quick a (a .outcome)
 unfolding Permitted
-permitted-fits t budget a p = go (judged t) refl p (judged-tellable t)
+permitted-fits t budget quick a p = go (judged t) refl p (judged-tellable t)
   where
-    go : (j : Judgement) → judged t ≡ j → PermittedBy t budget a j → JudgementTellable j → Fitting (t .count) a (a .outcome)
+    go : (j : Judgement) → judged t ≡ j → PermittedBy t budget a j → JudgementTellable j → Fitting (t .count) quick a (a .outcome)
     go (Judgement.Refused r) q f h = rw f h
     go (Judgement.WellFormed m) q f h =
-        subst (Fitting (t .count) a) (sym (answers-say t budget m a (verdict t budget) f .0)) (fits (t .count) a (verdict t budget) (printable t m (well-formed t m q) budget a (verdict t budget) refl f))
+        subst (Fitting (t .count) quick a) (sym (answers-say t budget m a (verdict t budget) f .0)) (fits (t .count) quick a (verdict t budget) (printable t m (well-formed t m q) budget a (verdict t budget) refl f))

@@ -5,24 +5,31 @@ ghost use Prim.Native.Nat.{_+_, _*_, _<_, _≤_};
 ghost use lib.ListN.{length};
 ghost use Rattle.model.specs.Limits.{taskLimit, reportBytes};
 ghost use Rattle.model.specs.Notation.{text, decimal};
-ghost use Rattle.model.specs.Report.{line, verdictWord, worstLines, details, reportOf, refusalLine, written};
+ghost use Rattle.model.specs.Report.{line, quickWord, verdictWord, worstLines, details, reportOf, refusalLine, written};
 ghost use Rattle.counting.specs.Put.{Put};
 ghost use Rattle.report.specs.Put.{exported};
-ghost use Rattle.report.specs.Fits.{verdictBytes, worstBytes, worstRoom, intervalBytes, detailsBytes};
+ghost use Rattle.report.specs.Fits.{quickBytes, verdictBytes, worstBytes, worstRoom, intervalBytes, detailsBytes};
 use values::Answer;
 use values::Refusal;
 use values::TASK_LIMIT;
 use values::Verdict;
 
-pub fn write_report(buffer: &mut [u8], tasks: usize, answer: Answer, verdict: Verdict) -> usize
+pub fn write_report(
+    buffer: &mut [u8],
+    tasks: usize,
+    quick: bool,
+    answer: Answer,
+    verdict: Verdict,
+) -> usize
     requires { ⌜ tasks ≤ taskLimit ⌝ }
     requires { ⌜ reportBytes ≤ length (now buffer) ⌝ }
-    ensures { λ r. ⌜ exported r (now (buffer .exit)) ≡ written (reportOf tasks answer verdict) (now (buffer .entry)) ⌝ }
+    ensures { λ r. ⌜ exported r (now (buffer .exit)) ≡ written (reportOf tasks quick answer verdict) (now (buffer .entry)) ⌝ }
     ensures { λ r. ⌜ r ≤ reportBytes ⌝ }
 {
     let measure = answer.measure;
     let at = text::put_line(buffer, 0, b"tasks ", tasks as u64);
     let at = text::put_pair(buffer, at, b"load ", measure.load, b"/", measure.round);
+    let at = put_quick(buffer, at, quick);
     let at = text::put_line(buffer, at, b"horizon ", measure.horizon);
     let at = put_verdict(buffer, at, verdict);
     let at = text::put_line(buffer, at, b"settled ", answer.settled);
@@ -37,6 +44,18 @@ pub fn write_refusal(buffer: &mut [u8], refusal: Refusal) -> usize
     let number = refusal.number as u64;
     let place = refusal.place as u64;
     text::put_pair(buffer, 0, b"refused ", number, b" at ", place)
+}
+
+fn put_quick(buffer: &mut [u8], at: usize, quick: bool) -> usize
+    requires { ⌜ at + quickBytes ≤ length (now buffer) ⌝ }
+    ensures { λ r. ⌜ Put (line (text "quick " ++ quickWord quick)) at (now (buffer .entry)) (now (buffer .exit)) r ⌝ }
+    ensures { λ r. ⌜ r ≤ at + quickBytes ⌝ }
+{
+    if quick {
+        text::put_text(buffer, at, b"quick pass\n")
+    } else {
+        text::put_text(buffer, at, b"quick none\n")
+    }
 }
 
 fn put_verdict(buffer: &mut [u8], at: usize, verdict: Verdict) -> usize

@@ -27,10 +27,11 @@ pub admitted : (file : List ℕ) → loadedFrom file .admission ≡ Admission.Ad
 unfolding loadedFrom
 admitted file = admitted-form (formOf file) (formOf file .admission) refl
 
+pub well-table : (file : List ℕ) {l : Loaded} → l ≡ loadedFrom file → l .admission ≡ Admission.Admitted → (m : Measure) × (judged (l .table) ≡ Judgement.WellFormed m)
+well-table file same h = let (e, well) = admitted file (rw (← same) h) in rw (same, e) well
+
 pub few-tasks : (file : List ℕ) {l : Loaded} → l ≡ loadedFrom file → l .admission ≡ Admission.Admitted → l .table .count ≤ taskLimit
-few-tasks file same h =
-    let (e, (m, well)) = admitted file (rw (← same) h) in
-    rw (same, e) (well-formed _ m well .ranged .few)
+few-tasks file same h = let (m, well) = well-table file same h in well-formed _ m well .ranged .few
 
 refused-table : (l : Loaded) (r : Refusal) (j : Judgement) → judged (l .table) ≡ j → l .admission ≡ Admission.Admitted → judgedTable l j .admission ≡ Admission.Refused r → judged (l .table) ≡ Judgement.Refused r
 refused-table l r (Judgement.Refused w) e f h = let s : w ≡ r = cc in e ∙ ap Judgement.Refused s

@@ -69,6 +69,13 @@ pub struct Answer {
     pub idle: u64,
 }
 
+// What the quick test says: a refusal, pass, or no answer.
+pub enum QuickAnswer {
+    Refused(Refusal),
+    Pass,
+    NoAnswer,
+}
+
 // Whether a buffer, a file, or a table to start with, is taken.
 pub enum Admission {
     Refused(Refusal),

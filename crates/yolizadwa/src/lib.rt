@@ -1,4 +1,5 @@
-// The exported calls: the check of a table file into a report buffer, the writer of one, texts, and the start and the step of a camera's own loop.
+// The exported calls: the check of a table file into a report buffer, the quick test of one, the writer of one, texts, and the
+// start and the step of a camera's own loop.
 ghost use mathlib.Core.Path.{_≡_};
 ghost use mathlib.Core.Bool.{not};
 ghost use Prim.Native.Nat.{_+_, _*_, _<_, _≤_, min};
@@ -7,7 +8,7 @@ ghost use lib.ListN.{length};
 ghost use Rattle.model.specs.Limits.{taskLimit, reportBytes};
 ghost use Rattle.model.specs.TableFile.{loadedFrom};
 ghost use Rattle.model.specs.Dispatcher.{started, stepped};
-ghost use Rattle.model.specs.Report.{Checked};
+ghost use Rattle.model.specs.Report.{quickNumber, quickExported, Checked};
 ghost use Rattle.model.specs.StateBuffer.{stateBytes, stateIn, quiet, startWritten, stepWritten, startExported, stepExported};
 ghost use Rattle.model.specs.Writer.{writeExported};
 ghost use Rattle.model.specs.PlainText.{fromTextExported, toTextExported};
@@ -19,6 +20,7 @@ use values::Admission;
 use values::Answer;
 use values::Given;
 use values::Outcome;
+use values::QuickAnswer;
 use values::REPORT_BYTES;
 use values::Refusal;
 use values::STATE_BYTES;
@@ -52,15 +54,17 @@ fn refused_buffer(bytes: usize) -> u64
     })
 }
 
-fn export_answer(answer: Answer, tasks: usize, buffer: &mut [u8]) -> u64
+fn export_answer(answer: Answer, tasks: usize, quick: bool, buffer: &mut [u8]) -> u64
     requires { ⌜ tasks ≤ taskLimit ⌝ }
     requires { ⌜ reportBytes ≤ length (now buffer) ⌝ }
-    ensures { λ r. ⌜ exported r (now (buffer .exit)) ≡ exportOf tasks answer (now (buffer .entry)) (answer .outcome) ⌝ }
+    ensures { λ r. ⌜ exported r (now (buffer .exit)) ≡ exportOf tasks quick answer (now (buffer .entry)) (answer .outcome) ⌝ }
 {
     let outcome = answer.outcome;
     match outcome {
         Outcome::Refused(why) => refused(why),
-        Outcome::Tested(verdict) => report::write_report(buffer, tasks, answer, verdict) as u64,
+        Outcome::Tested(verdict) => {
+            report::write_report(buffer, tasks, quick, answer, verdict) as u64
+        }
     }
 }
 
@@ -75,7 +79,8 @@ fn check_file(file: &[u8], buffer: &mut [u8]) -> u64
         Admission::Admitted => {
             let table = loaded.table;
             let answer = exact::test(table, loaded.budget);
-            export_answer(answer, table.count, buffer)
+            let quick = quick::is_pass(quick::test(table));
+            export_answer(answer, table.count, quick, buffer)
         }
     }
 }
@@ -89,6 +94,32 @@ pub extern "C" fn yolizadwa_check(file: &[u8], report: &mut [u8]) -> u64
         return refused_buffer(report.len());
     }
     check_file(file, report)
+}
+
+fn quick_number(answer: QuickAnswer) -> u64
+    ensures { λ r. ⌜ r ≡ quickNumber answer ⌝ }
+{
+    match answer {
+        QuickAnswer::Refused(why) => refused(why),
+        QuickAnswer::Pass => 1,
+        QuickAnswer::NoAnswer => 0,
+    }
+}
+
+// Any file: its form is looked at before its table.
+#[no_mangle]
+pub extern "C" fn yolizadwa_quick(file: &[u8]) -> u64
+    ensures { λ r. ⌜ r ≡ quickExported (now (file .entry)) ⌝ }
+{
+    let form = tablefile::form_of(file);
+    let admission = form.admission;
+    match admission {
+        Admission::Refused(why) => refused(why),
+        Admission::Admitted => {
+            let table = form.table;
+            quick_number(quick::test(table))
+        }
+    }
 }
 
 fn strange_length(bytes: usize) -> bool

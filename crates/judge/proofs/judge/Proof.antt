@@ -1,7 +1,9 @@
 -- Each return rewrites with what the file turned out to be.
 use borrow.Author.Needs.{needs}
 use Rattle.model.specs.Report.{refusalLine, outcomeTold}
-use Rattle.tablefile.specs.Admitted.{few-tasks}
+use Rattle.model.specs.Patterns.{quickPass}
+use Rattle.tablefile.specs.Admitted.{well-table, few-tasks}
+use Rattle.quick.specs.Answers.{told-pass}
 use Rattle.judge.specs.Front.{front, counted}
 use Rattle.judge.proofs.judge.Statement.{statement}
 use Rattle.judge.proofs.judge.Tie as tie
@@ -21,9 +23,15 @@ enum-told c = search needs
 test-requires : tie.Need-test-requires
 test-requires c κs = search needs
 
+test-requires-2 : tie.Need-test-requires-2
+test-requires-2 c κs = search needs
+
+is-pass-requires : tie.Need-is-pass-requires
+is-pass-requires c κs = search needs
+
 write-outcome-requires : tie.Need-write-outcome-requires
 write-outcome-requires c κs =
-    let told = c .before .before .before in
+    let told = c .before .before .before .before .before in
     (few-tasks _ (told .before .before .load .ensures) (told .enum-told .given .1), search needs)
 
 same-length : tie.Need-same-length
@@ -42,11 +50,16 @@ same-length-2 c = search needs
 returns-2 : tie.Need-returns-2
 returns-2 c =
     let w = c .before .before in
-    let t = w .before .before in
+    let p = w .before .before in
+    let t = p .before .before in
     let told = t .before .before in
-    let text = w .write-outcome .ensures .0 in
+    let loaded = told .before .before .load .ensures in
+    let (m, well) = well-table _ loaded (told .enum-told .given .1) in
+    let passed = told-pass _ m well (p .before .test2 .ensures) (p .is-pass .ensures) in
+    let text = rw passed at (w .write-outcome .ensures .0) in
+    let table = told .before .before .load .result .table in
     let answer = t .test .result in
-    (rw (← told .before .before .load .ensures, told .enum-told .given .1) (_, t .test .ensures, front _ _ text), counted (outcomeTold refusalLine (λ report. report) (told .before .before .load .result .table .count) answer (answer .outcome)) _ text)
+    (rw (← loaded, told .enum-told .given .1) (_, t .test .ensures, front _ _ text), counted (outcomeTold refusalLine (λ report. report) (table .count) (quickPass table) answer (answer .outcome)) _ text)
 
 pub judge-spec : {M : Type 1} → statement M
 judge-spec =
@@ -57,6 +70,8 @@ judge-spec =
     write-refusal-requires
     enum-told
     test-requires
+    test-requires-2
+    is-pass-requires
     write-outcome-requires
     same-length
     returns

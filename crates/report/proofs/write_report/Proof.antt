@@ -2,7 +2,7 @@ use mathlib.Core.List.{_++_}
 use native.Mathlib.Omega.{arith}
 use borrow.Author.Needs.{needs}
 use Rattle.model.specs.Notation.{text, decimal}
-use Rattle.model.specs.Report.{line, reportOf}
+use Rattle.model.specs.Report.{line, quickWord, reportOf}
 use Rattle.counting.specs.Put.{Put, join}
 use Rattle.report.specs.Put.{at-front}
 use Rattle.report.proofs.write_report.Statement.{statement}
@@ -22,6 +22,9 @@ slice-aggregate-put-pair-2 c = search needs
 
 put-pair-requires : tie.Need-put-pair-requires
 put-pair-requires c κs = search needs
+
+put-quick-requires : tie.Need-put-quick-requires
+put-quick-requires c κs = search needs
 
 slice-aggregate-put-line-2 : tie.Need-slice-aggregate-put-line-2
 slice-aggregate-put-line-2 c = search needs
@@ -43,12 +46,21 @@ put-details-requires c κs =
     let s = c .before .before .before in
     let v = s .before .before .before .before .before in
     let h = v .before .before .before .before in
-    let l = h .before .before .before .before .before in
+    let q = h .before .before .before .before .before in
+    let l = q .before .before .before .before in
     let t = l .before .before .before .before .before .before in
     omega (arith, t)
 
 same-length : tie.Need-same-length
-same-length c = search needs
+same-length c =
+    let d = c .before .before in
+    let s = d .before .before .before .before in
+    let v = s .before .before .before .before .before in
+    let h = v .before .before .before .before in
+    let q = h .before .before .before .before .before in
+    let l = q .before .before .before .before in
+    let t = l .before .before .before .before .before .before in
+    omega (arith, t)
 
 returns : tie.Need-returns
 unfolding reportOf text
@@ -57,12 +69,14 @@ returns c =
     let s = d .before .before .before .before in
     let v = s .before .before .before .before .before in
     let h = v .before .before .before .before in
-    let l = h .before .before .before .before .before in
+    let q = h .before .before .before .before .before in
+    let l = q .before .before .before .before in
     let t = l .before .before .before .before .before .before in
     let a = t .before .before .before .before .before .args in
     let load : Put (line (text "load " ++ decimal (a .answer .measure .load) ++ text "/" ++ decimal (a .answer .measure .round))) _ _ _ _ = l .put-pair .ensures .0 in
     let settled : Put (line (text "settled " ++ decimal (a .answer .settled))) _ _ _ _ = s .put-line3 .ensures .0 in
-    let size = join (join (t .put-line .ensures .0) load) (h .put-line2 .ensures .0) in
+    let quick : Put (line (text "quick " ++ quickWord (a .quick))) _ _ _ _ = q .put-quick .ensures .0 in
+    let size = join (join (join (t .put-line .ensures .0) load) quick) (h .put-line2 .ensures .0) in
     let all = join (join (join size (v .put-verdict .ensures .0)) settled) (d .put-details .ensures .0) in
     (at-front all (omega (arith, t)), omega (arith, t))
 
@@ -75,6 +89,7 @@ write-report-spec =
     slice-aggregate-put-pair
     slice-aggregate-put-pair-2
     put-pair-requires
+    put-quick-requires
     slice-aggregate-put-line-2
     put-line-requires-2
     put-verdict-requires

@@ -1,6 +1,7 @@
 -- Each return rewrites with what the file turned out to be.
 use borrow.Author.Needs.{needs}
-use Rattle.tablefile.specs.Admitted.{few-tasks}
+use Rattle.tablefile.specs.Admitted.{well-table, few-tasks}
+use Rattle.quick.specs.Answers.{told-pass}
 use Rattle.yolizadwa.proofs.check_file.Statement.{statement}
 use Rattle.yolizadwa.proofs.check_file.Tie as tie
 
@@ -19,9 +20,15 @@ enum-told c = search needs
 test-requires : tie.Need-test-requires
 test-requires c κs = search needs
 
+test-requires-2 : tie.Need-test-requires-2
+test-requires-2 c κs = search needs
+
+is-pass-requires : tie.Need-is-pass-requires
+is-pass-requires c κs = search needs
+
 export-answer-requires : tie.Need-export-answer-requires
 export-answer-requires c κs =
-    let told = c .before .before .before in
+    let told = c .before .before .before .before .before in
     (few-tasks _ (told .before .before .load .ensures) (told .enum-told .given .1), search needs)
 
 returns : tie.Need-returns
@@ -35,9 +42,13 @@ same-length c = search needs
 returns-2 : tie.Need-returns-2
 returns-2 c =
     let e = c .before .before in
-    let t = e .before .before in
+    let p = e .before .before in
+    let t = p .before .before in
     let told = t .before .before in
-    rw (← told .before .before .load .ensures, told .enum-told .given .1) (_, t .test .ensures, e .export-answer .ensures)
+    let loaded = told .before .before .load .ensures in
+    let (m, well) = well-table _ loaded (told .enum-told .given .1) in
+    let passed = told-pass _ m well (p .before .test2 .ensures) (p .is-pass .ensures) in
+    rw (← loaded, told .enum-told .given .1) (_, t .test .ensures, rw passed at (e .export-answer .ensures))
 
 pub check-file-spec : {M : Type 1} → statement M
 check-file-spec =
@@ -48,6 +59,8 @@ check-file-spec =
     refused-requires
     enum-told
     test-requires
+    test-requires-2
+    is-pass-requires
     export-answer-requires
     returns
     same-length

@@ -27,7 +27,7 @@ returns-2 c =
     let written = c .before .before in
     let known = written .before .before .before in
     let s = known .before .before .before .args in
-    by-outcome (s .tasks) (s .answer) _ (known .outcome2 .given .1) (written .write-report .ensures .0)
+    by-outcome (s .tasks) (s .quick) (s .answer) _ (known .outcome2 .given .1) (written .write-report .ensures .0)
 
 pub export-answer-spec : {M : Type 1} → statement M
 export-answer-spec =

@@ -1,0 +1,20 @@
+-- A well-formed table without overload, with other offsets in range, is one to walk.
+use mathlib.Core.Path.{_≡_}
+use Prim.Native.Nat.{ℕ, _≤_, _<_}
+use native.Mathlib.Omega.{arith}
+use Rattle.values.specs.declared.Table.{Table}
+use Rattle.values.specs.declared.Measure.{Measure}
+use Rattle.values.specs.declared.Judgement.{Judgement}
+use Rattle.model.specs.Limits.{slotLimit, roundLimit}
+use Rattle.model.specs.Tasks.{round, load, judged}
+use Rattle.model.specs.Patterns.{startingAt}
+use Rattle.wellformed.specs.Ranges.{Ranged}
+use Rattle.wellformed.specs.WellFormed.{judged-iff, well-formed}
+use Rattle.patterns.specs.Starting.{starting-round, starting-load, starting-ranged}
+
+pub starting-fits : (t : Table) {m : Measure} → judged t ≡ Judgement.WellFormed m → m .load ≤ m .round → (start : ℕ → ℕ) → ((i : ℕ) → i < t .count → start i ≤ slotLimit)
+    → let s = startingAt t start in Ranged s × ((load s ≤ round s) × (round s ≤ roundLimit))
+starting-fits t {m} well light start low =
+    let f = well-formed t m well in
+    let (r, h, same) = judged-iff t m .0 well in
+    (starting-ranged t r start low, (omega (arith, starting-round t r start, starting-load t r start, f .round-is, f .load-is), omega (arith, starting-round t r start)))

@@ -1,0 +1,111 @@
+-- THE QUICK TEST, T-03 of document 02: pass is said only of tables that the exact test passes.
+use mathlib.Core.Path.{_≡_, refl, sym, ap, _∙_}
+use mathlib.Core.Logic.{_⊎_, inl, inr, _↔_}
+use mathlib.Core.List.{List}
+use mathlib.Core.Bool.{Bool, true, false, cond}
+use Prim.Native.Nat.{ℕ, _≤_, _<_}
+use native.Mathlib.Omega.{arith}
+use lib.Dec.{T}
+use Rattle.values.specs.declared.Table.{Table}
+use Rattle.values.specs.declared.Refusal.{Refusal}
+use Rattle.values.specs.declared.Measure.{Measure}
+use Rattle.values.specs.declared.Judgement.{Judgement}
+use Rattle.values.specs.declared.Verdict.{Verdict}
+use Rattle.values.specs.declared.QuickAnswer.{QuickAnswer}
+use Rattle.values.specs.declared.Admission.{Admission}
+use Rattle.model.specs.Tasks.{round, load, horizon, judged}
+use Rattle.model.specs.Schedule.{Schedule, Good}
+use Rattle.model.specs.Verdict.{verdict}
+use Rattle.model.specs.TableFile.{formOf, loadedFrom}
+use Rattle.model.specs.Patterns.{simultaneous, quickPass, quickJudged, quickAnswer}
+use Rattle.model.specs.Report.{refusalNumber, quickNumber, quickExported}
+use Rattle.counting.specs.Count.{is-true, is-false}
+use Rattle.wellformed.specs.WellFormed.{well-formed}
+use Rattle.patterns.specs.Quick.{quick-light, quick-passes, quick-iff}
+use Rattle.tablefile.specs.Admitted.{admitted, refused-for}
+use Rattle.tablefile.specs.Refused.{AdmissionTellable, load-tellable}
+
+-- The quick test has one answer to every table.
+pub one-quick : (t : Table) (a b : QuickAnswer) → a ≡ quickAnswer t → b ≡ quickAnswer t → a ≡ b
+one-quick t a b e f = e ∙ sym f
+
+-- A refused table is refused by its number and place.
+pub refused-quick : (t : Table) (r : Refusal) → judged t ≡ Judgement.Refused r → quickAnswer t ≡ QuickAnswer.Refused r
+unfolding quickAnswer
+refused-quick t r e = rw e refl
+
+-- By the cases of the table and of the test: an answer of pass is a pass of a well-formed table.
+quick-case : (t : Table) (j : Judgement) → quickJudged t j ≡ QuickAnswer.Pass → ((m : Measure) × (j ≡ Judgement.WellFormed m)) × T (quickPass t)
+quick-case t (Judgement.Refused r) e = let z : _≡_ {A = ℕ} 0 1 = cc in absurd (omega arith)
+quick-case t (Judgement.WellFormed m) e = ((m, refl), go (quickPass t) e)
+  where
+    go : (b : Bool) → cond b QuickAnswer.Pass QuickAnswer.NoAnswer ≡ QuickAnswer.Pass → T b
+    go true e = tt
+    go false e = let z : _≡_ {A = ℕ} 0 1 = cc in absurd (omega arith)
+
+-- Quick pass means that the exact test passes the table, with every budget that reaches the horizon.
+pub quick-means-passes : (t : Table) → quickAnswer t ≡ QuickAnswer.Pass → (budget : ℕ) → horizon t ≤ budget → verdict t budget ≡ Verdict.Passes
+unfolding quickAnswer
+quick-means-passes t e = let ((m, well), p) = quick-case t (judged t) e in quick-passes t (well-formed t m well .ranged) p
+
+-- So does the word pass in a report, which is that of `quickPass`.
+pub quick-word-means : (t : Table) (m : Measure) → judged t ≡ Judgement.WellFormed m → T (quickPass t) → (budget : ℕ) → horizon t ≤ budget → verdict t budget ≡ Verdict.Passes
+quick-word-means t m well = quick-passes t (well-formed t m well .ranged)
+
+-- On overload there is no answer.
+pub quick-overload : (t : Table) (m : Measure) → judged t ≡ Judgement.WellFormed m → round t < load t → quickAnswer t ≡ QuickAnswer.NoAnswer
+unfolding quickAnswer
+quick-overload t m well h = rw (well, is-false (quickPass t) (λ p. absurd (omega (arith, quick-light t p)))) refl
+
+-- Exactly: it is said if the table with all offsets 0 has a good schedule, and then only. Else there is no answer: late is never said.
+pub quick-exactly : (t : Table) (m : Measure) → judged t ≡ Judgement.WellFormed m → ((quickAnswer t ≡ QuickAnswer.Pass) ↔ ((σ : Schedule) × Good (simultaneous t) σ)) × ((quickAnswer t ≡ QuickAnswer.Pass) ⊎ (quickAnswer t ≡ QuickAnswer.NoAnswer))
+unfolding quickAnswer
+quick-exactly t m well = ((λ e. exact .0 (quick-case t (judged t) e .1), λ h. rw (well, is-true (quickPass t) (exact .1 h)) refl), rw well (go (quickPass t)))
+  where
+    exact : T (quickPass t) ↔ ((σ : Schedule) × Good (simultaneous t) σ)
+    exact = quick-iff t (well-formed t m well .ranged)
+
+    go : (b : Bool) → (cond b QuickAnswer.Pass QuickAnswer.NoAnswer ≡ QuickAnswer.Pass) ⊎ (cond b QuickAnswer.Pass QuickAnswer.NoAnswer ≡ QuickAnswer.NoAnswer)
+    go true = inl refl
+    go false = inr refl
+
+-- The exported quick test has one result for every file.
+pub one-quick-export : (file : List ℕ) (a b : ℕ) → a ≡ quickExported file → b ≡ quickExported file → a ≡ b
+one-quick-export file a b e f = e ∙ sym f
+
+-- A file that is refused is refused as it is by the check, and one that is read gives its table's answer: 1 for pass, 0 for none.
+pub refused-quick-file : (file : List ℕ) (r : Refusal) → loadedFrom file .admission ≡ Admission.Refused r → quickExported file ≡ refusalNumber r
+unfolding quickAnswer
+refused-quick-file file r h = elim (refused-for file r h) [ inl f ↦ rw (f, quickExported) | inr (f, j) ↦ rw (f, quickExported, j) ]
+
+pub read-quick-file : (file : List ℕ) → loadedFrom file .admission ≡ Admission.Admitted → quickExported file ≡ quickNumber (quickAnswer (loadedFrom file .table))
+read-quick-file file h =
+    let (e, well) = admitted file h in
+    let good : formOf file .admission ≡ Admission.Admitted = rw e at h in
+    rw (e, good, quickExported) refl
+
+-- So 1 means pass, 0 none, and exactly the numbers from 65,536 on are refusals, with a number above 0 and a place below 65,536.
+pub quick-file-apart : (file : List ℕ) → ((loadedFrom file .admission ≡ Admission.Admitted) × (quickExported file ≤ 1)) ⊎ ((r : Refusal) × (loadedFrom file .admission ≡ Admission.Refused r) × (quickExported file ≡ refusalNumber r) × ((0 < r .number) × (r .place < 65536)))
+unfolding quickAnswer
+quick-file-apart file = go (loadedFrom file .admission) refl (load-tellable file)
+  where
+    low : (b : Bool) → quickNumber (cond b QuickAnswer.Pass QuickAnswer.NoAnswer) ≤ 1
+    low true = omega arith
+    low false = omega arith
+
+    go : (a : Admission) → loadedFrom file .admission ≡ a → AdmissionTellable a
+        → ((loadedFrom file .admission ≡ Admission.Admitted) × (quickExported file ≤ 1)) ⊎ ((r : Refusal) × (loadedFrom file .admission ≡ Admission.Refused r) × (quickExported file ≡ refusalNumber r) × ((0 < r .number) × (r .place < 65536)))
+    go (Admission.Refused r) e h = inr (r, e, refused-quick-file file r e, h)
+    go Admission.Admitted e h = let (same, (m, well)) = admitted file e in inl (e, rw (read-quick-file file e, same, well) (low (quickPass (formOf file .table))))
+
+pub quick-file-means : (file : List ℕ) → quickExported file ≡ 1 → (budget : ℕ) → horizon (loadedFrom file .table) ≤ budget → verdict (loadedFrom file .table) budget ≡ Verdict.Passes
+quick-file-means file e = elim (quick-file-apart file) [
+  | inr (r, h, q, (a, b)) ↦ absurd (omega arith)
+  | inl (h, l) ↦ (
+      let (same, (m, well)) = admitted file h in
+      elim (quick-exactly (loadedFrom file .table) m (rw same well) .1) [
+        | inl q ↦ quick-means-passes (loadedFrom file .table) q
+        | inr q ↦ absurd (omega (arith, read-quick-file file h, ap quickNumber q))
+      ]
+      )
+]
