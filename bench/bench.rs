@@ -8,6 +8,7 @@ use walk::{one_pass, two_passes, End, Task, Walk};
 extern "C" {
     fn clock_gettime(clock: i32, time: *mut [i64; 2]) -> i32;
     fn yolizadwa_check(file: *const u8, file_len: usize, report: *mut u8, report_len: usize) -> u64;
+    fn yolizadwa_quick(file: *const u8, file_len: usize) -> u64;
     fn yolizadwa_start(file: *const u8, file_len: usize, state: *mut u8, state_len: usize) -> u64;
     fn yolizadwa_step(file: *const u8, file_len: usize, state: *mut u8, state_len: usize, done: u32) -> u64;
 }
@@ -20,6 +21,10 @@ const LEAST: f64 = 3e6;
 
 fn check(file: &[u8], report: &mut [u8; 512]) -> u64 {
     unsafe { yolizadwa_check(file.as_ptr(), file.len(), report.as_mut_ptr(), report.len()) }
+}
+
+fn quick(file: &[u8]) -> u64 {
+    unsafe { yolizadwa_quick(file.as_ptr(), file.len()) }
 }
 
 fn start(file: &[u8], state: &mut [u8; 144]) -> u64 {
@@ -76,7 +81,7 @@ fn said_by(walk: &Walk, tasks: usize, at_horizon: bool) -> Vec<String> {
 fn said_by_report(report: &str) -> Vec<String> {
     report
         .lines()
-        .skip(3)
+        .skip(4)
         .map(|line| match line.split(' ').collect::<Vec<_>>()[..] {
             ["interval", _, to, "demand", _] => format!("interval .. {to}"),
             _ => line.to_string(),
@@ -228,14 +233,20 @@ fn walks() -> bool {
             &mut || {
                 black_box(two_passes(black_box(&tasks), black_box(slots)));
             },
+            &mut || {
+                black_box(quick(black_box(&file)));
+            },
         ]);
-        let ratio = all[0].best / all[1].best.min(all[2].best);
+        // a check also makes the quick test's walk, which the Rust program does not
+        let walk = |check: f64, quick: f64| check - quick;
+        let proved = walk(all[0].best, all[3].best);
+        let ratio = proved / all[1].best.min(all[2].best);
         holds &= ratio <= 1.1;
-        let each = |i: usize| all[i].best / slots as f64;
+        let each = |time: f64| time / slots as f64;
         let noise = all.iter().map(Best::noise).fold(0.0, f64::max);
         // where the machine's own speed moves, the ratio within a turn says more than that of two bests
-        let by_turn = middle((0..TURNS).map(|i| all[0].all[i] / all[1].all[i].min(all[2].all[i])).collect());
-        println!("{name:<34} {slots:>8} {:>10.2} {:>10.2} {:>10.2} {ratio:>6.2} {by_turn:>7.2} {noise:>7.1}", each(0), each(1), each(2));
+        let by_turn = middle((0..TURNS).map(|i| walk(all[0].all[i], all[3].all[i]) / all[1].all[i].min(all[2].all[i])).collect());
+        println!("{name:<34} {slots:>8} {:>10.2} {:>10.2} {:>10.2} {ratio:>6.2} {by_turn:>7.2} {noise:>7.1}", each(proved), each(all[1].best), each(all[2].best));
     }
     holds
 }
@@ -270,8 +281,11 @@ fn searches() -> bool {
             &mut || {
                 black_box(check(black_box(&undecided), &mut other));
             },
+            &mut || {
+                black_box(quick(black_box(&undecided)));
+            },
         ]);
-        let (walk, search) = (all[1].best, all[0].best - all[1].best);
+        let (walk, search) = (all[1].best - all[2].best, all[0].best - all[1].best);
         let ratio = search / walk;
         holds &= ratio <= bar;
         let noise = all.iter().map(Best::noise).fold(0.0, f64::max);
@@ -279,6 +293,23 @@ fn searches() -> bool {
         println!("{name:<34} {:>8} {releases:>10} {:>10.2} {:>10.2} {ratio:>6.2} {noise:>7.1}", at - from, walk / 1e6, search / 1e6);
     }
     holds
+}
+
+// All slots busy up to H: the load is exactly 1, so the first idle instant of simultaneous starts is H itself.
+fn longest_quick() -> [(&'static str, Vec<Task>); 2] {
+    let near = [60000, 57600, 54000, 58320, 55296];
+    let sixteenths = (0..16).map(|i| near[i % 5]).map(|period| task(0, period / 16, period, period)).collect();
+    [("quick, 2 tasks", vec![task(0, 30000, 60000, 60000), task(0, 29998, 59996, 59996)]), ("quick, 16 tasks", sixteenths)]
+}
+
+fn longest_quick_walks() {
+    println!("{:<34} {:>10} {:>8} {:>10}", "longest quick walk, one call", "slots", "seconds", "ns a slot");
+    for (name, tasks) in longest_quick() {
+        let file = table_file(&tasks, 1);
+        let slots = horizon(&tasks) / 2;
+        let time = timed(1, &mut || assert_eq!(quick(black_box(&file)), 1, "{name}"));
+        println!("{name:<34} {slots:>10} {:>8.1} {:>10.2}", time / 1e9, time / slots as f64);
+    }
 }
 
 fn single_calls() {
@@ -291,6 +322,11 @@ fn single_calls() {
             black_box(check(black_box(&file), &mut report));
         }]);
         print(name, &all[0]);
+        let mut state = [0u8; 144];
+        let all = turn_about(&mut [&mut || {
+            black_box(start(black_box(&file), &mut state));
+        }]);
+        print("    its start", &all[0]);
         println!("    {}", match check(&file, &mut report) {
             length if length < 65536 => report_on(&file).lines().skip(1).collect::<Vec<_>>().join(", "),
             refused => format!("refused {} at {}", refused >> 16, refused & 0xffff),
@@ -314,6 +350,8 @@ fn main() {
     let searches = searches();
     println!();
     single_calls();
+    println!();
+    longest_quick_walks();
     println!();
     println!("the proved walk takes at most 1.1 times the faster Rust walk: {}", if walks { "holds" } else { "MISSED" });
     println!("on the tables with a bar the search takes at most as long as the walk: {}", if searches { "holds" } else { "MISSED" });

@@ -78,7 +78,23 @@ static uint64_t step(const uint8_t *file, size_t len, uint8_t *state, uint32_t d
     return r;
 }
 
+// No budget bounds the quick test, so a round that is neither short nor refused is passed over.
+static int affordable(const uint8_t *file, size_t len) {
+    uint64_t round = 1, short_enough = 1 << 18, longest = 1000000000;
+    for (size_t at = 9; at + 17 <= len && file[at] == 2 && round <= longest; at += 17) {
+        uint64_t a = round, b = word(file, at + 13), period = b;
+        while (b) {
+            uint64_t rest = a % b;
+            a = b;
+            b = rest;
+        }
+        round = round / a * period;
+    }
+    return round <= short_enough || round > longest;
+}
+
 static void try_file(const uint8_t *bytes, size_t len, const uint8_t *more, size_t more_len) {
+    if (!affordable(bytes, len)) return;
     uint8_t *file = block(len, 0);
     memcpy(file, bytes, len);
     // a budget below 2^16, so that a run is short
@@ -94,6 +110,16 @@ static void try_file(const uint8_t *bytes, size_t len, const uint8_t *more, size
     HOLDS(memcmp(text, second, REPORT) == 0);
     check(file, len, REPORT - 1, 0xa5, 0);
     check(file, len, more_len ? more[0] : 0, 0xa5, 0);
+
+    // the quick test refuses alike, and says what the report says
+    uint64_t q = yolizadwa_quick(file, len);
+    if (r >= REFUSED) HOLDS(q == r);
+    else {
+        HOLDS(q <= 1);
+        HOLDS((q == 1) == (strstr((char *)text, "\nquick pass\n") != 0));
+        HOLDS((q == 0) == (strstr((char *)text, "\nquick none\n") != 0));
+        if (q == 1) HOLDS(!strstr((char *)text, "verdict late\n") && !strstr((char *)text, "verdict overload\n"));
+    }
 
     size_t strange = more_len ? more[0] : STATE - 1;
     uint8_t *odd = block(strange, 0x5a);
