@@ -38,13 +38,14 @@ static unsigned slots_of_a_block(void)
     return (columns() - LABEL_COLUMNS - 1) / 2 / RULER_STEP * RULER_STEP;
 }
 
-/* The horizon, which the library tells whatever the budget, within what is good to look at. */
+/* The horizon, which the library tells whatever the costs and the budget, within what is good to look at. */
 static unsigned long usual_slots(const struct table *table)
 {
-    struct table unjudged = *table;
+    struct table light = *table;
     struct report report;
-    replace_budget(&unjudged, 1);
-    check_table(&unjudged, &report);
+    lighten(&light);
+    replace_budget(&light, 1);
+    check_table(&light, &report);
     uint64_t horizon = report_number(&report, "\nhorizon ");
     return horizon < LEAST_USUAL ? LEAST_USUAL : horizon > MOST_USUAL ? MOST_USUAL : (unsigned long)horizon;
 }

@@ -11,6 +11,9 @@
 /* docs/COMMAND.md promises these numbers. */
 enum status { DONE = 0, TROUBLE = 1, REFUSED = 2, LATE = 3, UNDECIDED = 4 };
 
+/* No text begins with a lower byte: the lowest that a text may begin with is a tab. */
+enum { FIRST_OF_A_TEXT = 9 };
+
 enum { MOST_INPUT = 1 << 24, MOST_SLOTS = 1000000, JOBS_SHOWN = 100 };
 
 /* What one call of the command asks for; its word says which of these count. */
@@ -55,6 +58,7 @@ uint64_t table_of(const struct input *input, struct table *table);
 int open_table(const char *name, FILE *refusals, struct table *table);
 uint64_t budget_of(const struct table *table);
 void replace_budget(struct table *table, uint64_t budget);
+void lighten(struct table *table);
 unsigned task_count(const struct table *table);
 struct task task_at(const struct table *table, unsigned number);
 
@@ -63,7 +67,6 @@ int say_refusal(FILE *to, const struct input *input, uint64_t result);
 
 /* Reports. */
 void check_table(const struct table *table, struct report *report);
-void check_with_progress(const struct table *table, struct report *report);
 uint64_t report_number(const struct report *report, const char *words);
 int report_verdict(const struct report *report, const char *verdict);
 
@@ -78,9 +81,14 @@ void print_job(const struct job *job, int columns);
 
 /* The words of the command. */
 int judge(const struct request *request);
+int quick(const struct request *request);
 int make(const struct request *request);
 int show(const struct request *request);
 int run(const struct request *request);
+
+/* Around a call that may take long, of a check with so many slots of budget or of the quick test with none. */
+void begin_progress(const struct table *table, uint64_t budget);
+void end_progress(void);
 
 /* Pages: NULL names the page of the command itself. 0 if there is no such page. */
 int print_page(FILE *to, const char *word);

@@ -1,5 +1,5 @@
-/* Reads a FILE whole and writes one whole or not at all. */
-#define _XOPEN_SOURCE 700
+/* Reads a FILE whole and writes one in one piece. */
+#define _POSIX_C_SOURCE 200809L
 
 #include <errno.h>
 #include <fcntl.h>
@@ -77,62 +77,6 @@ int read_input(const char *name, struct input *input)
     return status;
 }
 
-static int put(FILE *out, const uint8_t *bytes, size_t len)
-{
-    int written = fwrite(bytes, 1, len, out) == len;
-    return fclose(out) == 0 && written;
-}
-
-/* A name beside the file's own, so that the rename stays on one disk. */
-static char *name_beside(const char *name)
-{
-    size_t room = strlen(name) + 32;
-    char *beside = malloc(room);
-    if (beside != NULL) {
-        snprintf(beside, room, "%s.%ld.part", name, (long)getpid());
-    }
-    return beside;
-}
-
-static int write_beside(const char *beside, const char *name, const uint8_t *bytes, size_t len)
-{
-    int number = open(beside, O_WRONLY | O_CREAT | O_EXCL, 0666);
-    if (number < 0) {
-        return cannot("write", name);
-    }
-    FILE *out = fdopen(number, "wb");
-    if (out != NULL && put(out, bytes, len) && rename(beside, name) == 0) {
-        return DONE;
-    }
-    int status = cannot("write", name);
-    unlink(beside);
-    return status;
-}
-
-static int replace(const char *name, const uint8_t *bytes, size_t len)
-{
-    char *beside = name_beside(name);
-    int status = beside == NULL ? cannot("write", name) : write_beside(beside, name, bytes, len);
-    free(beside);
-    return status;
-}
-
-/* Behind a link stands the file that is meant. */
-static int replace_behind_links(const char *name, const uint8_t *bytes, size_t len)
-{
-    char *real = realpath(name, NULL);
-    int status = real == NULL ? cannot("write", name) : replace(real, bytes, len);
-    free(real);
-    return status;
-}
-
-/* Only what can be cut to a length can be replaced; a device or a pipe is written to. */
-static int can_be_cut(int number)
-{
-    off_t length = lseek(number, 0, SEEK_END);
-    return length >= 0 && ftruncate(number, length) == 0;
-}
-
 static int is_terminal(const char *name)
 {
     return trouble("%s is a terminal, and a table file is no text; name a file instead", name);
@@ -148,14 +92,42 @@ static int write_standard(const uint8_t *bytes, size_t len)
     return DONE;
 }
 
-static int write_through(int number, const char *name, const uint8_t *bytes, size_t len)
+/* Whether a text or something else of worth stands there. A pipe without a writer must not keep us waiting. */
+static int is_no_table_file(const char *name)
+{
+    uint8_t first;
+    int number = open(name, O_RDONLY | O_NONBLOCK);
+    int found = number >= 0 && read(number, &first, 1) == 1 && first >= FIRST_OF_A_TEXT;
+    if (number >= 0) {
+        close(number);
+    }
+    return found;
+}
+
+/* In place, so that links, modes and devices stay what they are, and in one piece, which is shorter than any disk's. */
+static int write_over(int number, const char *name, const uint8_t *bytes, size_t len)
 {
     if (isatty(number)) {
-        close(number);
         return is_terminal(name);
     }
-    FILE *out = fdopen(number, "wb");
-    return out != NULL && put(out, bytes, len) ? DONE : cannot("write", name);
+    if (write(number, bytes, len) != (ssize_t)len) {
+        return cannot("write", name);
+    }
+    /* A device cannot be cut and need not be. */
+    if (ftruncate(number, (off_t)len) != 0 && lseek(number, 0, SEEK_END) > (off_t)len) {
+        return cannot("write", name);
+    }
+    return DONE;
+}
+
+/* What is made here and cannot be written is taken away again. */
+static int write_new(int number, const char *name, const uint8_t *bytes, size_t len)
+{
+    int status = write_over(number, name, bytes, len);
+    if (status != DONE) {
+        unlink(name);
+    }
+    return status;
 }
 
 int write_output(const char *name, const uint8_t *bytes, size_t len)
@@ -163,13 +135,16 @@ int write_output(const char *name, const uint8_t *bytes, size_t len)
     if (strcmp(name, "-") == 0) {
         return write_standard(bytes, len);
     }
-    int number = open(name, O_WRONLY);
+    if (is_no_table_file(name)) {
+        return trouble("%s is there and is no table file; it is not written over", name);
+    }
+    int number = open(name, O_WRONLY | O_CREAT | O_EXCL, 0666), fresh = number >= 0;
+    if (!fresh && errno == EEXIST) {
+        number = open(name, O_WRONLY);
+    }
     if (number < 0) {
-        return errno == ENOENT ? replace(name, bytes, len) : cannot("write", name);
+        return cannot("write", name);
     }
-    if (!can_be_cut(number)) {
-        return write_through(number, name, bytes, len);
-    }
-    close(number);
-    return replace_behind_links(name, bytes, len);
+    int status = fresh ? write_new(number, name, bytes, len) : write_over(number, name, bytes, len);
+    return close(number) == 0 || status != DONE ? status : cannot("write", name);
 }

@@ -132,6 +132,9 @@ static void explain_undecided(const struct table *table, const struct report *re
 {
     printf("\nundecided: the budget, %llu, ended before the answer was known; the horizon, %llu, is always enough\n",
            (unsigned long long)budget_of(table), (unsigned long long)report_number(report, "\nhorizon "));
+    if (strstr(report->text, "\nquick pass\n") != NULL) {
+        printf("and will give passes, as quick pass says\n");
+    }
 }
 
 static int explain(const struct table *table, const struct report *report, int all)
@@ -159,7 +162,9 @@ int judge(const struct request *request)
     if (status != DONE) {
         return status;
     }
-    check_with_progress(&table, &report);
+    begin_progress(&table, budget_of(&table));
+    check_table(&table, &report);
+    end_progress();
     fputs(report.text, stdout);
     return explain(&table, &report, request->all);
 }

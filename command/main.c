@@ -26,6 +26,7 @@ struct word {
 
 static const struct word words[] = {
     {"judge", "judge FILE [--all]", 1, {"--all", NULL}, judge},
+    {"quick", "quick FILE", 1, {NULL, NULL}, quick},
     {"run", "run FILE [--slots N] [--early]", 1, {"--slots", "--early"}, run},
     {"show", "show FILE", 1, {NULL, NULL}, show},
     {"make", "make TEXT FILE", 2, {NULL, NULL}, make},
@@ -131,7 +132,18 @@ static int help(const char *word)
     if (print_page(stdout, word)) {
         return DONE;
     }
-    return trouble("no help for %s; there is help for judge, run, show, make and text", word);
+    return trouble("no help for %s; there is help for judge, quick, run, show, make and text", word);
+}
+
+static int version(void)
+{
+    fputs(VERSION, stdout);
+    return DONE;
+}
+
+static int too_many(const char *argument)
+{
+    return trouble("one argument too many: %s", argument);
 }
 
 static int obey(char **arguments)
@@ -146,13 +158,12 @@ static int obey(char **arguments)
         return do_word(word, arguments + 1);
     }
     if (strcmp(first, "--help") == 0 || strcmp(first, "help") == 0) {
-        return help(arguments[1]);
+        return arguments[1] != NULL && arguments[2] != NULL ? too_many(arguments[2]) : help(arguments[1]);
     }
     if (strcmp(first, "--version") == 0) {
-        fputs(VERSION, stdout);
-        return DONE;
+        return arguments[1] != NULL ? too_many(arguments[1]) : version();
     }
-    return trouble("%s is none of judge, run, show, make, help; to judge a table: yolizadwa judge FILE", first);
+    return trouble("%s is none of judge, quick, run, show, make, help; to judge a table: yolizadwa judge FILE", first);
 }
 
 int main(int argc, char **argv)

@@ -11,10 +11,11 @@ static const char usage[] =
     "yolizadwa judges tables of periodic tasks and shows who has each slot.\n"
     "\n"
     "  yolizadwa judge FILE [--all]               whether every job is in time\n"
+    "  yolizadwa quick FILE                       an answer at once, or none\n"
     "  yolizadwa run FILE [--slots N] [--early]   a chart of who has each slot\n"
     "  yolizadwa show FILE                        the table as plain text\n"
     "  yolizadwa make TEXT FILE                   the table file of a text\n"
-    "  yolizadwa help WORD                        of judge, run, show, make, text\n"
+    "  yolizadwa help WORD                        about a word, or about text\n"
     "  yolizadwa --help\n"
     "  yolizadwa --version\n"
     "\n"
@@ -31,14 +32,25 @@ static const char usage[] =
 static const char page_judge[] =
     "yolizadwa judge FILE [--all]\n"
     "\n"
-    "Prints the report on a table: tasks, load, horizon, verdict, settled; if it\n"
-    "passes also the worst response of each task and the first idle instant. If it\n"
-    "is late, the interval that asks for more slots than it has, and the jobs of\n"
-    "it, the first 100 or with --all every one. A table that is no good is refused\n"
-    "with a number and a place, in words, and of a text with the line.\n"
+    "Prints the report on a table: tasks, load, the quick answer, horizon, verdict,\n"
+    "settled; if it passes also the worst response of each task and the first idle\n"
+    "instant. If it is late, the interval that asks for more slots than it has, and\n"
+    "the jobs of it, the first 100 or with --all every one. A table that is no good\n"
+    "is refused with a number and a place, in words, and of a text with the line.\n"
     "\n"
     "Ends with 0 if the table passes, 2 if it is refused, 3 if it is late or\n"
     "overloaded, 4 if its budget ends before the answer is known.\n";
+
+static const char page_quick[] =
+    "yolizadwa quick FILE\n"
+    "\n"
+    "Looks at the table as if all tasks started at 0, up to the first instant at\n"
+    "which all earlier jobs are finished, mostly a matter of few slots. quick pass:\n"
+    "every job is in time, with these offsets and with any others. quick none: no\n"
+    "answer, and judge is asked. It needs no budget and never says late. With a load\n"
+    "near 1 it may take as long as judge.\n"
+    "\n"
+    "Ends with 0 if the answer is pass, 4 if there is none, 2 if the table is refused.\n";
 
 static const char page_run[] =
     "yolizadwa run FILE [--slots N] [--early]\n"
@@ -68,7 +80,8 @@ static const char page_make[] =
     "yolizadwa make TEXT FILE\n"
     "\n"
     "Writes the table file of a text, which is what a camera's program hands to the\n"
-    "library. FILE is written whole or stays as it was; - is standard output.\n"
+    "library; - is standard output. A FILE that is there and is no table file is not\n"
+    "written over.\n"
     "\n"
     "Ends with 0, or 2 if the table is refused.\n";
 
@@ -91,8 +104,8 @@ static const char page_text[] =
     "  budget     the horizon is enough; 2,000,060,000 is for every table\n";
 
 static const struct page pages[] = {
-    {"judge", page_judge}, {"run", page_run},   {"show", page_show},
-    {"make", page_make},   {"text", page_text}, {"help", usage},
+    {"judge", page_judge}, {"quick", page_quick}, {"run", page_run}, {"show", page_show},
+    {"make", page_make},   {"text", page_text},   {"help", usage},
 };
 
 int print_page(FILE *to, const char *word)

@@ -1,4 +1,4 @@
-/* A check that takes long says on a terminal how long it has taken and about how long it may take. */
+/* A call that takes long says on a terminal how long it has taken and about how long it may take. */
 #define _POSIX_C_SOURCE 200809L
 
 #include <signal.h>
@@ -11,9 +11,10 @@
 /* A fraction of a second even with 16 tasks under the emulator. */
 enum { PROBE_SLOTS = 200000, DIGITS = 20 };
 
-static volatile sig_atomic_t seconds;
-static char outlook[64] = " s";
-static size_t outlook_length = 2;
+static const char begins[] = "\rjudging: ";
+static volatile sig_atomic_t seconds, over = 1;
+static char outlook[64];
+static size_t outlook_length;
 
 /* From the last digit backwards; tells where the number begins. */
 static char *digits_before(char *end, unsigned long number)
@@ -29,9 +30,13 @@ static char *digits_before(char *end, unsigned long number)
 static void tell(int which)
 {
     char room[DIGITS], *number;
+    if (over) {
+        return;
+    }
     seconds++;
     number = digits_before(room + DIGITS, (unsigned long)seconds);
-    if (write(STDERR_FILENO, "\rjudging: ", 10) < 0 || write(STDERR_FILENO, number, (size_t)(room + DIGITS - number)) < 0 ||
+    if (write(STDERR_FILENO, begins, sizeof begins - 1) < 0 ||
+        write(STDERR_FILENO, number, (size_t)(room + DIGITS - number)) < 0 ||
         write(STDERR_FILENO, outlook, outlook_length) < 0) {
         return;
     }
@@ -39,42 +44,52 @@ static void tell(int which)
     alarm(1);
 }
 
-/* From a check of the first slots: what each took, times the slots that are looked at if no deadline is late before. */
-static void estimate(const struct table *table)
+static double now(void)
+{
+    struct timespec time = {0, 0};
+    clock_gettime(CLOCK_MONOTONIC, &time);
+    return (double)time.tv_sec + (double)time.tv_nsec / 1e9;
+}
+
+/*
+ * From a check of the first slots with costs of 1: what a slot took, times the slots that are looked at if no deadline is late
+ * before, and times a round, which the quick test may walk.
+ */
+static void estimate(const struct table *table, uint64_t budget)
 {
     struct table probe = *table;
     struct report report;
-    uint64_t budget = budget_of(table), horizon, slots;
-    clock_t begin = clock();
+    lighten(&probe);
     replace_budget(&probe, PROBE_SLOTS);
+    double began = now();
     check_table(&probe, &report);
-    double took = (double)(clock() - begin) / CLOCKS_PER_SEC;
-    horizon = report_number(&report, "\nhorizon ");
-    slots = budget < horizon ? budget : horizon;
-    double expected = took * (double)slots / PROBE_SLOTS;
+    double took = now() - began;
+    uint64_t horizon = report_number(&report, "\nhorizon "), settled = report_number(&report, "\nsettled ");
+    uint64_t slots = (budget < horizon ? budget : horizon) + horizon / 2;
+    double expected = settled > 0 ? took * (double)slots / (double)settled : 0;
     snprintf(outlook, sizeof outlook, " s; it may take about %.0f s", expected < 1 ? 1 : expected);
     outlook_length = strlen(outlook);
 }
 
-static void rub_out(void)
+/* The outlook is made before the handler may read it. */
+void begin_progress(const struct table *table, uint64_t budget)
 {
-    alarm(0);
-    signal(SIGALRM, SIG_DFL);
-    if (seconds > 0) {
-        fprintf(stderr, "\r%*s\r", (int)(sizeof "judging: " + DIGITS + outlook_length), "");
+    if (isatty(STDERR_FILENO)) {
+        estimate(table, budget);
+        seconds = 0;
+        over = 0;
+        signal(SIGALRM, tell);
+        alarm(1);
     }
 }
 
-void check_with_progress(const struct table *table, struct report *report)
+/* The handler stays: an alarm on its way must not end the command. */
+void end_progress(void)
 {
-    if (!isatty(STDERR_FILENO) || budget_of(table) <= PROBE_SLOTS) {
-        check_table(table, report);
-        return;
+    over = 1;
+    alarm(0);
+    if (seconds > 0) {
+        int shown = (int)(sizeof begins - 2 + outlook_length) + columns_for((uint64_t)seconds);
+        fprintf(stderr, "\r%*s\r", shown, "");
     }
-    seconds = 0;
-    signal(SIGALRM, tell);
-    alarm(1);
-    estimate(table);
-    check_table(table, report);
-    rub_out();
 }

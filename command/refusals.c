@@ -3,7 +3,7 @@
 
 #include "command.h"
 
-enum { CHARACTERS_SHOWN = 100 };
+enum { CHARACTERS_SHOWN = 100, LAST_LINE_TOLD = 65535 };
 
 /* What a number says; the place, or for a text's own faults the line, stands between the two parts. */
 struct meaning {
@@ -113,16 +113,28 @@ static void say(FILE *to, uint64_t result, unsigned long meant)
     }
 }
 
-/* A fault of one task or of one line; the others are of the whole table. */
-static int has_a_line(uint32_t number)
+/* A fault of one task or of one line; the others are of the whole table. So far down every line is refused for want of a budget. */
+static int has_a_line(uint64_t result)
 {
+    uint32_t number = yolizadwa_number(result);
+    if (number == YOLIZADWA_NO_BUDGET && yolizadwa_place(result) == LAST_LINE_TOLD) {
+        return 0;
+    }
     return (number >= YOLIZADWA_BAD_PERIOD && number <= YOLIZADWA_BAD_OFFSET) || number >= YOLIZADWA_UNKNOWN_WORD;
+}
+
+/* Some editors put one in front: a text of theirs cannot be read, and nothing is to be seen. */
+static void hint_at_mark(FILE *to, const struct input *text)
+{
+    if (text->len > 0 && (text->bytes[0] == 0xEF || text->bytes[0] >= 0xFE)) {
+        fputs("the file may begin with a byte order mark; save it as plain text, without one\n", to);
+    }
 }
 
 int say_refusal(FILE *to, const struct input *input, uint64_t result)
 {
     uint32_t number = yolizadwa_number(result);
-    if (is_table_file(input) || !has_a_line(number)) {
+    if (is_table_file(input) || !has_a_line(result)) {
         say(to, result, yolizadwa_place(result));
         return REFUSED;
     }
@@ -132,5 +144,6 @@ int say_refusal(FILE *to, const struct input *input, uint64_t result)
     if (begin < input->len) {
         show_line(to, input, begin, line);
     }
+    hint_at_mark(to, input);
     return REFUSED;
 }

@@ -69,7 +69,8 @@ pub fn by_hand(bench: &mut Bench) {
 
 const LAUNCHED: &str = "cd tables && ln -sf ../../yolizadwa ../target/host/link && rm -f ../target/command/yolizadwa
     ../target/host/link judge b.txt >../target/host/one & ../yolizadwa judge b.table >../target/host/other
-    wait && cmp ../target/host/one ../target/host/other && ../yolizadwa --version";
+    wait && cmp ../target/host/one ../target/host/other && ../yolizadwa --version
+    ../yolizadwa judge c.txt; test $? -eq 3";
 
 pub fn launched(bench: &mut Bench) {
     let output = Command::new("sh").args(["-c", LAUNCHED]).output().expect("sh starts");
@@ -226,6 +227,13 @@ fn charted(bench: &mut Bench, rng: &mut Rng, tasks: &[Task], input: &[u8]) {
     bench.count(good && output.status.code() == Some(status), || format!("run of {slots} slots on {tasks:?}:\n{text}"));
 }
 
+fn quickly(bench: &mut Bench, tasks: &[Task], input: &[u8]) {
+    let output = asked(&["quick", "-"], input);
+    let (words, status) = if reference::quick(tasks) { ("quick pass\n", 0) } else { ("quick none\n", 4) };
+    let good = said(&output).starts_with(words) && output.status.code() == Some(status);
+    bench.count(good, || format!("quick on {tasks:?}: {output:?}"));
+}
+
 fn made_and_shown(bench: &mut Bench, tasks: &[Task], budget: u64, text: &str) {
     let made = asked(&["make", "-", "-"], text.as_bytes());
     let file = file_of(budget, tasks);
@@ -258,6 +266,7 @@ pub fn at_random(bench: &mut Bench, rng: &mut Rng) {
         let file = file_of(budget, &tasks);
         let (one, other) = if rng.chance(50) { (text.as_bytes(), &file[..]) } else { (&file[..], text.as_bytes()) };
         judged(bench, &tasks, budget, one);
+        quickly(bench, &tasks, other);
         charted(bench, rng, &tasks, other);
         made_and_shown(bench, &tasks, budget, &text);
     }

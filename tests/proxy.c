@@ -128,3 +128,9 @@ uint64_t yolizadwa_to_text(const uint8_t *file, size_t file_len, uint8_t *text, 
 {
     return forward(TO_TEXT, file, file_len, text, text_len, 0);
 }
+
+uint64_t yolizadwa_quick(const uint8_t *file, size_t file_len)
+{
+    uint8_t nothing = 0;
+    return forward(QUICK, file, file_len, &nothing, 0, 0);
+}

@@ -1,0 +1,21 @@
+/* The word quick: the library's answer with all offsets 0, and what it means for the table. */
+#include "command.h"
+
+int quick(const struct request *request)
+{
+    struct table table;
+    int status = open_table(request->files[0], stdout, &table);
+    if (status != DONE) {
+        return status;
+    }
+    begin_progress(&table, 0);
+    uint64_t answer = yolizadwa_quick(table.file, table.len);
+    end_progress();
+    if (answer == 1) {
+        printf("quick pass\n\npass: every job is in time, with these offsets and with any others\n");
+        return DONE;
+    }
+    printf("quick none\n\nno answer: with all offsets 0 a job is late, or more slots are asked for than there are; judge looks at the\n"
+           "offsets too\n");
+    return UNDECIDED;
+}
