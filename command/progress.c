@@ -51,9 +51,21 @@ static double now(void)
     return (double)time.tv_sec + (double)time.tv_nsec / 1e9;
 }
 
+/* The quick test ends by then: what comes in at once, and what comes in while that is done, and so on; or after a round. */
+static double quick_slots(const struct table *table, double round)
+{
+    double costs = 0, load = 0;
+    for (unsigned number = 0; number < task_count(table); number++) {
+        struct task task = task_at(table, number);
+        costs += (double)task.cost;
+        load += (double)task.cost / (double)task.period;
+    }
+    return load < 1 && costs / (1 - load) < round ? costs / (1 - load) : round;
+}
+
 /*
  * From a check of the first slots with costs of 1: what a slot took, times the slots that are looked at if no deadline is late
- * before, and times a round, which the quick test may walk.
+ * before, and those of the quick test.
  */
 static void estimate(const struct table *table, uint64_t budget)
 {
@@ -65,8 +77,8 @@ static void estimate(const struct table *table, uint64_t budget)
     check_table(&probe, &report);
     double took = now() - began;
     uint64_t horizon = report_number(&report, "\nhorizon "), settled = report_number(&report, "\nsettled ");
-    uint64_t slots = (budget < horizon ? budget : horizon) + horizon / 2;
-    double expected = settled > 0 ? took * (double)slots / (double)settled : 0;
+    double slots = (double)(budget < horizon ? budget : horizon) + quick_slots(table, (double)horizon / 2);
+    double expected = settled > 0 ? took * slots / (double)settled : 0;
     snprintf(outlook, sizeof outlook, " s; it may take about %.0f s", expected < 1 ? 1 : expected);
     outlook_length = strlen(outlook);
 }
