@@ -41,11 +41,11 @@ static unsigned slots_of_a_block(void)
 /* The horizon, which the library tells whatever the costs and the budget, within what is good to look at. */
 static unsigned long usual_slots(const struct table *table)
 {
-    struct table light = *table;
+    struct table full = *table;
     struct report report;
-    lighten(&light);
-    replace_budget(&light, 1);
-    check_table(&light, &report);
+    overload(&full);
+    replace_budget(&full, 1);
+    check_table(&full, &report);
     uint64_t horizon = report_number(&report, "\nhorizon ");
     return horizon < LEAST_USUAL ? LEAST_USUAL : horizon > MOST_USUAL ? MOST_USUAL : (unsigned long)horizon;
 }

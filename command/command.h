@@ -59,6 +59,7 @@ int open_table(const char *name, FILE *refusals, struct table *table);
 uint64_t budget_of(const struct table *table);
 void replace_budget(struct table *table, uint64_t budget);
 void lighten(struct table *table);
+void overload(struct table *table);
 unsigned task_count(const struct table *table);
 struct task task_at(const struct table *table, unsigned number);
 

@@ -2,7 +2,6 @@
 #define _POSIX_C_SOURCE 200809L
 
 #include <signal.h>
-#include <string.h>
 #include <time.h>
 #include <unistd.h>
 
@@ -51,6 +50,8 @@ static double now(void)
     return (double)time.tv_sec + (double)time.tv_nsec / 1e9;
 }
 
+enum { LONGEST_ROUND = 1000000000 };
+
 /* The quick test ends by then: what comes in at once, and what comes in while that is done, and so on; or after a round. */
 static double quick_slots(const struct table *table, double round)
 {
@@ -65,13 +66,17 @@ static double quick_slots(const struct table *table, double round)
 
 /*
  * From a check of the first slots with costs of 1: what a slot took, times the slots that are looked at if no deadline is late
- * before, and those of the quick test.
+ * before, and those of the quick test. Where even that check would take long, nothing is foretold.
  */
 static void estimate(const struct table *table, uint64_t budget)
 {
     struct table probe = *table;
     struct report report;
+    outlook_length = (size_t)snprintf(outlook, sizeof outlook, " s");
     lighten(&probe);
+    if (quick_slots(&probe, LONGEST_ROUND) > PROBE_SLOTS) {
+        return;
+    }
     replace_budget(&probe, PROBE_SLOTS);
     double began = now();
     check_table(&probe, &report);
@@ -79,8 +84,7 @@ static void estimate(const struct table *table, uint64_t budget)
     uint64_t horizon = report_number(&report, "\nhorizon "), settled = report_number(&report, "\nsettled ");
     double slots = (double)(budget < horizon ? budget : horizon) + quick_slots(table, (double)horizon / 2);
     double expected = settled > 0 ? took * slots / (double)settled : 0;
-    snprintf(outlook, sizeof outlook, " s; it may take about %.0f s", expected < 1 ? 1 : expected);
-    outlook_length = strlen(outlook);
+    outlook_length = (size_t)snprintf(outlook, sizeof outlook, " s; it may take about %.0f s", expected < 1 ? 1 : expected);
 }
 
 /* The outlook is made before the handler may read it. */

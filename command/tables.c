@@ -66,13 +66,28 @@ void replace_budget(struct table *table, uint64_t budget)
     }
 }
 
-/* Costs of 1: the periods and offsets stay, and so the horizon, but a quick test of it soon ends. */
+/* Where a number of a task stands: offset, cost, deadline, period. */
+static uint8_t *number_of(struct table *table, unsigned task, unsigned which)
+{
+    return table->file + TASKS_AT + TASK_BYTES * task + 1 + WORD_BYTES * which;
+}
+
+/* Costs of 1, so that as a rule a quick test soon ends. */
 void lighten(struct table *table)
 {
-    for (unsigned number = 0; number < task_count(table); number++) {
-        uint8_t *cost = table->file + TASKS_AT + TASK_BYTES * number + 1 + WORD_BYTES;
+    for (unsigned task = 0; task < task_count(table); task++) {
+        uint8_t *cost = number_of(table, task, 1);
         memset(cost, 0, WORD_BYTES);
         cost[0] = 1;
+    }
+}
+
+/* Whole periods as costs and deadlines: the horizon stays, and of two tasks or more the library says overload without a walk. */
+void overload(struct table *table)
+{
+    for (unsigned task = 0; task < task_count(table); task++) {
+        memcpy(number_of(table, task, 1), number_of(table, task, 3), WORD_BYTES);
+        memcpy(number_of(table, task, 2), number_of(table, task, 3), WORD_BYTES);
     }
 }
 

@@ -83,6 +83,7 @@ static int affordable(const uint8_t *file, size_t len) {
     uint64_t round = 1, short_enough = 1 << 18, longest = 1000000000;
     for (size_t at = 9; at + 17 <= len && file[at] == 2 && round <= longest; at += 17) {
         uint64_t a = round, b = word(file, at + 13), period = b;
+        if (period == 0 || period > 60000) return 1;
         while (b) {
             uint64_t rest = a % b;
             a = b;

@@ -17,10 +17,30 @@ pub fn reference_itself(bench: &mut Bench, rng: &mut Rng) {
             bench.count(plain == quick, || format!("{tasks:?}: {plain:?} by definition, {quick:?} by the tree"));
             let (run, late) = (reference::quick(&tasks), late_with_all_at_0(&tasks));
             bench.count(run != late, || format!("{tasks:?}: quick {run}, but late with all offsets 0: {late}"));
+            if let Verdict::Passes(_, idle) = reference::decide(&tasks, limit).verdict {
+                let counted = caught_up(&tasks);
+                bench.count(idle == counted, || format!("{tasks:?}: idle {idle} by the run, {counted} by counted work"));
+            }
             tried += 1;
         }
     }
-    bench.end_group("the reference's two searches, and its quick test");
+    bench.end_group("the reference's two searches, its quick test and its idle instants");
+}
+
+/// The first instant after 0 at which no work waits that came in before; who has the slots does not matter.
+fn caught_up(tasks: &[Task]) -> u64 {
+    let comes = |task: &&Task, slot: u64| {
+        slot >= u64::from(task.offset) && (slot - u64::from(task.offset)) % u64::from(task.period) == 0
+    };
+    let mut waiting = 0;
+    for slot in 0.. {
+        waiting += tasks.iter().filter(|task| comes(task, slot)).map(|task| u64::from(task.cost)).sum::<u64>();
+        waiting = waiting.saturating_sub(1);
+        if waiting == 0 {
+            return slot + 1;
+        }
+    }
+    unreachable!()
 }
 
 /// Overloaded, or some interval asks too much.

@@ -1,4 +1,4 @@
-//! Document 01 once more, written from its text alone: lists of jobs and counted demand.
+//! Documents 01 and 02 once more, written from their text alone: lists of jobs and counted demand.
 
 use crate::calls::{Call, Request};
 use crate::inputs::file_of;

@@ -10,11 +10,12 @@ use Rattle.model.specs.Tasks.{round, load, judged}
 use Rattle.model.specs.Patterns.{startingAt}
 use Rattle.wellformed.specs.Ranges.{Ranged}
 use Rattle.wellformed.specs.WellFormed.{judged-iff, well-formed}
-use Rattle.patterns.specs.Starting.{starting-round, starting-load, starting-ranged}
+use Rattle.patterns.specs.Starting.{starting-well-formed}
 
 pub starting-fits : (t : Table) {m : Measure} → judged t ≡ Judgement.WellFormed m → m .load ≤ m .round → (start : ℕ → ℕ) → ((i : ℕ) → i < t .count → start i ≤ slotLimit)
     → let s = startingAt t start in Ranged s × ((load s ≤ round s) × (round s ≤ roundLimit))
 starting-fits t {m} well light start low =
-    let f = well-formed t m well in
-    let (r, h, same) = judged-iff t m .0 well in
-    (starting-ranged t r start low, (omega (arith, starting-round t r start, starting-load t r start, f .round-is, f .load-is), omega (arith, starting-round t r start)))
+    let e = starting-well-formed t m start well low in
+    let f = well-formed _ _ e in
+    let (r, h, same) = judged-iff _ _ .0 e in
+    (r, (omega (arith, f .round-is, f .load-is), omega arith))

@@ -48,6 +48,12 @@ abbrev pub writingSaid : Writing → List ℕ
 writingSaid (Writing.Refused r) = refusalSaid r
 writingSaid (Writing.Bytes n) = 0 ∷ n ∷ []
 
+-- Of the quick test: a refusal, or 0 with 1 for pass, 0 with 0 for no answer.
+abbrev pub quickSaid : QuickAnswer → List ℕ
+quickSaid (QuickAnswer.Refused r) = refusalSaid r
+quickSaid QuickAnswer.Pass = 0 ∷ 1 ∷ []
+quickSaid QuickAnswer.NoAnswer = 0 ∷ 0 ∷ []
+
 abbrev pub givenSaid : Given → List ℕ
 givenSaid (Given.Refused r) = refusalSaid r
 givenSaid (Given.Slot s) = 0 ∷ s .owner ∷ s .late ∷ s .closed ∷ s .lowest ∷ []

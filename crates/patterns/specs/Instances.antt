@@ -30,7 +30,7 @@ use Rattle.backlog.specs.Feasible.{Feasible}
 use Rattle.backlog.specs.Walk.{Clear}
 use Rattle.patterns.specs.IdleInstants.{CaughtUp, idle-iff}
 use Rattle.patterns.specs.FirstIdle.{first-idle, passed-idle, first-any-order}
-use Rattle.patterns.specs.WalkIdle.{noneLeft, walk-idle}
+use Rattle.patterns.specs.WalkIdle.{noneLeft, walk-idle-at}
 use Rattle.patterns.specs.WalkCalm.{walk-calm, walk-not-calm}
 use Rattle.patterns.specs.Pulled.{pulled-late}
 use Rattle.patterns.specs.Missed.{missed-late}
@@ -73,9 +73,8 @@ g-caught-up = idle-iff (tieSystem table-g g-ranged) 4 .0 tt
 g-clear : (n : ℕ) → Clear table-g n
 g-clear n u l = never-iff table-g .0 (quick-never table-g g-ranged g-quick) u
 
-g-walk-idle : first (noneLeft table-g) 1 8 ≡ firstIdle table-g (tieOrder table-g)
-unfolding round load first sum count
-g-walk-idle = walk-idle table-g g-ranged (lit≤ tt) (g-clear (firstIdle table-g (tieOrder table-g))) 8 (lit≤ tt)
+g-walk-idle : noneLeft table-g 4 ≡ idleAt table-g (tieOrder table-g) 4
+g-walk-idle = walk-idle-at table-g g-ranged 4 (g-clear 4)
 
 g-walk-calm : T (calm table-g)
 unfolding round load first sum count stateAt startOf after ownerNow choose fill

@@ -1,1 +1,1 @@
-// The theory of the quick tests, of idle instants and of tasks that come when they like.
+// The theory of idle instants and of the quick test.

@@ -1,7 +1,7 @@
 -- THE QUICK TEST, T-03 of document 02: pass is said only of tables that the exact test passes.
 use mathlib.Core.Path.{_≡_, refl, sym, ap, _∙_}
 use mathlib.Core.Logic.{_⊎_, inl, inr, _↔_}
-use mathlib.Core.List.{List}
+use mathlib.Core.List.{List, [], _∷_}
 use mathlib.Core.Bool.{Bool, true, false, cond}
 use Prim.Native.Nat.{ℕ, _≤_, _<_}
 use native.Mathlib.Omega.{arith}
@@ -13,15 +13,18 @@ use Rattle.values.specs.declared.Judgement.{Judgement}
 use Rattle.values.specs.declared.Verdict.{Verdict}
 use Rattle.values.specs.declared.QuickAnswer.{QuickAnswer}
 use Rattle.values.specs.declared.Admission.{Admission}
+use Rattle.model.specs.Limits.{slotLimit}
+use Rattle.model.specs.Values.{refusalSaid, quickSaid}
 use Rattle.model.specs.Tasks.{round, load, horizon, judged}
 use Rattle.model.specs.Schedule.{Schedule, Good}
 use Rattle.model.specs.Verdict.{verdict}
 use Rattle.model.specs.TableFile.{formOf, loadedFrom}
-use Rattle.model.specs.Patterns.{simultaneous, quickPass, quickJudged, quickAnswer}
+use Rattle.model.specs.Patterns.{startingAt, simultaneous, quickPass, quickJudged, quickAnswer}
 use Rattle.model.specs.Report.{refusalNumber, quickNumber, quickExported}
 use Rattle.counting.specs.Count.{is-true, is-false}
 use Rattle.wellformed.specs.WellFormed.{well-formed}
-use Rattle.patterns.specs.Quick.{quick-light, quick-passes, quick-iff}
+use Rattle.patterns.specs.Starting.{starting-ranged}
+use Rattle.patterns.specs.Quick.{quick-light, quick-passes, quick-same, quick-iff}
 use Rattle.tablefile.specs.Admitted.{admitted, refused-for}
 use Rattle.tablefile.specs.Refused.{AdmissionTellable, load-tellable}
 
@@ -29,10 +32,18 @@ use Rattle.tablefile.specs.Refused.{AdmissionTellable, load-tellable}
 pub one-quick : (t : Table) (a b : QuickAnswer) → a ≡ quickAnswer t → b ≡ quickAnswer t → a ≡ b
 one-quick t a b e f = e ∙ sym f
 
--- A refused table is refused by its number and place.
-pub refused-quick : (t : Table) (r : Refusal) → judged t ≡ Judgement.Refused r → quickAnswer t ≡ QuickAnswer.Refused r
+-- A refused table is refused by its number and place; of any other 0 is said, with 1 for pass and with 0 for no answer.
+pub refused-quick : (t : Table) (r : Refusal) → judged t ≡ Judgement.Refused r → quickSaid (quickAnswer t) ≡ refusalSaid r
 unfolding quickAnswer
 refused-quick t r e = rw e refl
+
+pub quick-said : (t : Table) (m : Measure) → judged t ≡ Judgement.WellFormed m → quickSaid (quickAnswer t) ≡ cond (quickPass t) (0 ∷ 1 ∷ []) (0 ∷ 0 ∷ [])
+unfolding quickAnswer
+quick-said t m well = rw well (go (quickPass t))
+  where
+    go : (b : Bool) → quickSaid (cond b QuickAnswer.Pass QuickAnswer.NoAnswer) ≡ cond b (0 ∷ 1 ∷ []) (0 ∷ 0 ∷ [])
+    go true = refl
+    go false = refl
 
 -- By the cases of the table and of the test: an answer of pass is a pass of a well-formed table.
 quick-case : (t : Table) (j : Judgement) → quickJudged t j ≡ QuickAnswer.Pass → ((m : Measure) × (j ≡ Judgement.WellFormed m)) × T (quickPass t)
@@ -48,9 +59,18 @@ pub quick-means-passes : (t : Table) → quickAnswer t ≡ QuickAnswer.Pass → 
 unfolding quickAnswer
 quick-means-passes t e = let ((m, well), p) = quick-case t (judged t) e in quick-passes t (well-formed t m well .ranged) p
 
--- So does the word pass in a report, which is that of `quickPass`.
+-- So does `quickPass`, by which the line of a report is told (`quickWord`).
 pub quick-word-means : (t : Table) (m : Measure) → judged t ≡ Judgement.WellFormed m → T (quickPass t) → (budget : ℕ) → horizon t ≤ budget → verdict t budget ≡ Verdict.Passes
 quick-word-means t m well = quick-passes t (well-formed t m well .ranged)
+
+-- Offsets do not matter to it: with any others, each in its range, the table passes too.
+pub quick-any-offsets : (t : Table) → quickAnswer t ≡ QuickAnswer.Pass → (start : ℕ → ℕ) → ((i : ℕ) → i < t .count → start i ≤ slotLimit)
+    → let s = startingAt t start in (budget : ℕ) → horizon s ≤ budget → verdict s budget ≡ Verdict.Passes
+unfolding quickAnswer
+quick-any-offsets t e start low =
+    let ((m, well), p) = quick-case t (judged t) e in
+    let r = well-formed t m well .ranged in
+    quick-passes (startingAt t start) (starting-ranged t r start low) (rw (quick-same t r start) p)
 
 -- On overload there is no answer.
 pub quick-overload : (t : Table) (m : Measure) → judged t ≡ Judgement.WellFormed m → round t < load t → quickAnswer t ≡ QuickAnswer.NoAnswer
@@ -84,7 +104,7 @@ read-quick-file file h =
     let good : formOf file .admission ≡ Admission.Admitted = rw e at h in
     rw (e, good, quickExported) refl
 
--- So 1 means pass, 0 none, and exactly the numbers from 65,536 on are refusals, with a number above 0 and a place below 65,536.
+-- So exactly the numbers from 65,536 on are refusals, with a number above 0 and a place below 65,536, and any other is 0 or 1.
 pub quick-file-apart : (file : List ℕ) → ((loadedFrom file .admission ≡ Admission.Admitted) × (quickExported file ≤ 1)) ⊎ ((r : Refusal) × (loadedFrom file .admission ≡ Admission.Refused r) × (quickExported file ≡ refusalNumber r) × ((0 < r .number) × (r .place < 65536)))
 unfolding quickAnswer
 quick-file-apart file = go (loadedFrom file .admission) refl (load-tellable file)
