@@ -176,7 +176,7 @@ uint64_t yolizadwa_check(const uint8_t *file, size_t file_len, uint8_t *report, 
  * that. The budget must stand in the file and plays no part.
  *
  * Mostly few slots are looked at. But with a load near 1 they may be as many as a round has, up to 1,000,000,000, here and in a
- * check whatever its budget: the longest that was measured, of 16 tasks, took 26 seconds (docs/PERFORMANCE.md). No call can
+ * check whatever its budget: the longest that was measured, of 16 tasks, took 24 seconds (docs/PERFORMANCE.md). No call can
  * stop it.
  *
  * Refusals: 20 to 26; 1 and 3 to 7.
