@@ -9,18 +9,11 @@
 #include <stdlib.h>
 #include <string.h>
 
+#include "bridge.h"
 #include "stack.h"
 
 /* An odd guard, so that file and buffer lie at no even address. */
 enum { GUARD = 61, GUARD_BYTE = 0xC3 };
-
-struct head {
-    uint64_t number;
-    uint32_t call;
-    uint32_t measure;
-    uint32_t file_len;
-    uint32_t buffer_len;
-};
 
 struct guarded {
     uint8_t *room;

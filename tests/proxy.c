@@ -9,19 +9,11 @@
 #include <string.h>
 #include <unistd.h>
 
+#include "bridge.h"
 #include "stack.h"
 #include "yolizadwa.h"
 
 enum { MOST_WORDS = 16, RESULT_BYTES = 9 };
-
-/* As in bridge.c. */
-struct head {
-    uint64_t number;
-    uint32_t call;
-    uint32_t measure;
-    uint32_t file_len;
-    uint32_t buffer_len;
-};
 
 static FILE *to_bridge, *from_bridge;
 
