@@ -2,67 +2,16 @@
 // has figures of. Built and run by bench/run.
 use std::hint::black_box;
 
+mod calls;
 mod walk;
-use walk::{one_pass, two_passes, End, Task, Walk};
-
-extern "C" {
-    fn clock_gettime(clock: i32, time: *mut [i64; 2]) -> i32;
-    fn yolizadwa_check(file: *const u8, file_len: usize, report: *mut u8, report_len: usize) -> u64;
-    fn yolizadwa_quick(file: *const u8, file_len: usize) -> u64;
-    fn yolizadwa_start(file: *const u8, file_len: usize, state: *mut u8, state_len: usize) -> u64;
-    fn yolizadwa_step(file: *const u8, file_len: usize, state: *mut u8, state_len: usize, done: u32) -> u64;
-}
+use calls::{check, horizon, quick, report_on, start, step, table_file, task, timed, Task};
+use walk::{one_pass, two_passes, End, Walk};
 
 // How often each thing is timed, turn about. The best time of each counts.
 const TURNS: usize = 25;
 
 // A call is repeated until one timing takes so long, in nanoseconds.
 const LEAST: f64 = 3e6;
-
-fn check(file: &[u8], report: &mut [u8; 512]) -> u64 {
-    unsafe { yolizadwa_check(file.as_ptr(), file.len(), report.as_mut_ptr(), report.len()) }
-}
-
-fn quick(file: &[u8]) -> u64 {
-    unsafe { yolizadwa_quick(file.as_ptr(), file.len()) }
-}
-
-fn start(file: &[u8], state: &mut [u8; 144]) -> u64 {
-    unsafe { yolizadwa_start(file.as_ptr(), file.len(), state.as_mut_ptr(), state.len()) }
-}
-
-fn step(file: &[u8], state: &mut [u8; 144], done: u32) -> u64 {
-    unsafe { yolizadwa_step(file.as_ptr(), file.len(), state.as_mut_ptr(), state.len(), done) }
-}
-
-fn report_on(file: &[u8]) -> String {
-    let mut report = [0u8; 512];
-    let length = check(file, &mut report);
-    assert!(length < 65536, "refused {} at {}", length >> 16, length & 0xffff);
-    String::from_utf8(report[..length as usize].to_vec()).unwrap()
-}
-
-fn table_file(tasks: &[Task], budget: u64) -> Vec<u8> {
-    let mut file = vec![1];
-    file.extend(budget.to_le_bytes());
-    for k in tasks {
-        file.push(2);
-        for number in [k.offset, k.cost, k.deadline, k.period] {
-            file.extend(number.to_le_bytes());
-        }
-    }
-    file.push(3);
-    file
-}
-
-fn gcd(a: u64, b: u64) -> u64 {
-    if b == 0 { a } else { gcd(b, a % b) }
-}
-
-fn horizon(tasks: &[Task]) -> u64 {
-    let round = tasks.iter().fold(1, |h, k| h / gcd(h, k.period as u64) * k.period as u64);
-    tasks.iter().map(|k| k.offset as u64).max().unwrap() + 2 * round
-}
 
 // The part of a report that a walk decides, as the walk would say it; of a late table's interval only the end.
 fn said_by(walk: &Walk, tasks: usize, at_horizon: bool) -> Vec<String> {
@@ -87,22 +36,6 @@ fn said_by_report(report: &str) -> Vec<String> {
             _ => line.to_string(),
         })
         .collect()
-}
-
-// The time that this thread has had, in nanoseconds: what others do on the machine meanwhile is not in it.
-fn now() -> i64 {
-    const THREAD_TIME: i32 = 3;
-    let mut time = [0i64; 2];
-    assert_eq!(unsafe { clock_gettime(THREAD_TIME, &mut time) }, 0);
-    time[0] * 1_000_000_000 + time[1]
-}
-
-fn timed(calls: u64, call: &mut dyn FnMut()) -> f64 {
-    let began = now();
-    for _ in 0..calls {
-        call();
-    }
-    (now() - began) as f64 / calls as f64
 }
 
 fn calls_that_last(call: &mut dyn FnMut()) -> u64 {
@@ -147,10 +80,6 @@ impl Best {
 fn middle(mut all: Vec<f64>) -> f64 {
     all.sort_by(f64::total_cmp);
     all[all.len() / 2]
-}
-
-fn task(offset: u32, cost: u32, deadline: u32, period: u32) -> Task {
-    Task { offset, cost, deadline, period }
 }
 
 fn tables() -> Vec<(&'static str, Vec<Task>)> {

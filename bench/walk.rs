@@ -1,12 +1,6 @@
 // The plain walk that the proved one is compared with: slot by slot, the released job with the earliest deadline, ties to the
 // lower number; worst responses, the first idle instant after 0, and the first deadline that a job misses. It is written in two ways.
-#[derive(Clone, Copy)]
-pub struct Task {
-    pub offset: u32,
-    pub cost: u32,
-    pub deadline: u32,
-    pub period: u32,
-}
+use crate::calls::Task;
 
 #[derive(Clone, Copy, Debug, PartialEq)]
 pub enum End {

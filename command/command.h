@@ -83,12 +83,13 @@ void print_job(const struct job *job, int columns);
 /* The words of the command. */
 int judge(const struct request *request);
 int quick(const struct request *request);
+int distance(const struct request *request);
 int make(const struct request *request);
 int show(const struct request *request);
 int run(const struct request *request);
 
-/* Around a call that may take long, of a check with so many slots of budget or of the quick test with none. */
-void begin_progress(const struct table *table, uint64_t budget);
+/* Around a call that may take long: a check of up to so many slots, or of none, and so many walks to an idle instant. */
+void begin_progress(const struct table *table, uint64_t budget, unsigned walks);
 void end_progress(void);
 
 /* Pages: NULL names the page of the command itself. 0 if there is no such page. */

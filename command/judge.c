@@ -162,7 +162,7 @@ int judge(const struct request *request)
     if (status != DONE) {
         return status;
     }
-    begin_progress(&table, budget_of(&table));
+    begin_progress(&table, budget_of(&table), 1);
     check_table(&table, &report);
     end_progress();
     fputs(report.text, stdout);

@@ -12,6 +12,7 @@ static const char usage[] =
     "\n"
     "  yolizadwa judge FILE [--all]               whether every job is in time\n"
     "  yolizadwa quick FILE                       an answer at once, or none\n"
+    "  yolizadwa distance FILE                    an answer by the offsets, or none\n"
     "  yolizadwa run FILE [--slots N] [--early]   a chart of who has each slot\n"
     "  yolizadwa show FILE                        the table as plain text\n"
     "  yolizadwa make TEXT FILE                   the table file of a text\n"
@@ -27,7 +28,7 @@ static const char usage[] =
     "  task 0 2 2 5\n"
     "\n"
     "Ends with 0: passes, or done; 1: cannot be done; 2: refused; 3: late or\n"
-    "overload; 4: undecided.\n";
+    "overload; 4: undecided, or no answer.\n";
 
 static const char page_judge[] =
     "yolizadwa judge FILE [--all]\n"
@@ -51,6 +52,20 @@ static const char page_quick[] =
     "near 1 it may take as long as judge.\n"
     "\n"
     "Ends with 0 if the answer is pass, 4 if there is none, 2 if the table is refused.\n";
+
+static const char page_distance[] =
+    "yolizadwa distance FILE\n"
+    "\n"
+    "For tables that judge takes long over. Each task in turn is taken to start at 0,\n"
+    "and every other as soon after it as its releases ever come; each such run is\n"
+    "looked at as by quick. distance pass: every job is in time. distance overload:\n"
+    "more slots are asked for than there are. distance none: no answer, and judge is\n"
+    "asked. Wherever quick says pass, so does distance. It needs no budget and never\n"
+    "says late. With a load near 1 it may look, for each task, at as many slots as\n"
+    "the least common multiple of the periods has, and then judge is faster.\n"
+    "\n"
+    "Ends with 0 if the answer is pass, 3 on overload, 4 if there is no answer, 2 if\n"
+    "the table is refused.\n";
 
 static const char page_run[] =
     "yolizadwa run FILE [--slots N] [--early]\n"
@@ -104,8 +119,8 @@ static const char page_text[] =
     "  budget     the horizon is enough; 2,000,060,000 is for every table\n";
 
 static const struct page pages[] = {
-    {"judge", page_judge}, {"quick", page_quick}, {"run", page_run}, {"show", page_show},
-    {"make", page_make},   {"text", page_text},   {"help", usage},
+    {"judge", page_judge}, {"quick", page_quick}, {"distance", page_distance}, {"run", page_run},
+    {"show", page_show},   {"make", page_make},   {"text", page_text},         {"help", usage},
 };
 
 int print_page(FILE *to, const char *word)

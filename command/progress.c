@@ -52,7 +52,10 @@ static double now(void)
 
 enum { LONGEST_ROUND = 1000000000 };
 
-/* The quick test ends by then: what comes in at once, and what comes in while that is done, and so on; or after a round. */
+/*
+ * The quick test ends by then, and a walk with other offsets no later: what comes in at once, and what comes in while that is
+ * done, and so on; or after a round.
+ */
 static double quick_slots(const struct table *table, double round)
 {
     double costs = 0, load = 0;
@@ -66,9 +69,9 @@ static double quick_slots(const struct table *table, double round)
 
 /*
  * From a check of the first slots with costs of 1: what a slot took, times the slots that are looked at if no deadline is late
- * before, and those of the quick test. Where even that check would take long, nothing is foretold.
+ * before, and those of the walks to an idle instant. Where even that check would take long, nothing is foretold.
  */
-static void estimate(const struct table *table, uint64_t budget)
+static void estimate(const struct table *table, uint64_t budget, unsigned walks)
 {
     struct table probe = *table;
     struct report report;
@@ -82,16 +85,16 @@ static void estimate(const struct table *table, uint64_t budget)
     check_table(&probe, &report);
     double took = now() - began;
     uint64_t horizon = report_number(&report, "\nhorizon "), settled = report_number(&report, "\nsettled ");
-    double slots = (double)(budget < horizon ? budget : horizon) + quick_slots(table, (double)horizon / 2);
+    double slots = (double)(budget < horizon ? budget : horizon) + walks * quick_slots(table, (double)horizon / 2);
     double expected = settled > 0 ? took * slots / (double)settled : 0;
     outlook_length = (size_t)snprintf(outlook, sizeof outlook, " s; it may take about %.0f s", expected < 1 ? 1 : expected);
 }
 
 /* The outlook is made before the handler may read it. */
-void begin_progress(const struct table *table, uint64_t budget)
+void begin_progress(const struct table *table, uint64_t budget, unsigned walks)
 {
     if (isatty(STDERR_FILENO)) {
-        estimate(table, budget);
+        estimate(table, budget, walks);
         seconds = 0;
         over = 0;
         signal(SIGALRM, tell);

@@ -78,7 +78,7 @@ static uint64_t step(const uint8_t *file, size_t len, uint8_t *state, uint32_t d
     return r;
 }
 
-// No budget bounds the quick test, so a round that is neither short nor refused is passed over.
+// No budget bounds the quick test and the distance test, so a round that is neither short nor refused is passed over.
 static int affordable(const uint8_t *file, size_t len) {
     uint64_t round = 1, short_enough = 1 << 18, longest = 1000000000;
     for (size_t at = 9; at + 17 <= len && file[at] == 2 && round <= longest; at += 17) {
@@ -119,7 +119,16 @@ static void try_file(const uint8_t *bytes, size_t len, const uint8_t *more, size
         HOLDS(q <= 1);
         HOLDS((q == 1) == (strstr((char *)text, "\nquick pass\n") != 0));
         HOLDS((q == 0) == (strstr((char *)text, "\nquick none\n") != 0));
-        if (q == 1) HOLDS(!strstr((char *)text, "verdict late\n") && !strstr((char *)text, "verdict overload\n"));
+    }
+
+    // so does the distance test, which passes what the quick test passes, and nothing that is late or overloaded
+    uint64_t d = yolizadwa_distance(file, len);
+    if (r >= REFUSED) HOLDS(d == r);
+    else {
+        HOLDS(d <= 2);
+        HOLDS(q != 1 || d == 1);
+        HOLDS((d == 2) == (strstr((char *)text, "verdict overload\n") != 0));
+        if (d == 1) HOLDS(!strstr((char *)text, "verdict late\n"));
     }
 
     size_t strange = more_len ? more[0] : STATE - 1;

@@ -1,17 +1,18 @@
 /*
  * Yolizadwa for C (from C99 on) and C++: judge a table of tasks, then give out time slot by slot.
  *
- * Seven calls, in the static library that `rt staticlib yolizadwa` writes for x86-64:
+ * Eight calls, in the static library that `rt staticlib yolizadwa` writes for x86-64:
  *
  *   yolizadwa_write       writes a table file from the numbers of its tasks
  *   yolizadwa_from_text   writes the table file of a table in plain text
  *   yolizadwa_to_text     writes the plain text of a table file
  *   yolizadwa_check       judges a table file and writes its report as text
  *   yolizadwa_quick       judges it in short, with all tasks started at once: pass, or no answer
+ *   yolizadwa_distance    judges it in short, with its offsets: pass, overload, or no answer
  *   yolizadwa_start       makes the dispatcher's first state for a table file
  *   yolizadwa_step        gives out one slot and makes the next state
  *
- * What holds for all seven:
+ * What holds for all eight:
  *   - They keep nothing between calls, allocate nothing, and may run in several threads at once on different buffers.
  *   - Of the C library they need memcpy and memset alone. The host tests hold the stack of each call to 16 KiB.
  *   - A result below 65,536 is an answer. Any other is a refusal: 65,536 x number + place. A refusal changes no byte.
@@ -182,6 +183,22 @@ uint64_t yolizadwa_check(const uint8_t *file, size_t file_len, uint8_t *report, 
  * Refusals: 20 to 26; 1 and 3 to 7.
  */
 uint64_t yolizadwa_quick(const uint8_t *file, size_t file_len);
+
+/*
+ * The distance test, for tables with a long round: lets each task in turn start at 0 and every other at its distance from it,
+ * and looks at the slots of each such pattern as the quick test does. The distance of task k from task i is the least time from
+ * a release of i to one of k at the same instant or later: offset of k - offset of i, reduced upward into 0 to g - 1, with g the
+ * greatest common divisor of their periods.
+ *
+ * The result is 2 for overload; else 1 for pass, if no pattern misses a deadline, and 0 for no answer. Late is never said. Pass
+ * means what it means of the quick test, for the offsets in the file, and wherever that one passes, so does this one.
+ *
+ * No budget bounds the slots looked at: there is a walk for each task, mostly short, but with a load near 1 as long as the
+ * quick test's may be, up to 16 times 1,000,000,000 slots in all. No call can stop it.
+ *
+ * Refusals: 20 to 26; 1 and 3 to 7.
+ */
+uint64_t yolizadwa_distance(const uint8_t *file, size_t file_len);
 
 /*
  * The dispatcher's state: 144 bytes, 36 little-endian words of 32 bits each. On x86-64 this struct is that layout; hand

@@ -15,9 +15,10 @@ pub enum Call {
     FromText,
     ToText,
     Quick,
+    Distance,
 }
 
-pub const CALLS: [(Call, &str); 7] = [
+pub const CALLS: [(Call, &str); 8] = [
     (Call::Check, "check"),
     (Call::Start, "start"),
     (Call::Step, "step"),
@@ -25,6 +26,7 @@ pub const CALLS: [(Call, &str); 7] = [
     (Call::FromText, "from text"),
     (Call::ToText, "to text"),
     (Call::Quick, "quick"),
+    (Call::Distance, "distance"),
 ];
 
 #[derive(Clone, Debug)]
@@ -65,6 +67,10 @@ impl Request {
 
     pub fn quick(file: Vec<u8>) -> Request {
         Request { call: Call::Quick, file, buffer: Vec::new(), number: 0 }
+    }
+
+    pub fn distance(file: Vec<u8>) -> Request {
+        Request { call: Call::Distance, file, buffer: Vec::new(), number: 0 }
     }
 }
 

@@ -234,6 +234,13 @@ fn quickly(bench: &mut Bench, tasks: &[Task], input: &[u8]) {
     bench.count(good, || format!("quick on {tasks:?}: {output:?}"));
 }
 
+fn by_distance(bench: &mut Bench, tasks: &[Task], input: &[u8]) {
+    let output = asked(&["distance", "-"], input);
+    let (word, status) = [("none", 4), ("pass", 0), ("overload", 3)][reference::by_distance(tasks) as usize];
+    let good = said(&output).starts_with(&format!("distance {word}\n")) && output.status.code() == Some(status);
+    bench.count(good, || format!("distance on {tasks:?}: {output:?}"));
+}
+
 fn made_and_shown(bench: &mut Bench, tasks: &[Task], budget: u64, text: &str) {
     let made = asked(&["make", "-", "-"], text.as_bytes());
     let file = file_of(budget, tasks);
@@ -267,6 +274,7 @@ pub fn at_random(bench: &mut Bench, rng: &mut Rng) {
         let (one, other) = if rng.chance(50) { (text.as_bytes(), &file[..]) } else { (&file[..], text.as_bytes()) };
         judged(bench, &tasks, budget, one);
         quickly(bench, &tasks, other);
+        by_distance(bench, &tasks, one);
         charted(bench, rng, &tasks, other);
         made_and_shown(bench, &tasks, budget, &text);
     }

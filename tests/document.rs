@@ -42,9 +42,32 @@ const REPORTS: &[(Rows, u64, &str)] = &[
     (LONGEST, 10, "tasks 2\nload 63245/999982506\nquick pass\nhorizon 1999965012\nverdict undecided\nsettled 10\n"),
 ];
 
-/// Tables, and whether the quick test passes them.
-const QUICK: &[(Rows, u64)] =
-    &[(A, 1), (B, 0), (C, 0), (D, 0), (E, 0), (F, 0), (G, 1), (H, 0), (I, 0), (J, 1), (LONGEST, 1)];
+/// Source 000, after theorem 2: it passes, but not by its distances.
+const NOT_BY_DISTANCE: Rows = &[(0, 1, 2, 5), (1, 1, 2, 4), (2, 1, 2, 6)];
+
+/// It passes; of its patterns one misses a deadline, though none by what is asked for from 0 on.
+const NOT_FROM_0: Rows = &[(2, 1, 1, 6), (1, 2, 4, 4), (0, 1, 1, 6)];
+
+/// The offsets and periods of request T-05.
+const REQUESTED: Rows = &[(0, 1, 1, 3), (1, 1, 1, 4), (2, 1, 1, 6)];
+
+/// Tables, whether the quick test passes them, and what the distance test says: 2 for overload, 1 for pass, 0 for none.
+const ANSWERS: &[(Rows, u64, u64)] = &[
+    (A, 1, 1),
+    (B, 0, 1),
+    (C, 0, 0),
+    (D, 0, 0),
+    (E, 0, 1),
+    (F, 0, 0),
+    (G, 1, 1),
+    (H, 0, 0),
+    (I, 0, 2),
+    (J, 1, 1),
+    (LONGEST, 1, 1),
+    (REQUESTED, 0, 0),
+    (NOT_FROM_0, 0, 0),
+    (NOT_BY_DISTANCE, 0, 0),
+];
 
 fn report_is(bench: &mut Bench, rows: Rows, budget: u64, report: &str) {
     let request = Request::check(file_of(budget, &table_of(rows)));
@@ -61,10 +84,21 @@ pub fn tables(bench: &mut Bench) {
         report_is(bench, rows, budget, report);
         ask_all(bench, &file_of(budget, &table_of(rows)));
     }
-    for &(rows, result) in QUICK {
-        bench.ask_knowing(Request::quick(file_of(0, &table_of(rows))), (result, Vec::new()));
+    for rows in [NOT_FROM_0, NOT_BY_DISTANCE] {
+        let reply = &bench.answer(&[Request::check(file_of(u64::MAX, &table_of(rows)))])[0];
+        let report = String::from_utf8(reply.written()).unwrap();
+        bench.count(report.contains("\nverdict passes\n"), || format!("{rows:?} does not pass: {report}"));
     }
-    bench.end_group("document 01's tables");
+    for &(rows, quick, distance) in ANSWERS {
+        bench.ask_knowing(Request::quick(file_of(0, &table_of(rows))), (quick, Vec::new()));
+        bench.ask_knowing(Request::distance(file_of(0, &table_of(rows))), (distance, Vec::new()));
+    }
+    let tasks = table_of(REQUESTED);
+    for (first, second, distance) in [(0, 1, 0), (0, 2, 2), (1, 0, 0), (1, 2, 1), (2, 0, 1), (2, 1, 1)] {
+        let counted = reference::distance(&tasks[first], &tasks[second]);
+        bench.count(counted == distance, || format!("distance of {second} from {first}: {counted}, not {distance}"));
+    }
+    bench.end_group("the documents' tables");
 }
 
 /// A row of steps from the start, each with its done report and what it must give: owner; late, closed, lowest.
@@ -148,6 +182,7 @@ pub fn refusals(bench: &mut Bench) {
     for (file, number, place) in refused_files() {
         refused_with(bench, Request::check(file.clone()), number, place);
         refused_with(bench, Request::quick(file.clone()), number, place);
+        refused_with(bench, Request::distance(file.clone()), number, place);
         refused_with(bench, Request::start(file.clone()), number, place);
         refused_with(bench, Request::step(file, vec![0xE7; 144], 0), number, place);
     }

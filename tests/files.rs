@@ -23,6 +23,7 @@ pub fn ask_all(bench: &mut Bench, file: &[u8]) {
     if affordable(file) {
         bench.ask(Request::check(file.to_vec()));
         bench.ask(Request::quick(file.to_vec()));
+        bench.ask(Request::distance(file.to_vec()));
     }
     bench.ask(Request::start(file.to_vec()));
     bench.ask(Request::step(file.to_vec(), reference::start(&tasks).to_bytes(), 1));

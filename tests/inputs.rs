@@ -67,7 +67,7 @@ pub fn record_places(tasks: usize) -> Vec<usize> {
     std::iter::once(0).chain((0..=tasks).map(|task| 9 + 17 * task)).collect()
 }
 
-/// Whether a check of the file needs no more slots than a test can wait for.
+/// Whether no test of the file needs more slots than can be waited for.
 pub fn affordable(file: &[u8]) -> bool {
     const SLOTS: u64 = 300_000;
     match reference::read_file(file) {
@@ -75,7 +75,8 @@ pub fn affordable(file: &[u8]) -> bool {
             let round = reference::round(&tasks).unwrap();
             let walk =
                 budget.min(reference::horizon(&tasks, round)) <= SLOTS || reference::asked_in_round(&tasks, round) > round;
-            walk && reference::quick_within(&tasks, SLOTS).is_some()
+            let quick = || reference::quick_within(&tasks, SLOTS).is_some();
+            walk && quick() && reference::by_distance_within(&tasks, SLOTS).is_some()
         }
         _ => true,
     }

@@ -49,7 +49,7 @@ fn judging(bench: &mut Bench, rng: &mut Rng, count: u64) {
     files::damaged_one_by_one(bench, rng);
     files::buffers(bench, rng);
     randoms::checks(bench, rng, count);
-    randoms::quicks(bench, rng, count);
+    randoms::quick_tests(bench, rng, count);
     randoms::long_rounds(bench, rng, count / 20);
     randoms::spoilt_tables(bench, rng, count / 20);
     files::damaged_at_random(bench, rng, count / 20);

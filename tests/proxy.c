@@ -126,3 +126,9 @@ uint64_t yolizadwa_quick(const uint8_t *file, size_t file_len)
     uint8_t nothing = 0;
     return forward(QUICK, file, file_len, &nothing, 0, 0);
 }
+
+uint64_t yolizadwa_distance(const uint8_t *file, size_t file_len)
+{
+    uint8_t nothing = 0;
+    return forward(DISTANCE, file, file_len, &nothing, 0, 0);
+}

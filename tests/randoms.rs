@@ -1,7 +1,7 @@
 //! Single calls on tables and states at borders and at random.
 
 use crate::bench::{Bench, Permitted};
-use crate::calls::Request;
+use crate::calls::{Reply, Request};
 use crate::files::ask_all;
 use crate::inputs::*;
 use crate::reference::{self, Task, Verdict, REPORT_BYTES, TASKS};
@@ -25,6 +25,13 @@ pub fn reference_itself(bench: &mut Bench, rng: &mut Rng) {
         }
     }
     bench.end_group("the reference's two searches, its quick test and its idle instants");
+    for _ in 0..2_000 {
+        let mut some = || Task { offset: rng.range(0, 60), cost: 1, deadline: 1, period: rng.range(1, 24) };
+        let (one, other) = (some(), some());
+        let (plain, reduced) = (reference::distance_by_releases(&one, &other), reference::distance(&one, &other));
+        bench.count(plain == reduced, || format!("{one:?} {other:?}: {plain} by releases, {reduced} by the difference"));
+    }
+    bench.end_group("the reference's two distances");
 }
 
 /// The first instant after 0 at which no work waits that came in before; who has the slots does not matter.
@@ -113,36 +120,58 @@ pub fn checks(bench: &mut Bench, rng: &mut Rng, count: u64) {
     bench.end_group("check near the border of what passes");
 }
 
-/// Of the tables that pass quickly the check, whose budget reaches the horizon, says that they pass.
+/// Of tables that pass the check, whose budget reaches the horizon, says that they pass.
 fn pass_the_check(bench: &mut Bench, passed: &[Vec<u8>]) {
     let checks: Vec<Request> = passed.iter().cloned().map(Request::check).collect();
     for (file, reply) in passed.iter().zip(bench.answer(&checks)) {
         let report = String::from_utf8_lossy(&reply.written()).to_string();
-        let good = report.contains("\nquick pass\n") && report.contains("\nverdict passes\n");
-        bench.count(good, || format!("quick pass of {file:?}, and then {report}"));
+        bench.count(report.contains("\nverdict passes\n"), || format!("pass of {file:?}, and then {report}"));
     }
 }
 
-pub fn quicks(bench: &mut Bench, rng: &mut Rng, count: u64) {
+/// The replies to the requests, each held to the reference.
+fn held(bench: &mut Bench, requests: Vec<Request>) -> Vec<Reply> {
+    let replies = bench.answer(&requests);
+    for (request, reply) in requests.iter().zip(&replies) {
+        let permitted = reference::answer(request).0;
+        let good = reply.intact && reply.result == permitted;
+        bench.count(good, || format!("{:?} of {:?}: {}, permitted {permitted}", request.call, request.file, reply.result));
+    }
+    replies
+}
+
+/// Each answer comes up: a generator that no longer reaches one fails.
+fn each_comes_up(bench: &mut Bench, call: &str, times: &[u64], count: u64) {
+    for (often, answer) in times.iter().zip(["none", "pass", "overload"]) {
+        println!("{call} {answer}: {often}");
+        bench.count(*often >= count / INPUTS_PER_VERDICT, || format!("{call} {answer} {often} times in {count} inputs"));
+    }
+}
+
+/// The chain: quick pass is distance pass, and what passes by its distances passes the check.
+pub fn quick_tests(bench: &mut Bench, rng: &mut Rng, count: u64) {
     let files: Vec<Vec<u8>> = (0..count).map(|_| file_of(u64::MAX, &near_border(rng))).collect();
-    let mut passes = 0;
+    let (mut quick, mut distance, mut by_distance_alone) = ([0; 2], [0; 3], 0);
     for some in files.chunks(2_000) {
-        let requests: Vec<Request> = some.iter().cloned().map(Request::quick).collect();
-        let replies = bench.answer(&requests);
-        for (request, reply) in requests.iter().zip(&replies) {
-            let permitted = reference::answer(request).0;
-            let good = reply.intact && reply.result == permitted;
-            bench.count(good, || format!("quick of {:?}: {}, permitted {permitted}", request.file, reply.result));
+        let quicks = held(bench, some.iter().cloned().map(Request::quick).collect());
+        let distances = held(bench, some.iter().cloned().map(Request::distance).collect());
+        let mut passed = Vec::new();
+        for (file, (one, other)) in some.iter().zip(quicks.iter().zip(&distances)) {
+            quick[one.result as usize] += 1;
+            distance[other.result as usize] += 1;
+            by_distance_alone += (one.result == 0 && other.result == 1) as u64;
+            bench.count(one.result != 1 || other.result == 1, || format!("quick pass and no distance pass of {file:?}"));
+            if other.result == 1 {
+                passed.push(file.clone());
+            }
         }
-        let passed = some.iter().zip(&replies).filter(|(_, reply)| reply.result == 1);
-        let passed: Vec<Vec<u8>> = passed.map(|(file, _)| file.clone()).collect();
-        passes += passed.len() as u64;
         pass_the_check(bench, &passed);
     }
-    println!("quick: pass {passes}, none {}", count - passes);
-    let both = passes.min(count - passes) >= count / INPUTS_PER_VERDICT;
-    bench.count(both, || format!("quick pass {passes} times in {count} inputs"));
-    bench.end_group("quick near the border of what passes");
+    each_comes_up(bench, "quick", &quick, count);
+    each_comes_up(bench, "distance", &distance, count);
+    let often = by_distance_alone >= count / INPUTS_PER_VERDICT;
+    bench.count(often, || format!("pass by distances alone {by_distance_alone} times in {count} inputs"));
+    bench.end_group("quick and distance near the border of what passes");
 }
 
 pub fn long_rounds(bench: &mut Bench, rng: &mut Rng, count: u64) {

@@ -311,7 +311,7 @@ fn give(open: &mut Vec<Job>, index: usize, slot: u64, worst: &mut [u64]) {
     }
 }
 
-// The quick test.
+// The quick test and the distance test.
 
 fn overloaded(tasks: &[Task]) -> bool {
     let round = round(tasks).unwrap();
@@ -324,7 +324,11 @@ pub fn simultaneous(tasks: &[Task]) -> Vec<Task> {
 
 fn released_at(tasks: &[Task], slot: u64) -> Vec<Job> {
     let mut jobs = Vec::new();
-    for (number, task) in tasks.iter().enumerate().filter(|(_, task)| slot % u64::from(task.period) == 0) {
+    for (number, task) in tasks.iter().enumerate() {
+        let (offset, period) = (u64::from(task.offset), u64::from(task.period));
+        if slot < offset || (slot - offset) % period != 0 {
+            continue;
+        }
         jobs.push(Job {
             task: number,
             release: slot,
@@ -335,12 +339,9 @@ fn released_at(tasks: &[Task], slot: u64) -> Vec<Job> {
     jobs
 }
 
-/// All tasks start at 0; the run goes on to the first instant after 0 at which every job that was released before is finished.
-/// Whether no deadline is missed by then, if that is known within so many slots.
-pub fn quick_within(tasks: &[Task], slots: u64) -> Option<bool> {
-    if overloaded(tasks) {
-        return Some(false);
-    }
+/// The run goes on to the first instant after 0 at which every job that was released before is finished. Whether no deadline
+/// is missed by then, if that is known within so many slots.
+fn calm_within(tasks: &[Task], slots: u64) -> Option<bool> {
     let mut open: Vec<Job> = Vec::new();
     for slot in 0..slots {
         open.extend(released_at(tasks, slot));
@@ -355,8 +356,52 @@ pub fn quick_within(tasks: &[Task], slots: u64) -> Option<bool> {
     None
 }
 
+/// With all offsets 0.
+pub fn quick_within(tasks: &[Task], slots: u64) -> Option<bool> {
+    if overloaded(tasks) {
+        return Some(false);
+    }
+    calm_within(&simultaneous(tasks), slots)
+}
+
 pub fn quick(tasks: &[Task]) -> bool {
     quick_within(tasks, u64::MAX).expect("the run is caught up within a round")
+}
+
+/// The offset difference, which may be negative, reduced upward into 0 to g - 1.
+pub fn distance(one: &Task, other: &Task) -> u32 {
+    let g = divisor(u64::from(one.period), u64::from(other.period)) as i64;
+    (i64::from(other.offset) - i64::from(one.offset)).rem_euclid(g) as u32
+}
+
+/// The least time from a release of the one task to a later or simultaneous one of the other, by looking at their releases.
+pub fn distance_by_releases(one: &Task, other: &Task) -> u32 {
+    let releases = |task: &Task| (0..200).map(move |job| task.offset + job * task.period).collect::<Vec<u32>>();
+    let after = |at: u32| releases(other).into_iter().filter(|&next| next >= at).map(|next| next - at).min();
+    releases(one).into_iter().filter_map(after).min().unwrap()
+}
+
+/// For each task as first: it at 0, and every other at its distance.
+fn patterns(tasks: &[Task]) -> Vec<Vec<Task>> {
+    let from = |first: &Task| tasks.iter().map(|task| Task { offset: distance(first, task), ..*task }).collect();
+    tasks.iter().map(from).collect()
+}
+
+/// 2 for overload, 1 for pass, 0 for no answer, if that is known within so many slots of each pattern.
+pub fn by_distance_within(tasks: &[Task], slots: u64) -> Option<u64> {
+    if overloaded(tasks) {
+        return Some(2);
+    }
+    for pattern in patterns(tasks) {
+        if !calm_within(&pattern, slots)? {
+            return Some(0);
+        }
+    }
+    Some(1)
+}
+
+pub fn by_distance(tasks: &[Task]) -> u64 {
+    by_distance_within(tasks, u64::MAX).expect("each run is caught up within a round")
 }
 
 // The verdict.
@@ -609,6 +654,7 @@ fn answered(request: &Request) -> Result<(u64, Vec<u8>), Refusal> {
             fitting(request, plain::text_of(budget, &tasks))
         }
         Call::Quick => Ok((u64::from(quick(&read_table(request)?.1)), Vec::new())),
+        Call::Distance => Ok((by_distance(&read_table(request)?.1), Vec::new())),
     }
 }
 

@@ -47,7 +47,8 @@ uint64_t plain_call(uint32_t call, const uint8_t *file, size_t file_len, uint8_t
     case WRITE: return write_words(file, file_len, number, buffer, buffer_len);
     case FROM_TEXT: return yolizadwa_from_text(file, file_len, buffer, buffer_len);
     case TO_TEXT: return yolizadwa_to_text(file, file_len, buffer, buffer_len);
-    default: return yolizadwa_quick(file, file_len);
+    case QUICK: return yolizadwa_quick(file, file_len);
+    default: return yolizadwa_distance(file, file_len);
     }
 }
 

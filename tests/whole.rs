@@ -70,6 +70,7 @@ pub fn stack(bench: &mut Bench) {
     let writes: Vec<Request> = hard_tables().iter().flat_map(|tasks| hard_writes(tasks)).collect();
     deepest(bench, "check", &checks);
     deepest(bench, "quick", &files.iter().cloned().map(Request::quick).collect::<Vec<_>>());
+    deepest(bench, "distance", &files.iter().cloned().map(Request::distance).collect::<Vec<_>>());
     deepest(bench, "start", &starts);
     deepest(bench, "step", &steps);
     deepest(bench, "write", &writes);

@@ -2,7 +2,7 @@
 use mathlib.Core.Path.{_≡_, refl, sym, ap, _∙_}
 use mathlib.Core.Logic.{_↔_, _⊎_, inl, inr}
 use mathlib.Core.Bool.{Bool, _&&_}
-use Prim.Native.Nat.{ℕ, zero, suc, _+_, _*_, _/_, _%_, _^_, _≤_, _<_, _∣_}
+use Prim.Native.Nat.{ℕ, zero, suc, _+_, _-_, _*_, _/_, _%_, _^_, _≤_, _<_, _∣_}
 use native.Mathlib.Omega.{arith}
 use native.Mathlib.Numerals.{add-one}
 use native.Mathlib.Nat.{
@@ -34,6 +34,8 @@ use native.Mathlib.Nat.{
   one-dvd,
   mul-pos,
   mul-le-mul,
+  mul-le-mul-left,
+  mod-add-div',
   pow-zero,
   pow-suc,
 }
@@ -89,9 +91,37 @@ euclid-is (suc n) a zero l = gcd-zero a
 euclid-is (suc n) a (suc b) l = gcd-step (euclid-is n (suc b) (a % suc b) (omega (arith, mod-lt a (zero-lt-suc b))))
 
 -- `gcd` makes enough steps.
-gcd-is : (a b : ℕ) → IsGcd a b (gcd a b)
+pub gcd-is : (a b : ℕ) → IsGcd a b (gcd a b)
 unfolding gcd
 gcd-is a b = euclid-is b a b (le-refl b)
+
+-- Multiples of a and b that differ by g.
+abbrev Ahead : ℕ → ℕ → ℕ → Type 0
+Ahead a b g = (x : ℕ) × (y : ℕ) × (x * a ≡ y * b + g)
+
+-- Of two such numbers that are not 0 either may be the larger.
+ahead-turn : (a b g : ℕ) → 0 < a → 0 < b → Ahead a b g → Ahead b a g
+ahead-turn a b g p q (x, y, e) =
+    let u = (x + y) * a - y in
+    let v = (x + y) * b - x in
+    let c : (u + y) * b ≡ (x + y) * a * b = ap (λ (z : ℕ). z * b) (omega (arith, mul-le-mul-left (x + y) p)) in
+    let d : (v + x) * a ≡ (x + y) * b * a = ap (λ (z : ℕ). z * a) (omega (arith, mul-le-mul-left (x + y) q)) in
+    (u, v, omega arith)
+
+-- Euclid's recursion finds such multiples of the greatest common divisor.
+euclid-ahead : (n a b : ℕ) → b ≤ n → Ahead a b (euclid n a b) ⊎ Ahead b a (euclid n a b)
+unfolding euclid
+euclid-ahead zero a b l = inl (1, 0, omega arith)
+euclid-ahead (suc n) a zero l = inl (1, 0, omega arith)
+euclid-ahead (suc n) a (suc b) l = go (euclid-ahead n (suc b) (a % suc b) (omega (arith, mod-lt a (zero-lt-suc b))))
+  where
+    go : Ahead (suc b) (a % suc b) (euclid n (suc b) (a % suc b)) ⊎ Ahead (a % suc b) (suc b) (euclid n (suc b) (a % suc b)) → Ahead a (suc b) (euclid n (suc b) (a % suc b)) ⊎ Ahead (suc b) a (euclid n (suc b) (a % suc b))
+    go (inl (x, y, e)) = inr (y * (a / suc b) + x, y, omega (arith, ap (λ (z : ℕ). y * z) (mod-add-div' a (suc b))))
+    go (inr (x, y, e)) = inl (x, x * (a / suc b) + y, omega (arith, ap (λ (z : ℕ). x * z) (mod-add-div' a (suc b))))
+
+pub gcd-ahead : (a b : ℕ) → 0 < a → 0 < b → (x : ℕ) × (y : ℕ) × (x * a ≡ y * b + gcd a b)
+unfolding gcd
+gcd-ahead a b p q = elim (euclid-ahead b a b (le-refl b)) [ inl h ↦ h | inr h ↦ ahead-turn b a (gcd a b) q p h ]
 
 -- The least common multiple of two numbers.
 unfoldable pub lcm : ℕ → ℕ → ℕ

@@ -1,7 +1,7 @@
 -- Laws of searches: the first and the last number that passes a test, the largest value, the least number with a property.
 use mathlib.Core.Path.{_≡_, refl}
 use mathlib.Core.Logic.{_↔_}
-use mathlib.Core.Bool.{Bool, true, false}
+use mathlib.Core.Bool.{Bool, true, false, _&&_}
 use mathlib.Core.WellFounded.{fix}
 use Prim.Native.Nat.{ℕ, zero, suc, _+_, _-_, max, _≤_, _<_}
 use native.Mathlib.Nat.{le-refl, le-step}
@@ -9,9 +9,10 @@ use native.Mathlib.Decide.{ℕ-discrete, decLe, decLt}
 use native.Mathlib.Numerals.{add-one}
 use native.Mathlib.Omega.{arith}
 use borrow.Author.Count.{below-more}
-use lib.Dec.{T}
+use lib.Dec.{T, eqb, eqb→eq, eqb-refl}
 use lib.WfN.{Nat·lt-wfRel}
-use Rattle.model.specs.Notation.{first, last, largest, Least}
+use Rattle.model.specs.Notation.{some, first, last, largest, Least}
+use Rattle.counting.specs.Count.{and-iff, some-iff, decT}
 
 -- None of the numbers from n up to i passes.
 abbrev pub NoneFrom : (ℕ → Bool) → ℕ → ℕ → Type 0
@@ -206,3 +207,22 @@ least-le P t u a h = elim (decLt u t) [ yes l ↦ absurd (a .1 u l h) | no l ↦
 -- No property holds first at two numbers.
 pub least-unique : (P : ℕ → Type 0) (t u : ℕ) → Least P t → Least P u → t ≡ u
 least-unique P t u a b = omega (arith, least-le P t u a (b .0), least-le P u t b (a .0))
+
+-- Of the values below n that pass a test one is the smallest, if one passes.
+pub smallest-of : (p : ℕ → Bool) (n : ℕ) (f : ℕ → ℕ) → T (some p n) → (i : ℕ) × (i < n) × T (p i) × ((k : ℕ) → k < n → T (p k) → f i ≤ f k)
+smallest-of p n f h =
+    let (m, l, q) = some-iff p n .0 h in
+    let (u, b, at) = least Attained (λ v. decT (some (λ k. p k && eqb (f k) v) n)) (f m) (attained m l q) in
+    let (i, a, x) = some-iff _ n .0 (at .0) in
+    let (y, z) = and-iff (p i) (eqb (f i) u) .0 x in
+    (i, a, y, λ k c d. omega (arith, eqb→eq (f i) u z, least-le Attained u (f k) at (attained k c d)))
+  where
+    Attained : ℕ → Type 0
+    Attained v = T (some (λ k. p k && eqb (f k) v) n)
+
+    attained : (k : ℕ) → k < n → T (p k) → Attained (f k)
+    attained k l t = some-iff (λ m. p m && eqb (f m) (f k)) n .1 (k, l, and-iff (p k) (eqb (f k) (f k)) .1 (t, eqb-refl (f k)))
+
+-- Of the values below n one is the smallest.
+pub smallest : (n : ℕ) (f : ℕ → ℕ) → 0 < n → (i : ℕ) × (i < n) × ((k : ℕ) → k < n → f i ≤ f k)
+smallest n f h = let (i, l, t, a) = smallest-of (λ k. true) n f (some-iff (λ k. true) n .1 (0, h, tt)) in (i, l, λ k m. a k m tt)

@@ -7,19 +7,19 @@ use Prim.Native.Nat.{ℕ, zero, suc, _-_, _/_, _%_}
 use lib.Dec.{eqb, lit≤, lit<}
 use lib.ListN.{length, getD, replicate}
 use Rattle.model.specs.Values.{Task, Table, Measure, Judgement, Verdict, Outcome, Admission, Given, Writing, refusal, verdictSaid, judgementSaid, admissionSaid, givenSaid, outcomeSaid}
-use Rattle.model.specs.Notation.{sum, largest, count, first, last, bits, fill, text, digits, decimal}
+use Rattle.model.specs.Notation.{pos, negsuc, sum, largest, count, first, last, bits, fill, text, digits, decimal}
 use Rattle.model.specs.Limits.{taskLimit, longestFile, longestText}
-use Rattle.model.specs.Tasks.{taskFault, firstFaulty, round, load, horizon, measure, judgedBy, judged}
+use Rattle.model.specs.Tasks.{task, taskFault, firstFaulty, round, load, horizon, measure, judgedBy, judged}
 use Rattle.model.specs.Demand.{jobsIn, demand, asksTooMuch, lateAt}
 use Rattle.model.specs.Schedule.{none, given}
 use Rattle.model.specs.Run.{tieOrder, choose, ownerOf, served, owner, run, response}
 use Rattle.model.specs.Idle.{idleAt, firstIdle, missedAt}
-use Rattle.model.specs.Patterns.{startingAt, calm, simultaneous, quickPass, quickAnswer}
+use Rattle.model.specs.Patterns.{startingAt, calm, simultaneous, quickPass, quickAnswer, commonDivisor, reduced, distance, pattern, distancePass, distanceAnswer}
 use Rattle.model.specs.Verdict.{needed, lateStart, verdict, settledBy, brief, Permitted}
 use Rattle.model.specs.TableFile.{taskIn, tableOf, bytesOf, taskRecords, fileOf, readFrom, formOf, loadedFrom}
 use Rattle.model.specs.Dispatcher.{State, firstStrange, startOf, started, ownerNow, after, turn, stepped}
 use Rattle.model.specs.History.{stateAt, ownerAt, reported, had, Finished}
-use Rattle.model.specs.Report.{worstLines, reportOf, refused, written, Checked, quickExported, Printed}
+use Rattle.model.specs.Report.{worstLines, reportOf, refused, written, Checked, quickExported, distanceExported, Printed}
 use Rattle.model.specs.StateBuffer.{bufferOf, stateIn, startExported, stepExported, handed}
 use Rattle.model.specs.Writer.{fileWritten, firstStranger, tableIn, writeExported}
 use Rattle.model.specs.PlainText.{split, filled, allDigits, valueAfter, numbersFault, same, budgetLine, taskLine, lineOf, readLines, textForm, textLoaded, taskTexts, textOf, textWritten, fromTextExported, toTextExported}
@@ -253,6 +253,31 @@ calm-or-not = (refl, refl, refl)
 quick : map quickPass tables ≡ true ∷ false ∷ false ∷ false ∷ false ∷ false ∷ true ∷ false ∷ false ∷ true ∷ []
 unfolding quickPass calm startingAt fill firstIdle idleAt missedAt first round load sum count served ownerOf choose
 quick = refl
+
+-- ---- the distance test
+
+-- Reduced by 5 into 0 to 4: -1 is 4, -5 is 0, -8 is 2, and 8 is 3.
+reduced-upward : map (λ z. reduced z 5) (negsuc 0 ∷ negsuc 4 ∷ negsuc 7 ∷ pos 8 ∷ []) ≡ 4 ∷ 0 ∷ 2 ∷ 3 ∷ []
+reduced-upward = refl
+
+-- The table of the request: the offsets of its patterns, in the first of them 0, 0 and 2, where task 0 stands first.
+abbrev table-3-4-6 : Table
+table-3-4-6 = tableOf (of 0 1 1 3 ∷ of 1 1 1 4 ∷ of 2 1 1 6 ∷ [])
+
+pattern-offsets : map (λ i. map (λ k. task (pattern table-3-4-6 i) k .offset) (0 ∷ 1 ∷ 2 ∷ [])) (0 ∷ 1 ∷ 2 ∷ []) ≡ (0 ∷ 0 ∷ 2 ∷ []) ∷ (0 ∷ 0 ∷ 1 ∷ []) ∷ (1 ∷ 1 ∷ 0 ∷ []) ∷ []
+unfolding startingAt fill distance commonDivisor last
+pattern-offsets = refl
+
+-- Of tables a to j also b and e pass by their distances.
+by-distance : map distancePass tables ≡ true ∷ true ∷ false ∷ false ∷ true ∷ false ∷ true ∷ false ∷ false ∷ true ∷ []
+unfolding distancePass distance commonDivisor calm startingAt fill firstIdle idleAt missedAt first last round load sum count served ownerOf choose
+by-distance = refl
+
+-- A pattern misses a deadline by whatever interval, as one of the first table here does, where from 0 on no interval asks too much. The
+-- second is source 000's, after theorem 2. Both pass.
+not-by-distance : map distancePass (tableOf (of 2 1 1 6 ∷ of 1 2 4 4 ∷ of 0 1 1 6 ∷ []) ∷ tableOf (of 0 1 2 5 ∷ of 1 1 2 4 ∷ of 2 1 2 6 ∷ []) ∷ []) ≡ false ∷ false ∷ []
+unfolding distancePass distance commonDivisor calm startingAt fill firstIdle idleAt missedAt first last round load sum count served ownerOf choose
+not-by-distance = refl
 
 -- ---- table files
 
@@ -495,6 +520,11 @@ told =
 quick-told : map quickExported (file-short ∷ (budgetOf 0 ++ rowOf (of 0 2 4 4) ++ rowOf (of 0 2 4 4) ++ (3 ∷ [])) ∷ (9 ∷ []) ∷ (budgetOf 0 ++ (3 ∷ [])) ∷ []) ≡ 0 ∷ 1 ∷ 1376256 ∷ 65536 ∷ []
 unfolding formOf readFrom quickAnswer judged firstFaulty taskFault horizon largest quickPass calm startingAt fill firstIdle idleAt missedAt first round load sum count served ownerOf choose
 quick-told = refl
+
+-- The exported distance test: pass for b, no answer to c, overload of i; a file is refused by its form, and by its table.
+distance-told : map distanceExported (file-short ∷ (budgetOf 0 ++ rowOf (of 8 6 7 15) ++ rowOf (of 0 2 2 5) ++ (3 ∷ [])) ∷ (budgetOf 0 ++ rowOf (of 0 3 5 5) ++ rowOf (of 2 3 5 5) ++ (3 ∷ [])) ∷ (9 ∷ []) ∷ (budgetOf 0 ++ (3 ∷ [])) ∷ []) ≡ 1 ∷ 0 ∷ 2 ∷ 1376256 ∷ 65536 ∷ []
+unfolding formOf readFrom distanceAnswer judged firstFaulty taskFault horizon largest distancePass distance commonDivisor calm startingAt fill firstIdle idleAt missedAt first last round load sum count served ownerOf choose
+distance-told = refl
 
 -- The line of a refusal; a number as long as the longest of a report, 16 times the limit of H.
 refusal-lines : Printed (budgetOf 0 ++ (9 ∷ [])) (text "refused 21 at 9\n") × Printed (budgetOf 0 ++ (3 ∷ 3 ∷ [])) (text "refused 24 at 10\n") × (decimal 16000000000 ≡ text "16000000000")

@@ -5,6 +5,7 @@ pub use mathlib.Core.Bool.{Bool, true, false, cond, not, _&&_, _||_}
 pub use mathlib.Core.List.{List, [], _∷_, _++_}
 pub use Prim.Native.Nat.{ℕ, zero, suc, _+_, _-_, _*_, _/_, _%_, _^_, min, max, _≤_, _<_}
 pub use lib.Dec.{T, leb, ltb, eqb}
+pub use lib.IntN.{ℤ, pos, negsuc, _-ℤ_}
 pub use lib.ListN.{length, getD, set, replicate, take, drop}
 use Prim.Native.String as string
 use Prim.Native.Char.{code}

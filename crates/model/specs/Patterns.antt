@@ -1,6 +1,6 @@
--- The quick test (T-03): the table with other offsets, walked to its first idle instant.
-use Rattle.model.specs.Notation.{Bool, cond, not, _&&_, ℕ, suc, leb, every, fill}
-use Rattle.model.specs.Values.{Table, Judgement, QuickAnswer}
+-- The quick test (T-03) and the distance test (T-05): tables with other offsets, each walked to its first idle instant.
+use Rattle.model.specs.Notation.{Bool, cond, not, _&&_, ℕ, suc, _-_, _%_, ℤ, pos, negsuc, _-ℤ_, leb, eqb, every, last, fill}
+use Rattle.model.specs.Values.{Task, Table, Judgement, QuickAnswer, DistanceAnswer}
 use Rattle.model.specs.Tasks.{task, round, load, judged}
 use Rattle.model.specs.Run.{tieOrder}
 use Rattle.model.specs.Idle.{firstIdle, missedAt}
@@ -36,3 +36,32 @@ quickJudged t (Judgement.WellFormed m) = cond (quickPass t) QuickAnswer.Pass Qui
 
 unfoldable pub quickAnswer : Table → QuickAnswer
 quickAnswer t = quickJudged t (judged t)
+
+-- The greatest number that divides both, of which the first is not 0.
+unfoldable pub commonDivisor : ℕ → ℕ → ℕ
+commonDivisor a b = last (λ g. eqb (a % g) 0 && eqb (b % g) 0) (suc a)
+
+-- An integer reduced upward into 0 to g - 1: the number there that differs from it by a multiple of g. `negsuc n` is -(n + 1).
+abbrev pub reduced : ℤ → ℕ → ℕ
+reduced (pos n) g = n % g
+reduced (negsuc n) g = (g - suc n % g) % g
+
+-- The smallest distance from a release of `one` to a simultaneous or later one of `other`: the difference of their offsets, reduced.
+unfoldable pub distance : Task → Task → ℕ
+distance one other = reduced (pos (other .offset) -ℤ pos (one .offset)) (commonDivisor (one .period) (other .period))
+
+-- The pattern of task i: i starts at 0, and every other task at its distance from i.
+abbrev pub pattern : Table → ℕ → Table
+pattern t i = startingAt t (λ k. distance (task t i) (task t k))
+
+-- Distance pass (T-05): no overload, and every task's pattern is calm.
+unfoldable pub distancePass : Table → Bool
+distancePass t = light t && every (λ i. calm (pattern t i)) (t .count)
+
+-- The one answer of the distance test to any table. Overload is said first.
+abbrev pub distanceJudged : Table → Judgement → DistanceAnswer
+distanceJudged t (Judgement.Refused r) = DistanceAnswer.Refused r
+distanceJudged t (Judgement.WellFormed m) = cond (light t) (cond (distancePass t) DistanceAnswer.Pass DistanceAnswer.NoAnswer) DistanceAnswer.Overload
+
+unfoldable pub distanceAnswer : Table → DistanceAnswer
+distanceAnswer t = distanceJudged t (judged t)

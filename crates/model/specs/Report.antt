@@ -1,10 +1,10 @@
 -- The report on an answer, byte for byte; the exported calls on a file; the program's output.
 use Rattle.model.specs.Notation.{List, [], _++_, Bool, true, false, cond, _≡_, ℕ, zero, suc, _+_, _*_, ltb, getD, length, drop, text, decimal}
-use Rattle.model.specs.Values.{Refusal, Verdict, Outcome, Answer, QuickAnswer, Admission, Loaded, refusal}
+use Rattle.model.specs.Values.{Table, Refusal, Verdict, Outcome, Answer, QuickAnswer, DistanceAnswer, Admission, Loaded, refusal}
 use Rattle.model.specs.Limits.{reportBytes}
 use Rattle.model.specs.TableFile.{formOf, loadedFrom}
 use Rattle.model.specs.Verdict.{Permitted}
-use Rattle.model.specs.Patterns.{quickPass, quickAnswer}
+use Rattle.model.specs.Patterns.{quickPass, quickAnswer, distanceAnswer}
 
 -- A line of the report.
 abbrev pub line : List ℕ → List ℕ
@@ -77,14 +77,28 @@ Checked file buffer e =
     let admission = cond (ltb (length buffer) reportBytes) (Admission.Refused (refusal 30 (length buffer))) (loadedFrom file .admission) in
     FileTold (λ r. refused r buffer) (λ report. written report buffer) (loadedFrom file) e admission
 
--- The number that the exported quick test returns on any file: 1 for pass, 0 for no answer, or the refusal of its form or table.
+-- The number that an exported call on any file alone returns: the refusal of its form, or what it says of its table.
+abbrev pub fileNumber : List ℕ → (Table → ℕ) → ℕ
+fileNumber file tell = elim (formOf file .admission) [ Admission.Refused r ↦ refusalNumber r | Admission.Admitted ↦ tell (formOf file .table) ]
+
+-- Of the quick test: 1 for pass, 0 for no answer, or the refusal of the table.
 abbrev pub quickNumber : QuickAnswer → ℕ
 quickNumber (QuickAnswer.Refused r) = refusalNumber r
 quickNumber QuickAnswer.Pass = 1
 quickNumber QuickAnswer.NoAnswer = 0
 
 abbrev pub quickExported : List ℕ → ℕ
-quickExported file = elim (formOf file .admission) [ Admission.Refused r ↦ refusalNumber r | Admission.Admitted ↦ quickNumber (quickAnswer (formOf file .table)) ]
+quickExported file = fileNumber file (λ t. quickNumber (quickAnswer t))
+
+-- Of the distance test: 2 for overload, 1 for pass, 0 for no answer, or the refusal of the table.
+abbrev pub distanceNumber : DistanceAnswer → ℕ
+distanceNumber (DistanceAnswer.Refused r) = refusalNumber r
+distanceNumber DistanceAnswer.Overload = 2
+distanceNumber DistanceAnswer.Pass = 1
+distanceNumber DistanceAnswer.NoAnswer = 0
+
+abbrev pub distanceExported : List ℕ → ℕ
+distanceExported file = fileNumber file (λ t. distanceNumber (distanceAnswer t))
 
 -- The line that names a refusal.
 abbrev pub refusalLine : Refusal → List ℕ

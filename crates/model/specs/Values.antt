@@ -9,6 +9,7 @@ pub use Rattle.values.specs.declared.Verdict.{Verdict}
 pub use Rattle.values.specs.declared.Outcome.{Outcome}
 pub use Rattle.values.specs.declared.Answer.{Answer}
 pub use Rattle.values.specs.declared.QuickAnswer.{QuickAnswer}
+pub use Rattle.values.specs.declared.DistanceAnswer.{DistanceAnswer}
 pub use Rattle.values.specs.declared.Admission.{Admission}
 pub use Rattle.values.specs.declared.Loaded.{Loaded}
 pub use Rattle.values.specs.declared.Writing.{Writing}
@@ -53,6 +54,13 @@ abbrev pub quickSaid : QuickAnswer → List ℕ
 quickSaid (QuickAnswer.Refused r) = refusalSaid r
 quickSaid QuickAnswer.Pass = 0 ∷ 1 ∷ []
 quickSaid QuickAnswer.NoAnswer = 0 ∷ 0 ∷ []
+
+-- Of the distance test: a refusal, or 0 with 2 for overload, 0 with 1 for pass, 0 with 0 for no answer.
+abbrev pub distanceSaid : DistanceAnswer → List ℕ
+distanceSaid (DistanceAnswer.Refused r) = refusalSaid r
+distanceSaid DistanceAnswer.Overload = 0 ∷ 2 ∷ []
+distanceSaid DistanceAnswer.Pass = 0 ∷ 1 ∷ []
+distanceSaid DistanceAnswer.NoAnswer = 0 ∷ 0 ∷ []
 
 abbrev pub givenSaid : Given → List ℕ
 givenSaid (Given.Refused r) = refusalSaid r

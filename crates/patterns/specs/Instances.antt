@@ -1,21 +1,21 @@
 -- NO THEOREM OF THIS CRATE IS EMPTY: tables b, d and g meet what they ask for.
 use mathlib.Core.Path.{_≡_, refl}
 use mathlib.Core.Bool.{false}
-use Prim.Native.Nat.{ℕ, _-_, _≤_, _<_}
+use Prim.Native.Nat.{ℕ, _+_, _-_, _≤_, _<_}
 use native.Mathlib.Omega.{arith}
 use lib.Dec.{T, lit≤, lit<}
 use Rattle.values.specs.declared.Judgement.{Judgement}
 use Rattle.values.specs.declared.Verdict.{Verdict}
-use Rattle.model.specs.Notation.{sum, largest, count, first, fill, Least}
-use Rattle.model.specs.Tasks.{taskFault, firstFaulty, round, load, horizon, judged}
+use Rattle.model.specs.Notation.{sum, largest, count, first, last, fill, Least}
+use Rattle.model.specs.Tasks.{release, taskFault, firstFaulty, round, load, horizon, judged}
 use Rattle.model.specs.Demand.{jobsIn, demand, lateAt}
 use Rattle.model.specs.Run.{tieOrder, choose, ownerOf, served}
 use Rattle.model.specs.Verdict.{needed, verdict}
 use Rattle.model.specs.Dispatcher.{startOf, after, ownerNow}
 use Rattle.model.specs.History.{stateAt}
 use Rattle.model.specs.Idle.{idleAt, firstIdle, missedAt}
-use Rattle.model.specs.Patterns.{startingAt, calm, simultaneous, quickPass}
-use Rattle.model.specs.Examples.{table-b, table-d, table-g}
+use Rattle.model.specs.Patterns.{startingAt, calm, simultaneous, quickPass, commonDivisor, distance, distancePass}
+use Rattle.model.specs.Examples.{of, table-b, table-d, table-g}
 use Rattle.counting.specs.Search.{first-before}
 use Rattle.wellformed.specs.Ranges.{Ranged}
 use Rattle.wellformed.specs.WellFormed.{well-formed}
@@ -36,8 +36,12 @@ use Rattle.patterns.specs.Pulled.{pulled-late}
 use Rattle.patterns.specs.Missed.{missed-late}
 use Rattle.patterns.specs.Starting.{starting-well-formed}
 use Rattle.patterns.specs.Quick.{quick-passes, quick-never, quick-iff}
+use Rattle.patterns.specs.Distance.{distance-le}
+use Rattle.patterns.specs.Attained.{distance-attained}
+use Rattle.patterns.specs.DistancePass.{distance-passes}
+use Rattle.patterns.specs.QuickDistance.{quick-distance}
 
--- Table g has load exactly 1 and passes quickly, so the exact test passes it.
+-- Table g has load exactly 1 and passes quickly, so its distances pass it and so does the exact test.
 g-ranged : Ranged table-g
 unfolding judged firstFaulty taskFault first round load horizon largest sum count
 g-ranged = well-formed table-g (record { round = 4; load = 4; horizon = 8 }) refl .ranged
@@ -49,6 +53,9 @@ g-quick = tt
 g-passes : verdict table-g 8 ≡ Verdict.Passes
 unfolding horizon largest round first count
 g-passes = quick-passes table-g g-ranged g-quick 8 (lit≤ tt)
+
+g-distance : T (distancePass table-g)
+g-distance = quick-distance table-g g-ranged g-quick
 
 -- Its first idle instant is 4, in the other order of its two tasks too.
 g-reversed : Ranks table-g (λ i. 1 - i)
@@ -96,6 +103,22 @@ b-simultaneous = starting-well-formed table-b (record { round = 15; load = 11; h
 d-infeasible : Feasible table-d → ⊥
 unfolding quickPass calm startingAt fill firstIdle idleAt missedAt first round load sum count served ownerOf choose
 d-infeasible h = quick-iff table-b b-ranged .1 h
+
+-- But its distances pass it, and so the exact test does.
+b-distance : T (distancePass table-b)
+unfolding distancePass distance commonDivisor calm startingAt fill firstIdle idleAt missedAt first last round load sum count served ownerOf choose
+b-distance = tt
+
+b-passes : verdict table-b 38 ≡ Verdict.Passes
+unfolding horizon largest round first count
+b-passes = distance-passes table-b b-ranged b-distance 38 (lit≤ tt)
+
+-- From its first task, released at 8, the second comes 2 later, at 10, and never sooner: the difference of the offsets is -8, and g is 5.
+b-least : 8 + distance (of 8 5 7 15) (of 0 2 2 5) ≤ 10
+b-least = distance-le (of 8 5 7 15) (of 0 2 2 5) (lit< tt) 0 2 (lit≤ tt)
+
+b-attained : (j : ℕ) × (m : ℕ) × (release (of 0 2 2 5) m ≡ release (of 8 5 7 15) j + distance (of 8 5 7 15) (of 0 2 2 5))
+b-attained = distance-attained (of 8 5 7 15) (of 0 2 2 5) (lit< tt) (lit< tt)
 
 -- Table d is late first at 7, before a walk of it has nothing left, and so is not calm.
 d-ranged : Ranged table-d

@@ -12,5 +12,11 @@ pub mod Starting
 pub mod Calm
 pub mod WalkCalm
 pub mod Quick
+-- Distances and the distance test.
+pub mod Reduced
+pub mod Distance
+pub mod Attained
+pub mod DistancePass
+pub mod QuickDistance
 -- No theorem is empty.
 pub mod Instances

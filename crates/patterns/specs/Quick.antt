@@ -1,15 +1,19 @@
 -- QUICK PASS (`quick-passes`): it means that the exact test passes the table, with any budget that reaches the horizon.
 use mathlib.Core.Path.{_≡_, refl}
 use mathlib.Core.Logic.{_↔_}
+use mathlib.Core.Bool.{Bool, true, false, cond}
 use Prim.Native.Nat.{ℕ, _≤_}
 use native.Mathlib.Nat.{le-refl}
 use native.Mathlib.Omega.{arith}
 use lib.Dec.{T}
 use Rattle.values.specs.declared.Table.{Table}
+use Rattle.values.specs.declared.Measure.{Measure}
+use Rattle.values.specs.declared.Judgement.{Judgement}
 use Rattle.values.specs.declared.Verdict.{Verdict}
+use Rattle.values.specs.declared.QuickAnswer.{QuickAnswer}
 use Rattle.model.specs.Tasks.{task, release, round, load, horizon}
 use Rattle.model.specs.Verdict.{verdict}
-use Rattle.model.specs.Patterns.{startingAt, light, calm, simultaneous, quickPass}
+use Rattle.model.specs.Patterns.{startingAt, light, calm, simultaneous, quickPass, quickJudged}
 use Rattle.counting.specs.Count.{tests, and-iff}
 use Rattle.counting.specs.Below.{below-next}
 use Rattle.wellformed.specs.Ranges.{Ranged}
@@ -20,6 +24,15 @@ use Rattle.backlog.specs.Feasible.{Feasible, feasible-iff}
 use Rattle.backlog.specs.Passes.{passes-iff, never-of-passed}
 use Rattle.patterns.specs.Starting.{starting-round, starting-load, starting-ranged, starting-again}
 use Rattle.patterns.specs.Calm.{calm-iff, calm-never}
+
+-- By the cases of the table and of the test: an answer of pass is a pass of a well-formed table.
+pub quick-case : (t : Table) (j : Judgement) → quickJudged t j ≡ QuickAnswer.Pass → ((m : Measure) × (j ≡ Judgement.WellFormed m)) × T (quickPass t)
+quick-case t (Judgement.Refused r) e = let z : _≡_ {A = ℕ} 0 1 = cc in absurd (omega arith)
+quick-case t (Judgement.WellFormed m) e = ((m, refl), go (quickPass t) e)
+  where
+    go : (b : Bool) → cond b QuickAnswer.Pass QuickAnswer.NoAnswer ≡ QuickAnswer.Pass → T b
+    go true e = tt
+    go false e = let z : _≡_ {A = ℕ} 0 1 = cc in absurd (omega arith)
 
 -- Overload does not pass.
 pub quick-light : (t : Table) → T (quickPass t) → load t ≤ round t

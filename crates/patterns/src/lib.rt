@@ -1,1 +1,1 @@
-// The theory of idle instants and of the quick test.
+// The theory of idle instants, of the quick test and of the distance test.

@@ -6,4 +6,6 @@ pub mod Tables
 pub mod Camera
 pub mod Writer
 pub mod PlainText
+pub mod FileNumbers
 pub mod QuickTests
+pub mod DistanceTest

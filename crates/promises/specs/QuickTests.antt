@@ -18,15 +18,15 @@ use Rattle.model.specs.Values.{refusalSaid, quickSaid}
 use Rattle.model.specs.Tasks.{round, load, horizon, judged}
 use Rattle.model.specs.Schedule.{Schedule, Good}
 use Rattle.model.specs.Verdict.{verdict}
-use Rattle.model.specs.TableFile.{formOf, loadedFrom}
-use Rattle.model.specs.Patterns.{startingAt, simultaneous, quickPass, quickJudged, quickAnswer}
+use Rattle.model.specs.TableFile.{loadedFrom}
+use Rattle.model.specs.Patterns.{startingAt, simultaneous, quickPass, quickAnswer}
 use Rattle.model.specs.Report.{refusalNumber, quickNumber, quickExported}
 use Rattle.counting.specs.Count.{is-true, is-false}
 use Rattle.wellformed.specs.WellFormed.{well-formed}
 use Rattle.patterns.specs.Starting.{starting-ranged}
-use Rattle.patterns.specs.Quick.{quick-light, quick-passes, quick-same, quick-iff}
-use Rattle.tablefile.specs.Admitted.{admitted, refused-for}
-use Rattle.tablefile.specs.Refused.{AdmissionTellable, load-tellable}
+use Rattle.patterns.specs.Quick.{quick-case, quick-light, quick-passes, quick-same, quick-iff}
+use Rattle.tablefile.specs.Admitted.{admitted}
+use Rattle.promises.specs.FileNumbers.{Apart, Refuses, refused-file, read-file, file-apart}
 
 -- The quick test has one answer to every table.
 pub one-quick : (t : Table) (a b : QuickAnswer) → a ≡ quickAnswer t → b ≡ quickAnswer t → a ≡ b
@@ -44,15 +44,6 @@ quick-said t m well = rw well (go (quickPass t))
     go : (b : Bool) → quickSaid (cond b QuickAnswer.Pass QuickAnswer.NoAnswer) ≡ cond b (0 ∷ 1 ∷ []) (0 ∷ 0 ∷ [])
     go true = refl
     go false = refl
-
--- By the cases of the table and of the test: an answer of pass is a pass of a well-formed table.
-quick-case : (t : Table) (j : Judgement) → quickJudged t j ≡ QuickAnswer.Pass → ((m : Measure) × (j ≡ Judgement.WellFormed m)) × T (quickPass t)
-quick-case t (Judgement.Refused r) e = let z : _≡_ {A = ℕ} 0 1 = cc in absurd (omega arith)
-quick-case t (Judgement.WellFormed m) e = ((m, refl), go (quickPass t) e)
-  where
-    go : (b : Bool) → cond b QuickAnswer.Pass QuickAnswer.NoAnswer ≡ QuickAnswer.Pass → T b
-    go true e = tt
-    go false e = let z : _≡_ {A = ℕ} 0 1 = cc in absurd (omega arith)
 
 -- Quick pass means that the exact test passes the table, with every budget that reaches the horizon.
 pub quick-means-passes : (t : Table) → quickAnswer t ≡ QuickAnswer.Pass → (budget : ℕ) → horizon t ≤ budget → verdict t budget ≡ Verdict.Passes
@@ -94,29 +85,24 @@ pub one-quick-export : (file : List ℕ) (a b : ℕ) → a ≡ quickExported fil
 one-quick-export file a b e f = e ∙ sym f
 
 -- A file that is refused is refused as it is by the check, and one that is read gives its table's answer: 1 for pass, 0 for none.
-pub refused-quick-file : (file : List ℕ) (r : Refusal) → loadedFrom file .admission ≡ Admission.Refused r → quickExported file ≡ refusalNumber r
+refuses : Refuses (λ t. quickNumber (quickAnswer t))
 unfolding quickAnswer
-refused-quick-file file r h = elim (refused-for file r h) [ inl f ↦ rw (f, quickExported) | inr (f, j) ↦ rw (f, quickExported, j) ]
+refuses t r e = rw e refl
+
+pub refused-quick-file : (file : List ℕ) (r : Refusal) → loadedFrom file .admission ≡ Admission.Refused r → quickExported file ≡ refusalNumber r
+refused-quick-file file = refused-file file (λ t. quickNumber (quickAnswer t)) refuses
 
 pub read-quick-file : (file : List ℕ) → loadedFrom file .admission ≡ Admission.Admitted → quickExported file ≡ quickNumber (quickAnswer (loadedFrom file .table))
-read-quick-file file h =
-    let (e, well) = admitted file h in
-    let good : formOf file .admission ≡ Admission.Admitted = rw e at h in
-    rw (e, good, quickExported) refl
+read-quick-file file = read-file file (λ t. quickNumber (quickAnswer t))
 
--- So exactly the numbers from 65,536 on are refusals, with a number above 0 and a place below 65,536, and any other is 0 or 1.
-pub quick-file-apart : (file : List ℕ) → ((loadedFrom file .admission ≡ Admission.Admitted) × (quickExported file ≤ 1)) ⊎ ((r : Refusal) × (loadedFrom file .admission ≡ Admission.Refused r) × (quickExported file ≡ refusalNumber r) × ((0 < r .number) × (r .place < 65536)))
+-- So exactly the numbers from 65,536 on are refusals, and any other is 0 or 1.
+pub quick-file-apart : (file : List ℕ) → Apart file 1 (quickExported file)
 unfolding quickAnswer
-quick-file-apart file = go (loadedFrom file .admission) refl (load-tellable file)
+quick-file-apart file = file-apart file (λ t. quickNumber (quickAnswer t)) refuses 1 (λ t m well. rw well (low (quickPass t)))
   where
     low : (b : Bool) → quickNumber (cond b QuickAnswer.Pass QuickAnswer.NoAnswer) ≤ 1
     low true = omega arith
     low false = omega arith
-
-    go : (a : Admission) → loadedFrom file .admission ≡ a → AdmissionTellable a
-        → ((loadedFrom file .admission ≡ Admission.Admitted) × (quickExported file ≤ 1)) ⊎ ((r : Refusal) × (loadedFrom file .admission ≡ Admission.Refused r) × (quickExported file ≡ refusalNumber r) × ((0 < r .number) × (r .place < 65536)))
-    go (Admission.Refused r) e h = inr (r, e, refused-quick-file file r e, h)
-    go Admission.Admitted e h = let (same, (m, well)) = admitted file e in inl (e, rw (read-quick-file file e, same, well) (low (quickPass (formOf file .table))))
 
 pub quick-file-means : (file : List ℕ) → quickExported file ≡ 1 → (budget : ℕ) → horizon (loadedFrom file .table) ≤ budget → verdict (loadedFrom file .table) budget ≡ Verdict.Passes
 quick-file-means file e = elim (quick-file-apart file) [

@@ -76,6 +76,14 @@ pub enum QuickAnswer {
     NoAnswer,
 }
 
+// What the distance test says: a refusal, overload, pass, or no answer.
+pub enum DistanceAnswer {
+    Refused(Refusal),
+    Overload,
+    Pass,
+    NoAnswer,
+}
+
 // Whether a buffer, a file, or a table to start with, is taken.
 pub enum Admission {
     Refused(Refusal),

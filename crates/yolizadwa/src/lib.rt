@@ -1,5 +1,5 @@
-// The exported calls: the check of a table file into a report buffer, the quick test of one, the writer of one, texts, and the
-// start and the step of a camera's own loop.
+// The exported calls: the check of a table file into a report buffer, the quick test and the distance test of one, the writer of
+// one, texts, and the start and the step of a camera's own loop.
 ghost use mathlib.Core.Path.{_≡_};
 ghost use mathlib.Core.Bool.{not};
 ghost use Prim.Native.Nat.{_+_, _*_, _<_, _≤_, min};
@@ -8,7 +8,7 @@ ghost use lib.ListN.{length};
 ghost use Rattle.model.specs.Limits.{taskLimit, reportBytes};
 ghost use Rattle.model.specs.TableFile.{loadedFrom};
 ghost use Rattle.model.specs.Dispatcher.{started, stepped};
-ghost use Rattle.model.specs.Report.{quickNumber, quickExported, Checked};
+ghost use Rattle.model.specs.Report.{quickNumber, quickExported, distanceNumber, distanceExported, Checked};
 ghost use Rattle.model.specs.StateBuffer.{stateBytes, stateIn, quiet, startWritten, stepWritten, startExported, stepExported};
 ghost use Rattle.model.specs.Writer.{writeExported};
 ghost use Rattle.model.specs.PlainText.{fromTextExported, toTextExported};
@@ -18,6 +18,7 @@ use dispatch::Dispatcher;
 use slots::NO_TASK;
 use values::Admission;
 use values::Answer;
+use values::DistanceAnswer;
 use values::Given;
 use values::Outcome;
 use values::QuickAnswer;
@@ -118,6 +119,33 @@ pub extern "C" fn yolizadwa_quick(file: &[u8]) -> u64
         Admission::Admitted => {
             let table = form.table;
             quick_number(quick::test(table))
+        }
+    }
+}
+
+fn distance_number(answer: DistanceAnswer) -> u64
+    ensures { λ r. ⌜ r ≡ distanceNumber answer ⌝ }
+{
+    match answer {
+        DistanceAnswer::Refused(why) => refused(why),
+        DistanceAnswer::Overload => 2,
+        DistanceAnswer::Pass => 1,
+        DistanceAnswer::NoAnswer => 0,
+    }
+}
+
+// Any file: its form is looked at before its table.
+#[no_mangle]
+pub extern "C" fn yolizadwa_distance(file: &[u8]) -> u64
+    ensures { λ r. ⌜ r ≡ distanceExported (now (file .entry)) ⌝ }
+{
+    let form = tablefile::form_of(file);
+    let admission = form.admission;
+    match admission {
+        Admission::Refused(why) => refused(why),
+        Admission::Admitted => {
+            let table = form.table;
+            distance_number(distance::test(table))
         }
     }
 }

@@ -1,7 +1,7 @@
 -- Each return rewrites with what the file turned out to be.
 use mathlib.Core.Path.{ap, _∙_}
 use borrow.Author.Needs.{needs}
-use Rattle.model.specs.Report.{quickNumber, quickExported}
+use Rattle.model.specs.Report.{fileNumber, quickNumber}
 use Rattle.yolizadwa.proofs.yolizadwa_quick.Statement.{statement}
 use Rattle.yolizadwa.proofs.yolizadwa_quick.Tie as tie
 
@@ -26,13 +26,13 @@ quick-number-requires c κs = search needs
 returns : tie.Need-returns
 returns c =
     let known = c .before .before in
-    rw (quickExported, ← known .before .before .form-of .ensures) (rw (known .admission .given .1) (c .refused .ensures))
+    rw (fileNumber, ← known .before .before .form-of .ensures) (rw (known .admission .given .1) (c .refused .ensures))
 
 returns-2 : tie.Need-returns-2
 returns-2 c =
     let told = c .before .before .before in
     let form = told .before .before in
-    rw (quickExported, ← form .form-of .ensures) (rw (told .enum-told .given .1) (rw (← form .form-of .ensures) (c .quick-number .ensures ∙ ap quickNumber (c .before .test .ensures))))
+    rw (fileNumber, ← form .form-of .ensures) (rw (told .enum-told .given .1) (rw (← form .form-of .ensures) (c .quick-number .ensures ∙ ap quickNumber (c .before .test .ensures))))
 
 pub yolizadwa-quick-spec : {M : Type 1} → statement M
 yolizadwa-quick-spec =

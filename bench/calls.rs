@@ -1,0 +1,91 @@
+// The proved library's calls, table files for them, and the time that one takes. No program uses all of it.
+#![allow(dead_code)]
+
+#[derive(Clone, Copy)]
+pub struct Task {
+    pub offset: u32,
+    pub cost: u32,
+    pub deadline: u32,
+    pub period: u32,
+}
+
+extern "C" {
+    fn clock_gettime(clock: i32, time: *mut [i64; 2]) -> i32;
+    fn yolizadwa_check(file: *const u8, file_len: usize, report: *mut u8, report_len: usize) -> u64;
+    fn yolizadwa_quick(file: *const u8, file_len: usize) -> u64;
+    fn yolizadwa_distance(file: *const u8, file_len: usize) -> u64;
+    fn yolizadwa_start(file: *const u8, file_len: usize, state: *mut u8, state_len: usize) -> u64;
+    fn yolizadwa_step(file: *const u8, file_len: usize, state: *mut u8, state_len: usize, done: u32) -> u64;
+}
+
+pub fn check(file: &[u8], report: &mut [u8; 512]) -> u64 {
+    unsafe { yolizadwa_check(file.as_ptr(), file.len(), report.as_mut_ptr(), report.len()) }
+}
+
+pub fn quick(file: &[u8]) -> u64 {
+    unsafe { yolizadwa_quick(file.as_ptr(), file.len()) }
+}
+
+pub fn distance(file: &[u8]) -> u64 {
+    unsafe { yolizadwa_distance(file.as_ptr(), file.len()) }
+}
+
+pub fn start(file: &[u8], state: &mut [u8; 144]) -> u64 {
+    unsafe { yolizadwa_start(file.as_ptr(), file.len(), state.as_mut_ptr(), state.len()) }
+}
+
+pub fn step(file: &[u8], state: &mut [u8; 144], done: u32) -> u64 {
+    unsafe { yolizadwa_step(file.as_ptr(), file.len(), state.as_mut_ptr(), state.len(), done) }
+}
+
+pub fn report_on(file: &[u8]) -> String {
+    let mut report = [0u8; 512];
+    let length = check(file, &mut report);
+    assert!(length < 65536, "refused {} at {}", length >> 16, length & 0xffff);
+    String::from_utf8(report[..length as usize].to_vec()).unwrap()
+}
+
+pub fn table_file(tasks: &[Task], budget: u64) -> Vec<u8> {
+    let mut file = vec![1];
+    file.extend(budget.to_le_bytes());
+    for k in tasks {
+        file.push(2);
+        for number in [k.offset, k.cost, k.deadline, k.period] {
+            file.extend(number.to_le_bytes());
+        }
+    }
+    file.push(3);
+    file
+}
+
+pub fn gcd(a: u64, b: u64) -> u64 {
+    if b == 0 { a } else { gcd(b, a % b) }
+}
+
+pub fn round(tasks: &[Task]) -> u64 {
+    tasks.iter().fold(1, |h, k| h / gcd(h, k.period as u64) * k.period as u64)
+}
+
+pub fn horizon(tasks: &[Task]) -> u64 {
+    tasks.iter().map(|k| k.offset as u64).max().unwrap() + 2 * round(tasks)
+}
+
+pub fn task(offset: u32, cost: u32, deadline: u32, period: u32) -> Task {
+    Task { offset, cost, deadline, period }
+}
+
+// The time that this thread has had, in nanoseconds: what others do on the machine meanwhile is not in it.
+pub fn now() -> i64 {
+    const THREAD_TIME: i32 = 3;
+    let mut time = [0i64; 2];
+    assert_eq!(unsafe { clock_gettime(THREAD_TIME, &mut time) }, 0);
+    time[0] * 1_000_000_000 + time[1]
+}
+
+pub fn timed(calls: u64, call: &mut dyn FnMut()) -> f64 {
+    let began = now();
+    for _ in 0..calls {
+        call();
+    }
+    (now() - began) as f64 / calls as f64
+}

@@ -1,0 +1,62 @@
+-- A refusal, an overload, or what the patterns tell.
+use mathlib.Core.Path.{_≡_, sym, _∙_}
+use borrow.Author.Needs.{needs}
+use Rattle.values.specs.declared.Judgement.{Judgement}
+use Rattle.model.specs.Tasks.{judged}
+use Rattle.model.specs.Patterns.{distancePass, distanceAnswer}
+use Rattle.distance.specs.Passing.{is-heavy, is-light}
+use Rattle.distance.proofs.test.Statement.{statement}
+use Rattle.distance.proofs.test.Tie as tie
+
+judge-requires : tie.Need-judge-requires
+judge-requires c κs = search needs
+
+enum-known-why : tie.Need-enum-known-why
+enum-known-why c = search needs
+
+enum-known-m : tie.Need-enum-known-m
+enum-known-m c = search needs
+
+-- The table is well-formed where its measures are looked at.
+well : (c : tie.After-m) → judged (c .before .before .before .args .t) ≡ Judgement.WellFormed (c .m .given .0 .0)
+well c = sym (c .before .before .judge .ensures) ∙ c .m .given .1
+
+each-calm-requires : tie.Need-each-calm-requires
+each-calm-requires c κs = (well (c .before .before .before), c .if1 .left)
+
+returns : tie.Need-returns
+unfolding distanceAnswer
+returns c = rw (← c .before .before .before .judge .ensures, c .before .why .given .1)
+
+returns-2 : tie.Need-returns-2
+unfolding distanceAnswer
+returns-2 c =
+    let m = c .before .before .before in
+    rw (well m, is-heavy _ (well m) (c .if1 .taken))
+
+returns-3 : tie.Need-returns-3
+unfolding distanceAnswer distancePass
+returns-3 c =
+    let e = c .before .before in
+    let m = e .before .before .before in
+    rw (well m, is-light _ (well m) (e .if1 .left), ← c .before .each-calm .ensures, c .if2 .taken)
+
+returns-4 : tie.Need-returns-4
+unfolding distanceAnswer distancePass
+returns-4 c =
+    let e = c .before .before in
+    let m = e .before .before .before in
+    rw (well m, is-light _ (well m) (e .if1 .left), ← c .before .each-calm .ensures, c .if2 .left)
+
+pub test-spec : {M : Type 1} → statement M
+test-spec =
+    tie.close
+    (tie.spec
+    judge-requires
+    enum-known-why
+    enum-known-m
+    each-calm-requires
+    returns
+    returns-2
+    returns-3
+    returns-4)

@@ -1,0 +1,3 @@
+pub mod Machine
+pub mod Lift
+pub mod Passing

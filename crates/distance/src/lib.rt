@@ -1,0 +1,114 @@
+// The distance test: each task as first at 0, every other at its smallest distance, and a walk to the first idle instant.
+ghost use mathlib.Core.Path.{_≡_};
+ghost use Prim.Native.Nat.{_^_, _≤_, _<_};
+ghost use lib.IntN.{pos, _-ℤ_};
+ghost use lib.Signed.{remZ};
+ghost use Rattle.values.specs.declared.Judgement.{Judgement};
+ghost use Rattle.model.specs.Notation.{every};
+ghost use Rattle.model.specs.Tasks.{task, judged};
+ghost use Rattle.model.specs.Patterns.{calm as calmly, reduced as reducedTo, commonDivisor, distance, pattern, distanceAnswer};
+ghost use Rattle.wellformed.specs.Ranges.{Ranged};
+ghost use Rattle.slots.specs.Columns.{column};
+use slots::Numbers;
+use values::DistanceAnswer;
+use values::Judgement;
+use values::Measure;
+use values::TASK_LIMIT;
+use values::Table;
+use values::Task;
+
+fn signed(x: u32) -> i64
+    ensures { λ r. ⌜ (r ≡ pos x) × (x < 2 ^ 32) ⌝ }
+{
+    x as i64
+}
+
+fn difference(a: u32, b: u32) -> i64
+    ensures { λ r. ⌜ r ≡ pos a -ℤ pos b ⌝ }
+{
+    signed(a) - signed(b)
+}
+
+// It has the sign of z.
+fn remainder(z: i64, g: u32) -> i64
+    requires { ⌜ 0 < g ⌝ }
+    ensures { λ r. ⌜ r ≡ remZ z (pos g) ⌝ }
+{
+    z % signed(g)
+}
+
+// Upward, into 0 to g - 1.
+fn reduced(z: i64, g: u32) -> u32
+    requires { ⌜ 0 < g ⌝ }
+    ensures { λ r. ⌜ r ≡ reducedTo z g ⌝ }
+{
+    let m = remainder(z, g);
+    if m < 0 {
+        (m + signed(g)) as u32
+    } else {
+        m as u32
+    }
+}
+
+fn common_divisor(a: u32, b: u32) -> u32
+    requires { ⌜ 0 < a ⌝ }
+    ensures { λ r. ⌜ r ≡ commonDivisor a b ⌝ }
+{
+    divisor::divisor(a as u64, b as u64) as u32
+}
+
+fn distance_of(one: Task, other: Task) -> u32
+    requires { ⌜ (0 < one .period) × (0 < other .period) ⌝ }
+    ensures { λ r. ⌜ r ≡ distance one other ⌝ }
+{
+    let g = common_divisor(one.period, other.period);
+    reduced(difference(other.offset, one.offset), g)
+}
+
+// The distance of each task from task i.
+fn distances(t: Table, i: usize) -> Numbers
+    requires { ⌜ Ranged t ⌝ }
+    requires { ⌜ i < t .count ⌝ }
+    ensures { λ r. ⌜ r ≡ column (t .count) (λ k. distance (task t i) (task t k)) ⌝ }
+{
+    let n = t.count;
+    let first = t.tasks[i];
+    let mut start = [0u32; TASK_LIMIT];
+    for k in 0..n {
+        start[k] = distance_of(first, t.tasks[k]);
+    }
+    start
+}
+
+// Whether every task's pattern is calm.
+fn each_calm(t: Table, m: Measure) -> bool
+    requires { ⌜ judged t ≡ Judgement.WellFormed m ⌝ }
+    requires { ⌜ m .load ≤ m .round ⌝ }
+    ensures { λ r. ⌜ r ≡ every (λ i. calmly (pattern t i)) (t .count) ⌝ }
+{
+    let n = t.count;
+    for i in 0..n {
+        if !calm::is_calm(calm::starting(t, distances(t, i))) {
+            return false;
+        }
+    }
+    true
+}
+
+// The one answer to any table: refusals 1 to 7, overload, pass, or none.
+pub fn test(t: Table) -> DistanceAnswer
+    ensures { λ r. ⌜ r ≡ distanceAnswer t ⌝ }
+{
+    match table::judge(t) {
+        Judgement::Refused(why) => DistanceAnswer::Refused(why),
+        Judgement::WellFormed(m) => {
+            if m.round < m.load {
+                DistanceAnswer::Overload
+            } else if each_calm(t, m) {
+                DistanceAnswer::Pass
+            } else {
+                DistanceAnswer::NoAnswer
+            }
+        }
+    }
+}

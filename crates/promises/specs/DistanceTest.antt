@@ -1,0 +1,142 @@
+-- THE DISTANCE TEST, T-05 of document 02: quick pass is distance pass, and that is said only of tables that the exact test passes.
+use mathlib.Core.Path.{_≡_, refl, sym, _∙_}
+use mathlib.Core.Logic.{inl, inr, _↔_}
+use mathlib.Core.List.{List, [], _∷_}
+use mathlib.Core.Bool.{Bool, true, false, cond}
+use Prim.Native.Nat.{ℕ, _+_, _≤_, _<_}
+use native.Mathlib.Decide.{decLt}
+use native.Mathlib.Omega.{arith}
+use lib.Dec.{T}
+use Rattle.values.specs.declared.Task.{Task}
+use Rattle.values.specs.declared.Table.{Table}
+use Rattle.values.specs.declared.Refusal.{Refusal}
+use Rattle.values.specs.declared.Measure.{Measure}
+use Rattle.values.specs.declared.Judgement.{Judgement}
+use Rattle.values.specs.declared.Verdict.{Verdict}
+use Rattle.values.specs.declared.QuickAnswer.{QuickAnswer}
+use Rattle.values.specs.declared.DistanceAnswer.{DistanceAnswer}
+use Rattle.values.specs.declared.Admission.{Admission}
+use Rattle.model.specs.Values.{refusalSaid, distanceSaid}
+use Rattle.model.specs.Tasks.{task, release, round, load, horizon, judged}
+use Rattle.model.specs.Verdict.{verdict}
+use Rattle.model.specs.TableFile.{loadedFrom}
+use Rattle.model.specs.Patterns.{light, quickAnswer, distance, distancePass, distanceJudged, distanceAnswer}
+use Rattle.model.specs.Report.{refusalNumber, distanceNumber, distanceExported}
+use Rattle.counting.specs.Count.{tests, is-true, is-false}
+use Rattle.wellformed.specs.WellFormed.{well-formed}
+use Rattle.patterns.specs.Quick.{quick-case}
+use Rattle.patterns.specs.Distance.{distance-le}
+use Rattle.patterns.specs.Attained.{distance-attained}
+use Rattle.patterns.specs.DistancePass.{distance-light, distance-passes}
+use Rattle.patterns.specs.QuickDistance.{quick-distance}
+use Rattle.tablefile.specs.Admitted.{admitted}
+use Rattle.promises.specs.FileNumbers.{Apart, Refuses, refused-file, read-file, file-apart}
+
+-- The distance test has one answer to every table.
+pub one-distance : (t : Table) (a b : DistanceAnswer) → a ≡ distanceAnswer t → b ≡ distanceAnswer t → a ≡ b
+one-distance t a b e f = e ∙ sym f
+
+-- A refused table is refused by its number and place; of any other 0 is said, with 2 for overload, 1 for pass and 0 for no answer.
+pub refused-distance : (t : Table) (r : Refusal) → judged t ≡ Judgement.Refused r → distanceSaid (distanceAnswer t) ≡ refusalSaid r
+unfolding distanceAnswer
+refused-distance t r e = rw e refl
+
+-- The answer to a well-formed table, by its load and its patterns.
+abbrev told : Bool → Bool → DistanceAnswer
+told light pass = cond light (cond pass DistanceAnswer.Pass DistanceAnswer.NoAnswer) DistanceAnswer.Overload
+
+pub distance-said : (t : Table) (m : Measure) → judged t ≡ Judgement.WellFormed m → distanceSaid (distanceAnswer t) ≡ cond (light t) (cond (distancePass t) (0 ∷ 1 ∷ []) (0 ∷ 0 ∷ [])) (0 ∷ 2 ∷ [])
+unfolding distanceAnswer
+distance-said t m well = rw well (go (light t) (distancePass t))
+  where
+    go : (a b : Bool) → distanceSaid (told a b) ≡ cond a (cond b (0 ∷ 1 ∷ []) (0 ∷ 0 ∷ [])) (0 ∷ 2 ∷ [])
+    go true true = refl
+    go true false = refl
+    go false b = refl
+
+-- By the cases of the table and of the test: an answer of pass is a pass of a well-formed table.
+distance-case : (t : Table) (j : Judgement) → distanceJudged t j ≡ DistanceAnswer.Pass → ((m : Measure) × (j ≡ Judgement.WellFormed m)) × T (distancePass t)
+distance-case t (Judgement.Refused r) e = let z : _≡_ {A = ℕ} 0 1 = cc in absurd (omega arith)
+distance-case t (Judgement.WellFormed m) e = ((m, refl), go (light t) (distancePass t) e)
+  where
+    go : (a b : Bool) → told a b ≡ DistanceAnswer.Pass → T b
+    go true true e = tt
+    go true false e = let z : _≡_ {A = ℕ} 0 1 = cc in absurd (omega arith)
+    go false b e = let z : _≡_ {A = ℕ} 0 1 = cc in absurd (omega arith)
+
+-- The distance of one task from another: no release of the one is followed, then or later, by one of the other at less, and some is at just that.
+pub record Smallest (one other : Task) (d : ℕ) : Type 0 where
+  pub least : (j m : ℕ) → release one j ≤ release other m → release one j + d ≤ release other m
+  pub attained : (j : ℕ) × (m : ℕ) × (release other m ≡ release one j + d)
+
+pub distance-is-smallest : (t : Table) (m : Measure) → judged t ≡ Judgement.WellFormed m → (i k : ℕ) → i < t .count → k < t .count → Smallest (task t i) (task t k) (distance (task t i) (task t k))
+distance-is-smallest t m well i k l n =
+    let r = well-formed t m well .ranged in
+    let p = r .each i l .period-pos in
+    record { least = distance-le (task t i) (task t k) p; attained = distance-attained (task t i) (task t k) p (r .each k n .period-pos) }
+
+-- The chain. Quick pass is distance pass,
+pub quick-means-distance : (t : Table) → quickAnswer t ≡ QuickAnswer.Pass → distanceAnswer t ≡ DistanceAnswer.Pass
+unfolding quickAnswer distanceAnswer
+quick-means-distance t e =
+    let ((m, well), p) = quick-case t (judged t) e in
+    let d : T (distancePass t) = quick-distance t (well-formed t m well .ranged) p in
+    rw (well, is-true (light t) (let l = distance-light t d in omega tests), is-true (distancePass t) d) refl
+
+-- and distance pass means that the exact test passes the table, with every budget that reaches the horizon.
+pub distance-means-passes : (t : Table) → distanceAnswer t ≡ DistanceAnswer.Pass → (budget : ℕ) → horizon t ≤ budget → verdict t budget ≡ Verdict.Passes
+unfolding distanceAnswer
+distance-means-passes t e = let ((m, well), p) = distance-case t (judged t) e in distance-passes t (well-formed t m well .ranged) p
+
+-- Overload is said exactly if the load is above 1, as by the exact test.
+pub distance-overload : (t : Table) (m : Measure) → judged t ≡ Judgement.WellFormed m → (distanceAnswer t ≡ DistanceAnswer.Overload) ↔ (round t < load t)
+unfolding distanceAnswer
+distance-overload t m well = (λ e. heavy (light t) refl (distancePass t) (rw well at e), λ h. rw (well, is-false (light t) (λ x. absurd (omega tests))) refl)
+  where
+    heavy : (a : Bool) → light t ≡ a → (b : Bool) → told a b ≡ DistanceAnswer.Overload → round t < load t
+    heavy true q true e = let z : _≡_ {A = ℕ} 0 1 = cc in absurd (omega arith)
+    heavy true q false e = let z : _≡_ {A = ℕ} 0 1 = cc in absurd (omega arith)
+    heavy false q b e = elim (decLt (round t) (load t)) [ yes l ↦ l | no l ↦ let z : T (light t) = omega tests in absurd (rw q at z) ]
+
+-- The exported distance test has one result for every file.
+pub one-distance-export : (file : List ℕ) (a b : ℕ) → a ≡ distanceExported file → b ≡ distanceExported file → a ≡ b
+one-distance-export file a b e f = e ∙ sym f
+
+-- A file that is refused is refused as it is by the check, and one that is read gives its table's answer: 2 for overload, 1 for pass, 0 for none.
+refuses : Refuses (λ t. distanceNumber (distanceAnswer t))
+unfolding distanceAnswer
+refuses t r e = rw e refl
+
+pub refused-distance-file : (file : List ℕ) (r : Refusal) → loadedFrom file .admission ≡ Admission.Refused r → distanceExported file ≡ refusalNumber r
+refused-distance-file file = refused-file file (λ t. distanceNumber (distanceAnswer t)) refuses
+
+pub read-distance-file : (file : List ℕ) → loadedFrom file .admission ≡ Admission.Admitted → distanceExported file ≡ distanceNumber (distanceAnswer (loadedFrom file .table))
+read-distance-file file = read-file file (λ t. distanceNumber (distanceAnswer t))
+
+-- So exactly the numbers from 65,536 on are refusals, and any other is at most 2.
+pub distance-file-apart : (file : List ℕ) → Apart file 2 (distanceExported file)
+unfolding distanceAnswer
+distance-file-apart file = file-apart file (λ t. distanceNumber (distanceAnswer t)) refuses 2 (λ t m well. rw well (low (light t) (distancePass t)))
+  where
+    low : (a b : Bool) → distanceNumber (told a b) ≤ 2
+    low true true = omega arith
+    low true false = omega arith
+    low false b = omega arith
+
+-- And 1 means that the exact test passes the table.
+pub distance-file-means : (file : List ℕ) → distanceExported file ≡ 1 → (budget : ℕ) → horizon (loadedFrom file .table) ≤ budget → verdict (loadedFrom file .table) budget ≡ Verdict.Passes
+unfolding distanceAnswer
+distance-file-means file e = elim (distance-file-apart file) [
+  | inr (r, h, q, (a, b)) ↦ absurd (omega arith)
+  | inl (h, l) ↦ (
+      let t = loadedFrom file .table in
+      let (same, (m, well)) = admitted file h in
+      let well′ : judged t ≡ Judgement.WellFormed m = rw same well in
+      distance-means-passes t (rw well′ (pass (light t) (distancePass t) (rw well′ at (sym (read-distance-file file h) ∙ e))))
+      )
+]
+  where
+    pass : (a b : Bool) → distanceNumber (told a b) ≡ 1 → told a b ≡ DistanceAnswer.Pass
+    pass true true n = refl
+    pass true false n = absurd (omega arith)
+    pass false b n = absurd (omega arith)
