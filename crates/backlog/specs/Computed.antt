@@ -13,7 +13,6 @@ use Rattle.model.specs.Idle.{firstIdle}
 use Rattle.model.specs.Verdict.{verdict, settledBy, brief, Answers, PermittedBy, Permitted}
 use Rattle.wellformed.specs.WellFormed.{well-formed}
 use Rattle.wellformed.specs.Ranges.{Ranged}
-use Rattle.backlog.specs.TableSystem.{tie-ranks}
 use Rattle.backlog.specs.PassedWorst.{met-of-passed}
 use Rattle.backlog.specs.WalkWorst.{worstBy, walk-worsts}
 
@@ -33,7 +32,7 @@ answerOf t budget = answerJudged t budget (judged t)
 
 answers : (t : Table) → Ranged t → (budget : ℕ) (m : Measure) (v : Verdict) → verdict t budget ≡ v → Answers t budget m (answerBy t budget m v) v
 answers t r budget m Verdict.Passes e =
-    (worstBy t (horizon t), walk-worsts t r (met-of-passed t r budget e _ (tie-ranks t)), refl)
+    (worstBy t (horizon t), walk-worsts t r (met-of-passed t r budget e _), refl)
 answers t r budget m Verdict.Overload e = refl
 answers t r budget m (Verdict.Late from to asked) e = refl
 answers t r budget m Verdict.Undecided e = refl

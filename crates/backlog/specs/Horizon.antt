@@ -8,14 +8,15 @@ use lib.Dec.{T}
 use Rattle.values.specs.declared.Table.{Table}
 use Rattle.model.specs.Tasks.{round, load, horizon}
 use Rattle.model.specs.Demand.{lateAt}
+use Rattle.model.specs.Run.{tieOrder}
 use Rattle.counting.specs.Search.{strong}
 use Rattle.wellformed.specs.Ranges.{Ranged}
 use Rattle.backlog.specs.Streams.{left}
 use Rattle.backlog.specs.Criterion.{Late, Over, late-of-left, left-of-late, late-iff-over}
-use Rattle.backlog.specs.System.{System, size, jobs, dues}
+use Rattle.backlog.specs.System.{System, spread, jobs, dues}
 use Rattle.backlog.specs.ModelRun.{servedOf, model-run}
 use Rattle.backlog.specs.Shift.{Cycle, horizonOf, Light, left-later}
-use Rattle.backlog.specs.TableSystem.{tie-ranks, load-is, horizon-is, tieSystem, tieCycle}
+use Rattle.backlog.specs.TableSystem.{load-is, horizon-is, tieSystem, tieCycle}
 use Rattle.backlog.specs.EveryInstant.{over-iff}
 
 module _ (S : System) (Y : Cycle S) (light : Light S Y) where
@@ -25,7 +26,7 @@ module _ (S : System) (Y : Cycle S) (light : Light S Y) where
   -- What is late a round later was late now.
   late-down : (t : ℕ) → Y .start + Y .round ≤ t → LateBy (t + Y .round) → LateBy t
   late-down t h p =
-      let e : (dues S) .cut (t + Y .round) ≡ (dues S) .cut t + size S * Y .round = omega arith in
+      let e : (dues S) .cut (t + Y .round) ≡ (dues S) .cut t + spread S * Y .round = omega arith in
       late-of-left (jobs S) (dues S) (servedOf S) t (omega (arith, left-later S Y (servedOf S) (model-run S) light ((dues S) .cut t) t h, left-of-late (jobs S) (dues S) (servedOf S) (t + Y .round) p, ap (λ (x : ℕ). left (jobs S) (servedOf S) x (t + Y .round)) e))
 
   soon : (t : ℕ) → LateBy t → (u : ℕ) × (u ≤ horizonOf S Y) × LateBy u
@@ -48,5 +49,5 @@ module _ (t : Table) (r : Ranged t) where
   -- The same in the model's words.
   pub late-soon : load t ≤ round t → (to : ℕ) → T (lateAt t to) → (u : ℕ) × (u ≤ horizon t) × T (lateAt t u)
   late-soon light to h =
-      let (u, l, o) = over-soon (tieSystem t r) (tieCycle t r) (omega (arith, load-is t r _ (tie-ranks t))) to (over-iff (tieSystem t r) to .0 h) in
-      (u, omega (arith, horizon-is t r _ (tie-ranks t)), over-iff (tieSystem t r) u .1 o)
+      let (u, l, o) = over-soon (tieSystem t r) (tieCycle t r) (omega (arith, load-is t r (tieOrder t))) to (over-iff (tieSystem t r) to .0 h) in
+      (u, omega (arith, horizon-is t r (tieOrder t)), over-iff (tieSystem t r) u .1 o)

@@ -19,7 +19,7 @@ use Rattle.backlog.specs.System.{System, jobs, dues, constrained}
 use Rattle.backlog.specs.ModelRun.{servedOf, model-run}
 use Rattle.backlog.specs.RunSchedule.{finishes-iff}
 use Rattle.backlog.specs.Worst.{worst-range}
-use Rattle.backlog.specs.TableSystem.{tie-ranks, tieSystem}
+use Rattle.backlog.specs.TableSystem.{tieSystem}
 use Rattle.backlog.specs.PassedWorst.{met-of-passed}
 use Rattle.backlog.specs.StepHistory.{open', ready, gave, told, step-history}
 use Rattle.backlog.specs.Had.{had-sum, finished-iff}
@@ -29,7 +29,7 @@ module _ (t : Table) (r : Ranged t) (done : ℕ → Bool) (budget : ℕ) (pass :
   S = tieSystem t r
 
   abbrev met : Met (jobs S) (dues S) (servedOf S)
-  met = met-of-passed t r budget pass (tieOrder t) (tie-ranks t)
+  met = met-of-passed t r budget pass (tieOrder t)
 
   pub in-time : (i w : ℕ) → i < t .count → Worst t (tieOrder t) i w → (j : ℕ) → Finished t done i j (release (task t i) j + w)
   in-time i w l v j =

@@ -15,7 +15,7 @@ use Rattle.values.specs.declared.Outcome.{Outcome}
 use Rattle.model.specs.Limits.{taskLimit}
 use Rattle.model.specs.Tasks.{task, release, due, taskFault, firstFaulty, round, load, horizon, judged}
 use Rattle.model.specs.Demand.{jobsIn, demand, lateAt, asksTooMuch}
-use Rattle.model.specs.Run.{choose, run, Worst}
+use Rattle.model.specs.Run.{Order, choose, run, Worst}
 use Rattle.model.specs.Verdict.{needed, lateStart, verdict, settledBy, Worsts, Permitted}
 use Rattle.model.specs.Dispatcher.{State, Stepped, firstStrange, startOf, isLate, ownerNow, after, turn, stepped}
 use Rattle.model.specs.History.{stateAt, ownerAt, had, Finished}
@@ -30,12 +30,12 @@ use Rattle.backlog.specs.Finish.{DoneFirst, finish}
 use Rattle.backlog.specs.Criterion.{Met}
 use Rattle.backlog.specs.NoneLate.{none-late}
 use Rattle.backlog.specs.RunHistory.{run-history}
-use Rattle.backlog.specs.System.{System, dueOf, keyOf, jobs, dues, constrained, Ranks, JobNoLater}
+use Rattle.backlog.specs.System.{System, dueOf, keyOf, jobs, dues, constrained, JobNoLater}
 use Rattle.backlog.specs.ModelRun.{servedOf, model-run}
 use Rattle.backlog.specs.RunRule.{Waiting, run-rule}
 use Rattle.backlog.specs.Shift.{Light}
 use Rattle.backlog.specs.Overload.{light-of-met}
-use Rattle.backlog.specs.TableSystem.{tie-ranks, tieSystem, tieCycle, systemOf}
+use Rattle.backlog.specs.TableSystem.{tieSystem, tieCycle, systemOf}
 use Rattle.backlog.specs.TooMuch.{never-iff}
 use Rattle.backlog.specs.EveryInstant.{Missed, first-missed}
 use Rattle.backlog.specs.Feasible.{Feasible, feasible-iff}
@@ -89,24 +89,21 @@ abbrev b-system : System
 b-system = tieSystem table-b b-ranged
 
 b-met : Met (jobs b-system) (dues b-system) (servedOf b-system)
-b-met = met-of-passed table-b b-ranged 38 b-passes _ (tie-ranks table-b)
+b-met = met-of-passed table-b b-ranged 38 b-passes _
 
 b-none-late : (i j : ℕ) → i < 2 → released (jobs b-system) (dueOf b-system i j) i - servedOf b-system (dueOf b-system i j) i ≡ 0
 b-none-late = none-late (jobs b-system) (dues b-system) (λ t i. ⊥) _ _ _ (run-history (jobs b-system) (dues b-system) (constrained b-system) (servedOf b-system) (model-run b-system) b-met) (constrained b-system) (servedOf b-system) (model-run b-system) b-met
 
--- In the other order of its two tasks too every deadline is met, and the run keeps its rule.
-b-reversed : Ranks table-b (λ i. 1 - i)
-b-reversed = record { low = λ i l. omega arith; apart = λ i k a b e. omega arith }
+-- In every order of its tasks every deadline is met, the run keeps its rule, and there is a worst response.
+b-met-by : (rank : Order) → Met (jobs (systemOf table-b b-ranged rank)) (dues (systemOf table-b b-ranged rank)) (servedOf (systemOf table-b b-ranged rank))
+b-met-by = met-of-passed table-b b-ranged 38 b-passes
 
-b-met-reversed : Met (jobs (systemOf table-b b-ranged _ b-reversed)) (dues (systemOf table-b b-ranged _ b-reversed)) (servedOf (systemOf table-b b-ranged _ b-reversed))
-b-met-reversed = met-of-passed table-b b-ranged 38 b-passes _ b-reversed
+b-rule : (rank : Order) (u : ℕ) → let S = systemOf table-b b-ranged rank in
+    ((run table-b rank u ≡ none) × ((i j : ℕ) → Waiting S u i j → ⊥)) ⊎ ((i : ℕ) × (j : ℕ) × (run table-b rank u ≡ job i j) × Waiting S u i j × ((k m : ℕ) → Waiting S u k m → JobNoLater S i j k m))
+b-rule rank = run-rule (systemOf table-b b-ranged rank)
 
-b-rule : (u : ℕ) → let S = systemOf table-b b-ranged (λ i. 1 - i) b-reversed in
-    ((run table-b (λ i. 1 - i) u ≡ none) × ((i j : ℕ) → Waiting S u i j → ⊥)) ⊎ ((i : ℕ) × (j : ℕ) × (run table-b (λ i. 1 - i) u ≡ job i j) × Waiting S u i j × ((k m : ℕ) → Waiting S u k m → JobNoLater S i j k m))
-b-rule = run-rule (systemOf table-b b-ranged (λ i. 1 - i) b-reversed)
-
-b-worst-reversed : (w : ℕ) × Worst table-b (λ i. 1 - i) 0 w
-b-worst-reversed = worst-of table-b b-ranged 38 b-passes _ b-reversed 0 (lit< tt)
+b-worst-by : (rank : Order) → (w : ℕ) × Worst table-b rank 0 w
+b-worst-by rank = worst-of table-b b-ranged 38 b-passes rank 0 (lit< tt)
 
 -- In its run a job finishes where, first after its release, no work up to its key is left.
 b-finish : (j u : ℕ) → DoneFirst (jobs b-system) (servedOf b-system) 0 j u ↔ Least (λ u. (release (task table-b 0) j < u) × (left (jobs b-system) (servedOf b-system) (keyOf b-system 0 j) u ≡ 0)) u
@@ -133,7 +130,7 @@ unfolding verdict needed lateStart lateAt first last round load horizon largest 
 g-passes = refl
 
 g-light : Light (tieSystem table-g g-ranged) (tieCycle table-g g-ranged)
-g-light = light-of-met (tieSystem table-g g-ranged) (tieCycle table-g g-ranged) _ (model-run (tieSystem table-g g-ranged)) (met-of-passed table-g g-ranged 8 g-passes _ (tie-ranks table-g))
+g-light = light-of-met (tieSystem table-g g-ranged) (tieCycle table-g g-ranged) _ (model-run (tieSystem table-g g-ranged)) (met-of-passed table-g g-ranged 8 g-passes _)
 
 -- Table d is late first at 7, where its run first misses a deadline.
 d-ranged : Ranged table-d
@@ -189,7 +186,7 @@ reports : ℕ → Bool
 reports n = eqb n 1
 
 g-in-time : (j : ℕ) → (w : ℕ) × Finished table-g reports 0 j (release (task table-g 0) j + w)
-g-in-time j = let (w, v) = worst-of table-g g-ranged 8 g-passes _ (tie-ranks table-g) 0 (lit< tt) in (w, in-time table-g g-ranged reports 8 g-passes 0 w (lit< tt) v j)
+g-in-time j = let (w, v) = worst-of table-g g-ranged 8 g-passes _ 0 (lit< tt) in (w, in-time table-g g-ranged reports 8 g-passes 0 w (lit< tt) v j)
 
 g-idle : ownerAt table-g reports 3 ≡ taskLimit
 unfolding reports stateAt startOf after ownerNow choose fill

@@ -18,7 +18,7 @@ use Rattle.wellformed.specs.Ranges.{Ranged}
 use Rattle.backlog.specs.NoneLate.{none-late}
 use Rattle.backlog.specs.System.{System, dueOf, jobs, dues, constrained}
 use Rattle.backlog.specs.ModelRun.{servedOf, model-run}
-use Rattle.backlog.specs.TableSystem.{tie-ranks, tieSystem}
+use Rattle.backlog.specs.TableSystem.{tieSystem}
 use Rattle.backlog.specs.PassedWorst.{met-of-passed}
 use Rattle.backlog.specs.Taken.{closed-late-iff}
 use Rattle.backlog.specs.Stepping.{late-is, sound}
@@ -30,7 +30,7 @@ module _ (t : Table) (r : Ranged t) (done : ℕ → Bool) (budget : ℕ) (pass :
 
   -- At its deadline a job has nothing left.
   pub nothing-left : (i j : ℕ) → i < t .count → open' t done (dueOf S i j) i ≡ 0
-  nothing-left = none-late (jobs S) (dues S) (told t done) (open' t done) (ready t done) (gave t done) (step-history t r done) (constrained S) (servedOf S) (model-run S) (met-of-passed t r budget pass (tieOrder t) (tie-ranks t))
+  nothing-left = none-late (jobs S) (dues S) (told t done) (open' t done) (ready t done) (gave t done) (step-history t r done) (constrained S) (servedOf S) (model-run S) (met-of-passed t r budget pass (tieOrder t))
 
   -- No step closes a job as late.
   none-closed : (n i : ℕ) → T (isLate t (stateAt t done n) (done n) i) → ⊥

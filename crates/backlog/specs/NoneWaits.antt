@@ -22,7 +22,7 @@ use Rattle.backlog.specs.OnTime.{account}
 use Rattle.backlog.specs.System.{System, jobs, dues, constrained, releaseOf}
 use Rattle.backlog.specs.ModelRun.{servedOf, model-run}
 use Rattle.backlog.specs.Worst.{worst-range}
-use Rattle.backlog.specs.TableSystem.{tie-ranks, tieSystem}
+use Rattle.backlog.specs.TableSystem.{tieSystem}
 use Rattle.backlog.specs.PassedWorst.{met-of-passed, worst-of}
 use Rattle.backlog.specs.StepHistory.{open', ready, gave, told, step-history, Closing}
 use Rattle.backlog.specs.Had.{had-sum, finished-iff}
@@ -36,7 +36,7 @@ module _ (t : Table) (r : Ranged t) (done : ℕ → Bool) (budget : ℕ) (pass :
   S = tieSystem t r
 
   abbrev met : Met (jobs S) (dues S) (servedOf S)
-  met = met-of-passed t r budget pass (tieOrder t) (tie-ranks t)
+  met = met-of-passed t r budget pass (tieOrder t)
 
   -- Where slot n goes to none, the last released job of each task is finished.
   last-waits : (n : ℕ) → ownerAt t done n ≡ taskLimit → (i j : ℕ) → i < t .count → release (task t i) j ≤ n → n < release (task t i) (suc j) → Finished t done i j n
@@ -70,7 +70,7 @@ module _ (t : Table) (r : Ranged t) (done : ℕ → Bool) (budget : ℕ) (pass :
   pub none-waits : (n : ℕ) → ownerAt t done n ≡ taskLimit → (i j : ℕ) → i < t .count → release (task t i) j ≤ n → Finished t done i j n
   none-waits n e i j l a = elim (decLt n (release (task t i) (suc j))) [
     | yes b ↦ last-waits n e i j l a b
-    | no b ↦ earlier b (worst-of t r budget pass (tieOrder t) (tie-ranks t) i l)
+    | no b ↦ earlier b (worst-of t r budget pass (tieOrder t) i l)
   ]
     where
       earlier : ¬ (n < release (task t i) (suc j)) → (w : ℕ) × Worst t (tieOrder t) i w → Finished t done i j n

@@ -9,7 +9,7 @@ use Rattle.counting.specs.Sum.{sum-by}
 use Rattle.counting.specs.Below.{below, below-most, below-at, below-same, grows-lt, work-le}
 use Rattle.backlog.specs.Streams.{Jobs, Run, released, work, left, leftOf, work-at}
 use Rattle.backlog.specs.Left.{served-le}
-use Rattle.backlog.specs.System.{System, size, costOf, releaseOf, dueOf, keyOf, jobs}
+use Rattle.backlog.specs.System.{System, size, costOf, releaseOf, dueOf, spread, keyOf, standing-low, jobs}
 use Rattle.backlog.specs.Shift.{Cycle, Light, release-later, key-later, left-later}
 
 -- What is left of job j of stream i: its whole cost until it is served.
@@ -51,7 +51,7 @@ module _ (J : Jobs) (s : ℕ → ℕ → ℕ) where
   rest-done t i j l = (λ e. omega (arith, J .cost-pos i l), λ h. omega arith)
 
 key-pos : (S : System) (i j : ℕ) → i < size S → 0 < keyOf S i j
-key-pos S i j l = let some : 0 < size S = omega arith in omega (arith, mul-pos (due-pos i j l) some)
+key-pos S i j l = let some : 0 < spread S = omega (arith, standing-low S i l) in omega (arith, mul-pos (due-pos i j l) some)
   where
     due-pos : (i j : ℕ) → i < size S → 0 < dueOf S i j
     due-pos i j l = omega (arith, S .deadline-pos i l)
@@ -69,12 +69,12 @@ module _ (S : System) (Y : Cycle S) (light : Light S Y) (s : ℕ → ℕ → ℕ
       go (no r) k e = whole-before t i j l (omega arith) ∙ sym (whole-before (t + Y .round) i (j + Y .times i) l (omega (arith, release-later S Y i l j)))
       go (yes r) zero e = absurd (omega (arith, key-pos S i j l))
       go (yes r) (suc κ) e =
-          let f : suc (κ + size S * Y .round) ≡ keyOf S i (j + Y .times i) = omega (arith, key-later S Y i l j) in
-          let k : left (jobs S) s (keyOf S i (j + Y .times i)) (t + Y .round) ≡ left (jobs S) s (keyOf S i j + size S * Y .round) (t + Y .round) = ap (λ (x : ℕ). left (jobs S) s x (t + Y .round)) (key-later S Y i l j) in
+          let f : suc (κ + spread S * Y .round) ≡ keyOf S i (j + Y .times i) = omega (arith, key-later S Y i l j) in
+          let k : left (jobs S) s (keyOf S i (j + Y .times i)) (t + Y .round) ≡ left (jobs S) s (keyOf S i j + spread S * Y .round) (t + Y .round) = ap (λ (x : ℕ). left (jobs S) s x (t + Y .round)) (key-later S Y i l j) in
           omega (
             arith,
             job-left (jobs S) s t i j κ l (sym e) r,
-            job-left (jobs S) s (t + Y .round) i (j + Y .times i) (κ + size S * Y .round) l f (omega (arith, release-later S Y i l j)),
+            job-left (jobs S) s (t + Y .round) i (j + Y .times i) (κ + spread S * Y .round) l f (omega (arith, release-later S Y i l j)),
             left-later S Y s R light κ t h,
             left-later S Y s R light (keyOf S i j) t h,
           )

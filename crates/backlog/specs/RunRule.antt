@@ -9,7 +9,7 @@ use lib.Dec.{T, leb}
 use Rattle.model.specs.Schedule.{none, job, given}
 use Rattle.model.specs.Run.{run}
 use Rattle.counting.specs.Count.{tests}
-use Rattle.backlog.specs.Choice.{NoLater}
+use Rattle.backlog.specs.Choice.{standing-says, NoLater}
 use Rattle.backlog.specs.System.{System, size, costOf, periodOf, releaseOf, dueOf, period-pos, JobNoLater}
 use Rattle.backlog.specs.ModelRun.{servedOf, at, Owned, owned}
 use Rattle.backlog.specs.RunSchedule.{runOwner, runAt, run-job, run-none, undone-iff}
@@ -32,10 +32,10 @@ module _ (S : System) where
       ready : (i j : ℕ) → Waiting u i j → T (leb (releaseOf S i (at S u i)) u)
       ready i j w = omega (tests, w .1, mul-le-mul-right (periodOf S i) (before i j w))
 
-      later : (i j k m : ℕ) → NoLater (λ k. dueOf S k (at S u k)) (S .rank) i k → at S u i ≡ j → Waiting u k m → JobNoLater S i j k m
-      later i j k m (inl a) e w = inl (omega (arith, ap (dueOf S i) e, mul-le-mul-right (periodOf S k) (before k m w)))
-      later i j k m (inr (a, r)) e w = elim (ℕ-discrete (at S u k) m) [
-        | yes q ↦ inr (omega (arith, ap (dueOf S i) e, ap (dueOf S k) q), r)
+      later : (i j k m : ℕ) → i < size S → NoLater (λ k. dueOf S k (at S u k)) (S .rank) i k → at S u i ≡ j → Waiting u k m → JobNoLater S i j k m
+      later i j k m l (inl a) e w = inl (omega (arith, ap (dueOf S i) e, mul-le-mul-right (periodOf S k) (before k m w)))
+      later i j k m l (inr (a, r)) e w = elim (ℕ-discrete (at S u k) m) [
+        | yes q ↦ inr (omega (arith, ap (dueOf S i) e, ap (dueOf S k) q), standing-says (S .rank) i k (omega (arith, S .size-le)) (omega (arith, w .0, S .size-le)) r)
         | no q ↦ let n : suc (at S u k) ≤ m = omega (arith, before k m w) in inl (omega (arith, ap (dueOf S i) e, mul-le-mul-right (periodOf S k) n, period-pos S k (w .0)))
       ]
 
@@ -47,7 +47,7 @@ module _ (S : System) where
         at S u (runOwner S u),
         run-job S u (c .bound),
         (c .bound, omega (tests, c .opened), undone-iff S (runOwner S u) (at S u (runOwner S u)) u (c .bound) .1 unfinished),
-        λ k m w. later (runOwner S u) (at S u (runOwner S u)) k m (c .ahead k (w .0) (ready k m w)) refl w,
+        λ k m w. later (runOwner S u) (at S u (runOwner S u)) k m (c .bound) (c .ahead k (w .0) (ready k m w)) refl w,
       )
         where
           unfinished : servedOf S u (runOwner S u) < costOf S (runOwner S u) * suc (at S u (runOwner S u))

@@ -1,6 +1,6 @@
 -- A TABLE IS STREAMS OF JOBS (`demand-streams`): one of at most 16 tasks that cost something and are due after their release and by the next one, with an order of its tasks, makes streams with the model's demand.
 use mathlib.Core.Path.{_≡_, refl, sym, ap, _∙_}
-use mathlib.Core.Logic.{inl, inr, _↔_}
+use mathlib.Core.Logic.{_⊎_, inl, inr, _↔_}
 use Prim.Native.Nat.{ℕ, suc, _+_, _-_, _*_, _%_, _≤_, _<_}
 use native.Mathlib.Nat.{mul-pos, mul-le-mul-right}
 use native.Mathlib.Decide.{decLe}
@@ -8,21 +8,18 @@ use native.Mathlib.Omega.{arith}
 use lib.Arith.{digits-mod}
 use Rattle.values.specs.declared.Table.{Table}
 use Rattle.model.specs.Limits.{taskLimit}
+use Rattle.model.specs.Notation.{largest}
 use Rattle.model.specs.Tasks.{task, release, due}
 use Rattle.model.specs.Demand.{jobsIn, demand}
 use Rattle.model.specs.Run.{Order}
 use Rattle.counting.specs.Below.{Grows, below}
+use Rattle.counting.specs.Search.{le-largest}
 use Rattle.backlog.specs.Streams.{Jobs}
 use Rattle.backlog.specs.Criterion as streams
 use Rattle.backlog.specs.Criterion.{Dues, Constrained}
-use Rattle.backlog.specs.Choice.{Ahead}
+use Rattle.backlog.specs.Choice.{standing, Ahead}
 
--- An order of a table's tasks: ranks below the count that tell the tasks apart.
-pub record Ranks (t : Table) (rank : Order) : Type 0 where
-  pub low : (i : ℕ) → i < t .count → rank i < t .count
-  pub apart : (i k : ℕ) → i < t .count → k < t .count → rank i ≡ rank k → i ≡ k
-
--- What the theory asks of a table and an order.
+-- What the theory asks of a table; of the order it asks nothing.
 pub record System : Type 0 where
   pub table : Table
   pub rank : Order
@@ -30,7 +27,6 @@ pub record System : Type 0 where
   pub cost-pos : (i : ℕ) → i < table .count → 0 < task table i .cost
   pub deadline-pos : (i : ℕ) → i < table .count → 0 < task table i .deadline
   pub deadline-le : (i : ℕ) → i < table .count → task table i .deadline ≤ task table i .period
-  pub ranks : Ranks table rank
 
 -- Its parts, by task number.
 abbrev pub size : System → ℕ
@@ -55,39 +51,49 @@ dueOf S i j = due (task (S .table) i) j
 abbrev pub releasedBy : System → ℕ → ℕ → ℕ
 releasedBy S i n = below (releaseOf S i) n
 
--- One number for deadline and rank: an earlier deadline goes first, and ties by rank. No two jobs share it.
-abbrev pub keyOf : System → ℕ → ℕ → ℕ
-keyOf S i j = dueOf S i j * size S + S .rank i
+-- A number that every task stands below in the system's order.
+unfoldable pub spread : System → ℕ
+spread S = (largest (size S) (S .rank) + 1) * taskLimit
 
--- Job j of task i comes no later than job m of task k.
+-- One number for deadline and standing: an earlier deadline goes first, and ties by the order. No two jobs share it.
+abbrev pub keyOf : System → ℕ → ℕ → ℕ
+keyOf S i j = dueOf S i j * spread S + standing (S .rank) i
+
+-- Job j of task i comes no later than job m of task k: by the earlier deadline, then the lower rank, then the lower number.
 abbrev pub JobNoLater : System → ℕ → ℕ → ℕ → ℕ → Type 0
-JobNoLater S i j k m = Ahead (dueOf S i j) (S .rank i) (dueOf S k m) (S .rank k)
+JobNoLater S i j k m = (dueOf S i j < dueOf S k m) ⊎ ((dueOf S i j ≡ dueOf S k m) × ((S .rank i < S .rank k) ⊎ ((S .rank i ≡ S .rank k) × (i ≤ k))))
 
 module _ (S : System) where
   pub period-pos : (i : ℕ) → i < size S → 0 < periodOf S i
   period-pos i l = omega (arith, S .deadline-pos i l, S .deadline-le i l)
 
+  -- Every task stands below the spread.
+  pub standing-low : (i : ℕ) → i < size S → standing (S .rank) i < spread S
+  unfolding spread
+  standing-low i l = omega (arith, S .size-le, le-largest (size S) (S .rank) i l)
+
   pub keys-grow : (i : ℕ) → i < size S → Grows (keyOf S i)
-  keys-grow i l j = let some : 0 < size S = omega arith in omega (arith, mul-pos (period-pos i l) some)
+  keys-grow i l j = let some : 0 < spread S = omega (arith, standing-low i l) in omega (arith, mul-pos (period-pos i l) some)
 
   pub keys-apart : (i j k l : ℕ) → i < size S → k < size S → keyOf S i j ≡ keyOf S k l → i ≡ k
   keys-apart i j k l a b e =
-      S .ranks .apart i k a b (sym (digits-mod (dueOf S i j) (S .ranks .low i a)) ∙ ap (λ (x : ℕ). x % size S) e ∙ digits-mod (dueOf S k l) (S .ranks .low k b))
+      let same : standing (S .rank) i ≡ standing (S .rank) k = sym (digits-mod (dueOf S i j) (standing-low i a)) ∙ ap (λ (x : ℕ). x % spread S) e ∙ digits-mod (dueOf S k l) (standing-low k b) in
+      omega (arith, S .size-le)
 
   -- What comes no later has no larger key.
-  pub keys-order : (i j k m : ℕ) → i < size S → JobNoLater S i j k m → keyOf S i j ≤ keyOf S k m
-  keys-order i j k m l (inl a) = omega (arith, S .ranks .low i l, mul-le-mul-right (size S) a)
-  keys-order i j k m l (inr (e, r)) = omega (arith, ap (λ (x : ℕ). x * size S) e)
+  pub keys-order : (i j k m : ℕ) → i < size S → Ahead (dueOf S i j) (standing (S .rank) i) (dueOf S k m) (standing (S .rank) k) → keyOf S i j ≤ keyOf S k m
+  keys-order i j k m l (inl a) = omega (arith, standing-low i l, mul-le-mul-right (spread S) a)
+  keys-order i j k m l (inr (e, r)) = omega (arith, ap (λ (x : ℕ). x * spread S) e)
 
-  pub keys-cut : (i j t : ℕ) → i < size S → (keyOf S i j ≤ t * size S + (size S - 1)) ↔ (dueOf S i j ≤ t)
+  pub keys-cut : (i j t : ℕ) → i < size S → (keyOf S i j ≤ t * spread S + (spread S - 1)) ↔ (dueOf S i j ≤ t)
   keys-cut i j t l = (λ h. under (dueOf S i j) h (decLe (dueOf S i j) t), λ h. over (dueOf S i j) h)
     where
-      under : (d : ℕ) → d * size S + S .rank i ≤ t * size S + (size S - 1) → Dec (d ≤ t) → d ≤ t
+      under : (d : ℕ) → d * spread S + standing (S .rank) i ≤ t * spread S + (spread S - 1) → Dec (d ≤ t) → d ≤ t
       under d h (yes p) = p
-      under d h (no p) = let q : suc t ≤ d = omega arith in absurd (omega (arith, S .ranks .low i l, mul-le-mul-right (size S) q))
+      under d h (no p) = let q : suc t ≤ d = omega arith in absurd (omega (arith, standing-low i l, mul-le-mul-right (spread S) q))
 
-      over : (d : ℕ) → d ≤ t → d * size S + S .rank i ≤ t * size S + (size S - 1)
-      over d h = omega (arith, S .ranks .low i l, mul-le-mul-right (size S) h)
+      over : (d : ℕ) → d ≤ t → d * spread S + standing (S .rank) i ≤ t * spread S + (spread S - 1)
+      over d h = omega (arith, standing-low i l, mul-le-mul-right (spread S) h)
 
 abbrev pub jobs : System → Jobs
 jobs S = record {
@@ -104,7 +110,7 @@ jobs S = record {
 abbrev pub dues : (S : System) → Dues (jobs S)
 dues S = record {
   due = dueOf S;
-  cut = λ t. t * size S + (size S - 1);
+  cut = λ t. t * spread S + (spread S - 1);
   cut-law = keys-cut S;
   rel-due = λ i j l. omega (arith, S .deadline-pos i l);
   due-grows = λ i l j. omega (arith, period-pos S i l);

@@ -9,14 +9,10 @@ use Rattle.model.specs.Run.{Order, tieOrder}
 use Rattle.counting.specs.Search.{le-largest}
 use Rattle.wellformed.specs.Ranges.{Ranged}
 use Rattle.wellformed.specs.Round.{round-pos, period-divides}
-use Rattle.backlog.specs.System.{System, Ranks}
+use Rattle.backlog.specs.System.{System}
 use Rattle.backlog.specs.Shift.{Cycle, horizonOf, loadOf}
 
--- The base's order is an order of the tasks.
-pub tie-ranks : (t : Table) → Ranks t (tieOrder t)
-tie-ranks t = record { low = λ i l. l; apart = λ i k a b e. e }
-
-module _ (t : Table) (r : Ranged t) (rank : Order) (o : Ranks t rank) where
+module _ (t : Table) (r : Ranged t) (rank : Order) where
   abbrev pub systemOf : System
   systemOf = record {
     table = t;
@@ -25,7 +21,6 @@ module _ (t : Table) (r : Ranged t) (rank : Order) (o : Ranks t rank) where
     cost-pos = λ i l. r .each i l .cost-pos;
     deadline-pos = λ i l. r .each i l .deadline-pos;
     deadline-le = λ i l. r .each i l .deadline-le;
-    ranks = o;
   }
 
   abbrev pub cycleOf : Cycle systemOf
@@ -47,9 +42,9 @@ module _ (t : Table) (r : Ranged t) (rank : Order) (o : Ranks t rank) where
   unfolding horizon
   horizon-is = refl
 
--- A table with the base's order.
+-- A table with the order of its run and its dispatcher.
 abbrev pub tieSystem : (t : Table) → Ranged t → System
-tieSystem t r = systemOf t r (tieOrder t) (tie-ranks t)
+tieSystem t r = systemOf t r (tieOrder t)
 
 abbrev pub tieCycle : (t : Table) (r : Ranged t) → Cycle (tieSystem t r)
-tieCycle t r = cycleOf t r (tieOrder t) (tie-ranks t)
+tieCycle t r = cycleOf t r (tieOrder t)

@@ -90,7 +90,7 @@ module _ (t : Table) (r : Ranged t) where
   pub owner-agrees : (n : ℕ) → Agrees n → (T (lateAt t n) → ⊥) → ownerAt t quiet n ≡ owner t (tieOrder t) n
   owner-agrees n a never =
       chosen-same (λ i. ltb 0 (ready t quiet n i)) _ (dueIn t (walked t n) false) (λ i. dueOf S i (at S n i)) (tieOrder t) (t .count) (ownerAt t quiet n) (owner t (tieOrder t) n)
-      (S .ranks .apart)
+      (r .few)
       (λ i l p. ready-iff S i n (servedOf S n i) l .1 (omega (arith, ready-agrees n a never i l, ltb→lt 0 (ready t quiet n i) p)))
       (λ i l p. lt→ltb 0 (ready t quiet n i) (omega (arith, ready-agrees n a never i l, ready-iff S i n (servedOf S n i) l .0 p)))
       (λ i k l m p q x. alike i k (at-job n a never i l (ltb→lt 0 (ready t quiet n i) p)) (at-job n a never k m (ltb→lt 0 (ready t quiet n k) q)) x)

@@ -29,7 +29,7 @@ use Rattle.backlog.specs.System.{System, releaseOf, jobs, dues}
 use Rattle.backlog.specs.ModelRun.{servedOf, model-run, owner-served, others-served}
 use Rattle.backlog.specs.RunSchedule.{finishes-iff}
 use Rattle.backlog.specs.Worst.{first-ends, worst-is}
-use Rattle.backlog.specs.TableSystem.{tie-ranks, horizon-is, tieSystem, tieCycle}
+use Rattle.backlog.specs.TableSystem.{horizon-is, tieSystem, tieCycle}
 use Rattle.backlog.specs.EveryInstant.{over-iff}
 use Rattle.backlog.specs.Taken.{owner-ready, released-le}
 use Rattle.backlog.specs.Stepping.{ready-is, sound}
@@ -204,7 +204,7 @@ module _ (t : Table) (r : Ranged t) where
       worst i l s = go (s .attained)
         where
           go : (getD (worstBy t (horizon t)) i 0 ≡ 0) ⊎ ((j : ℕ) × (f : ℕ) × DoneFirst (jobs S) (servedOf S) i j f × (f - releaseOf S i j ≡ getD (worstBy t (horizon t)) i 0)) → Worst t (tieOrder t) i (getD (worstBy t (horizon t)) i 0)
-          go (inr (j, f, d, e)) = worst-is S met i l (tieCycle t r) _ j f (finishes-iff S i j f l .1 d) e (λ j f d m. s .bound j f (finishes-iff S i j f l .0 d) (omega (arith, horizon-is t r _ (tie-ranks t))))
+          go (inr (j, f, d, e)) = worst-is S met i l (tieCycle t r) _ j f (finishes-iff S i j f l .1 d) e (λ j f d m. s .bound j f (finishes-iff S i j f l .0 d) (omega (arith, horizon-is t r (tieOrder t))))
           go (inl z) =
               let (f, d, a, b) = first-ends S met i l (tieCycle t r) in
-              absurd (omega (arith, s .bound 0 f (finishes-iff S i 0 f l .0 d) (omega (arith, horizon-is t r _ (tie-ranks t)))))
+              absurd (omega (arith, s .bound 0 f (finishes-iff S i 0 f l .0 d) (omega (arith, horizon-is t r (tieOrder t)))))

@@ -35,7 +35,6 @@ use Rattle.backlog.specs.PassedWorst.{met-of-passed}
 use Rattle.backlog.specs.Taken.{owner-one}
 use Rattle.backlog.specs.Walk.{quiet, Clear}
 use Rattle.backlog.specs.WalkWorst.{worstBy, walk-worsts}
-use Rattle.backlog.specs.TableSystem.{tie-ranks}
 use Rattle.patterns.specs.FirstIdle.{first-idle}
 use Rattle.slots.specs.Slot.{noneLeft}
 use Rattle.slots.specs.Columns.{columnsOf}
@@ -80,9 +79,9 @@ module _ (t : Table) (r : Ranged t) (light : load t ≤ round t) (n : ℕ) {wait
       go : Dec (u ≤ n) → Dec (T (idleAt t (tieOrder t) (suc n))) → idleNoted (idleBy t n) left (t .count) (suc n) ≡ idleBy t (suc n)
       go (yes p) d = rw (le-ltb n u p, lt-ltb 0 u (idle-later t), le-ltb (suc n) u (omega arith))
       go (no p) (yes h) =
-          let e : u ≡ suc n = omega (arith, least-le (λ (u : ℕ). (0 < u) × T (idleAt t (tieOrder t) u)) u (suc n) (first-idle t r _ (tie-ranks t) light .0) (omega arith, h)) in
+          let e : u ≡ suc n = omega (arith, least-le (λ (u : ℕ). (0 < u) × T (idleAt t (tieOrder t) u)) u (suc n) (first-idle t r _ light .0) (omega arith, h)) in
           rw (lt-ltb n u (omega arith), le-ltb (suc n) u (omega arith), none-left, is-true (idleAt t (tieOrder t) (suc n)) h) (sym e)
-      go (no p) (no h) = rw (lt-ltb n u (omega arith), none-left, is-false (idleAt t (tieOrder t) (suc n)) h, lt-ltb (suc n) u (later (first-idle t r _ (tie-ranks t) light .0 .0 .1)))
+      go (no p) (no h) = rw (lt-ltb n u (omega arith), none-left, is-false (idleAt t (tieOrder t) (suc n)) h, lt-ltb (suc n) u (later (first-idle t r _ light .0 .0 .1)))
         where
           later : T (idleAt t (tieOrder t) u) → suc n < u
           later x = elim (decLt (suc n) u) [ yes l ↦ l | no l ↦ let e : u ≡ suc n = omega arith in absurd (h (rw e at x)) ]
@@ -124,7 +123,7 @@ module _ (t : Table) (m : Measure) (budget : ℕ) (well : judged t ≡ Judgement
   -- The first idle instant, told.
   idle-told : horizon t ≤ n → idle ≡ firstIdle t (tieOrder t)
   unfolding idleBy
-  idle-told h = w .idles ∙ rw (le-ltb n (firstIdle t (tieOrder t)) (omega (arith, first-idle t r _ (tie-ranks t) fits .1, facts .offset-le 0 (r .some), facts .horizon-is)))
+  idle-told h = w .idles ∙ rw (le-ltb n (firstIdle t (tieOrder t)) (omega (arith, first-idle t r (tieOrder t) fits .1, facts .offset-le 0 (r .some), facts .horizon-is)))
 
   -- It reached the budget or the horizon and found nothing late.
   pub permitted-quiet : (from : ℕ) → Clear t (suc n) → n ≡ min budget (m .horizon) → Permitted t budget (concluded m from 0 n worst idle)
@@ -144,7 +143,7 @@ module _ (t : Table) (m : Measure) (budget : ℕ) (well : judged t ≡ Judgement
           let b : n ≡ horizon t = omega (arith, facts .horizon-is) in
           let a : needed t ≡ horizon t = none-within t h .0 in
           let u = is-passed t budget fits (omega (arith, facts .horizon-is)) h in
-          let q : Worsts t worst = rw (w .worsts, b) (walk-worsts t r (met-of-passed t r budget (u .0) _ (tie-ranks t))) in
+          let q : Worsts t worst = rw (w .worsts, b) (walk-worsts t r (met-of-passed t r budget (u .0) _)) in
           permitted _ Verdict.Passes (u .0) (worst, q, rw (le-ltb n (m .horizon) (omega (arith, facts .horizon-is)), u .1, a, ← idle-told (omega arith), ← b))
 
   -- It found, at a late deadline, the largest start that asks too much.

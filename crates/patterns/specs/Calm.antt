@@ -21,7 +21,7 @@ use Rattle.backlog.specs.System.{System, jobs, dues}
 use Rattle.backlog.specs.ModelRun.{servedOf, model-run}
 use Rattle.backlog.specs.Streams.{Jobs, Run}
 use Rattle.backlog.specs.Criterion.{Dues, Late, late-iff-over}
-use Rattle.backlog.specs.TableSystem.{tie-ranks, tieSystem}
+use Rattle.backlog.specs.TableSystem.{tieSystem}
 use Rattle.backlog.specs.TooMuch.{NeverTooMuch, never-iff}
 use Rattle.backlog.specs.EveryInstant.{over-iff}
 use Rattle.patterns.specs.Waiting.{Idle}
@@ -92,7 +92,7 @@ module _ (t : Table) (r : Ranged t) (J : Jobs) (D : Dues J) (z : Streamed t J D)
             let q : Ranged p = starting-ranged t r start (c .low) in
             let P : System = tieSystem p q in
             let (missed, busy) = misses (jobs P) (dues P) (servedOf P) (model-run P) (calm-pulled from start c) in
-            let (((pos, idle), least), soon) = first-idle p q _ (tie-ranks p) (omega (arith, starting-round t r start, starting-load t r start)) in
+            let (((pos, idle), least), soon) = first-idle p q _ (omega (arith, starting-round t r start, starting-load t r start)) in
             elim (decLe (firstIdle p (tieOrder p)) (to - from)) [
               | yes l ↦ busy (firstIdle p (tieOrder p)) pos l (idle-streams P _ .0 idle)
               | no l ↦ calm-iff p q .0 (c .still) (to - from) (omega arith) (over-iff P (to - from) .1 (late-iff-over (jobs P) (dues P) (servedOf P) (model-run P) (to - from) .0 missed))

@@ -17,7 +17,7 @@ use Rattle.counting.specs.Search.{first-from, first-before, first-passes, first
 use Rattle.counting.specs.Below.{below, below-none, below-later-le}
 use Rattle.wellformed.specs.Ranges.{Ranged}
 use Rattle.wellformed.specs.Round.{round-pos}
-use Rattle.backlog.specs.System.{System, size, costOf, releaseOf, jobs, Ranks}
+use Rattle.backlog.specs.System.{System, size, costOf, releaseOf, jobs}
 use Rattle.backlog.specs.ModelRun.{servedOf, model-run}
 use Rattle.backlog.specs.Shift.{Cycle, loadOf, release-later}
 use Rattle.backlog.specs.TableSystem.{systemOf, cycleOf, load-is}
@@ -36,21 +36,21 @@ released-round S Y = sum-le (size S) _ _ (λ i l. mul-le-mul-left (costOf S i) (
         let h : below (releaseOf S i) (0 + Y .round) ≤ below (releaseOf S i) 0 + Y .times i = below-later-le (releaseOf S i) ((jobs S) .rel-grows i l) (Y .times i) (Y .round) (release-later S Y i l) 0 in
         omega (arith, subst (λ (x : ℕ). below (releaseOf S i) x ≤ below (releaseOf S i) 0 + Y .times i) (zero-add (Y .round)) h, below-none (releaseOf S i))
 
-module _ (t : Table) (r : Ranged t) (rank : Order) (o : Ranks t rank) where
+module _ (t : Table) (r : Ranged t) (rank : Order) where
   pub first-idle : load t ≤ round t → Least (λ u. (0 < u) × T (idleAt t rank u)) (firstIdle t rank) × (firstIdle t rank ≤ round t)
   unfolding firstIdle
   first-idle light = (((first-from (idleAt t rank) 1 (round t), first-passes (idleAt t rank) 1 (round t) (omega (arith, soon))), λ u l h. first-before (idleAt t rank) 1 (round t) u (h .0) l (h .1)), soon)
     where
       soon : firstIdle t rank ≤ round t
       soon =
-          let (u, p, h, i) = idle-soon (jobs (systemOf t r rank o)) (servedOf (systemOf t r rank o)) (model-run (systemOf t r rank o)) (round t) (round-pos t r) (omega (arith, released-round (systemOf t r rank o) (cycleOf t r rank o), load-is t r rank o)) in
-          elim (decLt u (firstIdle t rank)) [ yes l ↦ absurd (first-before (idleAt t rank) 1 (round t) u p l (idle-streams (systemOf t r rank o) u .1 i)) | no l ↦ omega arith ]
+          let (u, p, h, i) = idle-soon (jobs (systemOf t r rank)) (servedOf (systemOf t r rank)) (model-run (systemOf t r rank)) (round t) (round-pos t r) (omega (arith, released-round (systemOf t r rank) (cycleOf t r rank), load-is t r rank)) in
+          elim (decLt u (firstIdle t rank)) [ yes l ↦ absurd (first-before (idleAt t rank) 1 (round t) u p l (idle-streams (systemOf t r rank) u .1 i)) | no l ↦ omega arith ]
 
 -- So a table that the test passes has one.
-pub passed-idle : (t : Table) → Ranged t → (budget : ℕ) → verdict t budget ≡ Verdict.Passes → (rank : Order) → Ranks t rank → Least (λ u. (0 < u) × T (idleAt t rank u)) (firstIdle t rank) × (firstIdle t rank ≤ round t)
-passed-idle t r budget e rank o = first-idle t r rank o (never-of-passed t r budget e .0)
+pub passed-idle : (t : Table) → Ranged t → (budget : ℕ) → verdict t budget ≡ Verdict.Passes → (rank : Order) → Least (λ u. (0 < u) × T (idleAt t rank u)) (firstIdle t rank) × (firstIdle t rank ≤ round t)
+passed-idle t r budget e rank = first-idle t r rank (never-of-passed t r budget e .0)
 
 -- The order of the tasks does not matter.
-pub first-any-order : (t : Table) (r : Ranged t) (rank rank′ : Order) → Ranks t rank → Ranks t rank′ → firstIdle t rank ≡ firstIdle t rank′
+pub first-any-order : (t : Table) (r : Ranged t) (rank rank′ : Order) → firstIdle t rank ≡ firstIdle t rank′
 unfolding firstIdle
-first-any-order t r rank rank′ o o′ = first-eq (idleAt t rank) (idleAt t rank′) 1 (round t) (λ u a b. idle-any-order t r rank rank′ o o′ u)
+first-any-order t r rank rank′ = first-eq (idleAt t rank) (idleAt t rank′) 1 (round t) (λ u a b. idle-any-order t r rank rank′ u)

@@ -14,7 +14,7 @@ use Rattle.counting.specs.Count.{tests, every-iff, same-test}
 use Rattle.counting.specs.Below.{work-lt, work-le}
 use Rattle.wellformed.specs.Ranges.{Ranged}
 use Rattle.backlog.specs.Streams.{released}
-use Rattle.backlog.specs.System.{System, size, costOf, releaseOf, jobs, Ranks}
+use Rattle.backlog.specs.System.{System, size, costOf, releaseOf, jobs}
 use Rattle.backlog.specs.ModelRun.{servedOf, at, model-run}
 use Rattle.backlog.specs.RunSchedule.{undone-iff}
 use Rattle.backlog.specs.TableSystem.{systemOf}
@@ -58,15 +58,15 @@ module _ (S : System) where
       ]
 
 -- The order of the tasks does not matter.
-pub idle-any-order : (t : Table) (r : Ranged t) (rank rank′ : Order) → Ranks t rank → Ranks t rank′ → (u : ℕ) → idleAt t rank u ≡ idleAt t rank′ u
+pub idle-any-order : (t : Table) (r : Ranged t) (rank rank′ : Order) (u : ℕ) → idleAt t rank u ≡ idleAt t rank′ u
 unfolding releasedAt
-idle-any-order t r rank rank′ o o′ u = same-test _ _ (λ h. idle-streams S′ u .1 (carry S S′ refl (idle-streams S u .0 h))) (λ h. idle-streams S u .1 (carry S′ S refl (idle-streams S′ u .0 h)))
+idle-any-order t r rank rank′ u = same-test _ _ (λ h. idle-streams S′ u .1 (carry S S′ refl (idle-streams S u .0 h))) (λ h. idle-streams S u .1 (carry S′ S refl (idle-streams S′ u .0 h)))
   where
     S : System
-    S = systemOf t r rank o
+    S = systemOf t r rank
 
     S′ : System
-    S′ = systemOf t r rank′ o′
+    S′ = systemOf t r rank′
 
     carry : (A B : System) → releasedAt (jobs A) ≡ releasedAt (jobs B) → Idle (jobs A) (servedOf A) u → Idle (jobs B) (servedOf B) u
     carry A B e h = idle-waiting (jobs B) (servedOf B) u .1 (waiting-is (jobs B) (servedOf B) (model-run B) u ∙ rw (← e) (sym (waiting-is (jobs A) (servedOf A) (model-run A) u) ∙ idle-waiting (jobs A) (servedOf A) u .0 h))

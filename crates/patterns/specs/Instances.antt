@@ -19,8 +19,8 @@ use Rattle.model.specs.Examples.{of, table-b, table-d, table-g}
 use Rattle.counting.specs.Search.{first-before}
 use Rattle.wellformed.specs.Ranges.{Ranged}
 use Rattle.wellformed.specs.WellFormed.{well-formed}
-use Rattle.backlog.specs.System.{System, Ranks, jobs, dues}
-use Rattle.backlog.specs.TableSystem.{tieSystem, tie-ranks}
+use Rattle.backlog.specs.System.{System, jobs, dues}
+use Rattle.backlog.specs.TableSystem.{tieSystem}
 use Rattle.backlog.specs.TooMuch.{never-iff}
 use Rattle.backlog.specs.ModelRun.{servedOf, model-run}
 use Rattle.backlog.specs.Criterion.{late-iff-over}
@@ -58,18 +58,15 @@ g-distance : T (distancePass table-g)
 g-distance = quick-distance table-g g-ranged g-quick
 
 -- Its first idle instant is 4, in the other order of its two tasks too.
-g-reversed : Ranks table-g (λ i. 1 - i)
-g-reversed = record { low = λ i l. omega arith; apart = λ i k a b e. omega arith }
-
 g-idle : Least (λ u. (0 < u) × T (idleAt table-g (λ i. 1 - i) u)) 4 × (4 ≤ round table-g)
 unfolding firstIdle idleAt first round load sum count served ownerOf choose
-g-idle = first-idle table-g g-ranged (λ i. 1 - i) g-reversed (lit≤ tt)
+g-idle = first-idle table-g g-ranged (λ i. 1 - i) (lit≤ tt)
 
 g-passed-idle : Least (λ u. (0 < u) × T (idleAt table-g (tieOrder table-g) u)) (firstIdle table-g (tieOrder table-g)) × (firstIdle table-g (tieOrder table-g) ≤ round table-g)
-g-passed-idle = passed-idle table-g g-ranged 8 g-passes (tieOrder table-g) (tie-ranks table-g)
+g-passed-idle = passed-idle table-g g-ranged 8 g-passes (tieOrder table-g)
 
 g-same : firstIdle table-g (λ i. 1 - i) ≡ firstIdle table-g (tieOrder table-g)
-g-same = first-any-order table-g g-ranged (λ i. 1 - i) (tieOrder table-g) g-reversed (tie-ranks table-g)
+g-same = first-any-order table-g g-ranged (λ i. 1 - i) (tieOrder table-g)
 
 -- By then all that was released is finished.
 g-caught-up : CaughtUp (tieSystem table-g g-ranged) 4

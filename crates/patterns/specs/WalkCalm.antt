@@ -13,7 +13,7 @@ use Rattle.model.specs.Patterns.{calm}
 use Rattle.counting.specs.Search.{NoneFrom, least-le}
 use Rattle.wellformed.specs.Ranges.{Ranged}
 use Rattle.backlog.specs.System.{System}
-use Rattle.backlog.specs.TableSystem.{tie-ranks, tieSystem}
+use Rattle.backlog.specs.TableSystem.{tieSystem}
 use Rattle.backlog.specs.EveryInstant.{missed-iff}
 use Rattle.backlog.specs.Walk.{Clear}
 use Rattle.patterns.specs.IdleInstants.{idle-iff}
@@ -29,8 +29,8 @@ module _ (t : Table) (r : Ranged t) (light : load t ≤ round t) where
   pub walk-calm : (n : ℕ) → 0 < n → Clear t n → T (noneLeft t n) → T (calm t)
   walk-calm n pos c h =
       let idle : T (idleAt t (tieOrder t) n) = rw (walk-idle-at t r n c) at h in
-      let soon : firstIdle t (tieOrder t) ≤ n = least-le (λ u. (0 < u) × T (idleAt t (tieOrder t) u)) _ n (first-idle t r _ (tie-ranks t) light .0) (pos, idle) in
-      calm-iff t r .1 (λ u l late. elim (decLt u n) [ yes p ↦ c u p late | no p ↦ idle-not-late (tieSystem t r) (firstIdle t (tieOrder t)) (first-idle t r _ (tie-ranks t) light .0 .0 .1) (rw (at-end u l soon p) at late) ])
+      let soon : firstIdle t (tieOrder t) ≤ n = least-le (λ u. (0 < u) × T (idleAt t (tieOrder t) u)) _ n (first-idle t r _ light .0) (pos, idle) in
+      calm-iff t r .1 (λ u l late. elim (decLt u n) [ yes p ↦ c u p late | no p ↦ idle-not-late (tieSystem t r) (firstIdle t (tieOrder t)) (first-idle t r _ light .0 .0 .1) (rw (at-end u l soon p) at late) ])
     where
       at-end : (u : ℕ) → u ≤ firstIdle t (tieOrder t) → firstIdle t (tieOrder t) ≤ n → ¬ (u < n) → u ≡ firstIdle t (tieOrder t)
       at-end u l m p = omega arith
@@ -38,7 +38,7 @@ module _ (t : Table) (r : Ranged t) (light : load t ≤ round t) where
   -- As long as a walk met no late deadline and had something left at each instant after 0, it is at most at the first idle instant, and within H.
   pub walk-within : (n : ℕ) → Clear t n → NoneFrom (noneLeft t) 1 n → (n ≤ firstIdle t (tieOrder t)) × (n ≤ round t)
   walk-within n c none =
-      let (((pos, idle), least), soon) = first-idle t r _ (tie-ranks t) light in
+      let (((pos, idle), least), soon) = first-idle t r _ light in
       let early : n ≤ firstIdle t (tieOrder t) = elim (decLt (firstIdle t (tieOrder t)) n) [
         | no p ↦ omega arith
         | yes p ↦ absurd (none (firstIdle t (tieOrder t)) pos p (rw (walk-idle-at t r (firstIdle t (tieOrder t)) (λ v l. c v (omega arith))) idle))

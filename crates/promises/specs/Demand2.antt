@@ -29,8 +29,7 @@ use Rattle.backlog.specs.Verdicts.{is-overload, is-undecided, is-late, is-passe
 use Rattle.backlog.specs.Longer.{longer}
 use Rattle.backlog.specs.RunRule.{run-rule}
 use Rattle.backlog.specs.Worst.{worst-range}
-use Rattle.backlog.specs.System.{Ranks}
-use Rattle.backlog.specs.TableSystem.{tie-ranks, tieSystem}
+use Rattle.backlog.specs.TableSystem.{tieSystem}
 use Rattle.backlog.specs.Passes.{never-of-passed, passes-iff, overload-infeasible, late-infeasible}
 use Rattle.backlog.specs.PassedWorst.{met-of-passed}
 use Rattle.backlog.specs.Unique.{permitted-unique}
@@ -145,11 +144,11 @@ pub idle-exactly : (t : Table) (m : Measure) → judged t ≡ Judgement.WellForm
 idle-exactly t m well budget a p o =
     let r = well-formed t m well .ranged in
     let (v, w, e) = passed-exactly t budget a p o in
-    let (((pos, idle), least), soon) = passed-idle t r budget v _ (tie-ranks t) in
+    let (((pos, idle), least), soon) = passed-idle t r budget v _ in
     rw e (((pos, idle-iff (tieSystem t r) _ .0 idle), λ u l h. least u l (h .0, idle-iff (tieSystem t r) u .1 (h .1))), soon)
 
 -- It does not depend on how ties are broken: in any order of the tasks it is the same.
-pub idle-any-order : (t : Table) (m : Measure) → judged t ≡ Judgement.WellFormed m → (rank rank′ : Order) → Ranks t rank → Ranks t rank′ → firstIdle t rank ≡ firstIdle t rank′
+pub idle-any-order : (t : Table) (m : Measure) → judged t ≡ Judgement.WellFormed m → (rank rank′ : Order) → firstIdle t rank ≡ firstIdle t rank′
 idle-any-order t m well = first-any-order t (well-formed t m well .ranged)
 
 -- A worst response is at least 1 and at most the deadline.
@@ -157,7 +156,7 @@ pub worst-by-deadline : (t : Table) (m : Measure) → judged t ≡ Judgement.Wel
 worst-by-deadline t m well budget a p o i l =
     let r = well-formed t m well .ranged in
     let (v, w, e) = passed-exactly t budget a p o in
-    worst-range (tieSystem t r) (met-of-passed t r budget v _ (tie-ranks t)) i l (getD (a .worst) i 0) (w .worst i l)
+    worst-range (tieSystem t r) (met-of-passed t r budget v _) i l (getD (a .worst) i 0) (w .worst i l)
 
 -- A longer budget alters no answer but undecided.
 longer-answers : (t : Table) (budget more : ℕ) (m : Measure) (a : Answer) (v : Verdict) → settledBy t more ≡ settledBy t budget → Answers t budget m a v → Answers t more m a v
@@ -184,5 +183,6 @@ Waits t u i j = (i < t .count) × (release (task t i) j ≤ u) × (given (run t 
 pub run-is-the-rule : (t : Table) (m : Measure) → judged t ≡ Judgement.WellFormed m → (u : ℕ) →
     ((run t (tieOrder t) u ≡ none) × ((i j : ℕ) → Waits t u i j → ⊥))
     ⊎ ((i : ℕ) × (j : ℕ) × (run t (tieOrder t) u ≡ job i j) × Waits t u i j
-    × ((k n : ℕ) → Waits t u k n → (due (task t i) j < due (task t k) n) ⊎ ((due (task t i) j ≡ due (task t k) n) × (i ≤ k))))
+    × ((k n : ℕ) → Waits t u k n → (due (task t i) j < due (task t k) n)
+    ⊎ ((due (task t i) j ≡ due (task t k) n) × ((tieOrder t i < tieOrder t k) ⊎ ((tieOrder t i ≡ tieOrder t k) × (i ≤ k))))))
 run-is-the-rule t m well = run-rule (tieSystem t (well-formed t m well .ranged))

@@ -32,7 +32,7 @@ use Rattle.backlog.specs.LateStart.{start-asks}
 use Rattle.backlog.specs.Verdicts.{lateVerdict, Case, overload, undecided, late, passed, the-case}
 use Rattle.backlog.specs.PassedWorst.{met-of-passed}
 use Rattle.backlog.specs.AnswersSay.{answers-say}
-use Rattle.backlog.specs.TableSystem.{tie-ranks, tieSystem}
+use Rattle.backlog.specs.TableSystem.{tieSystem}
 use Rattle.backlog.specs.Worst.{worst-range}
 use Rattle.report.specs.Fits.{Wide, VerdictWide, Printable, fits}
 
@@ -72,7 +72,7 @@ module _ (t : Table) (m : Measure) (well : WellFormed t m) where
     worst-wide e w q k l =
         let r = well .ranged in
         let i = r .each k l in
-        omega (arith, i .deadline-le, i .period-le, worst-range (tieSystem t r) (met-of-passed t r budget e _ (tie-ranks t)) k l (getD w k 0) (q .worst k l) .1)
+        omega (arith, i .deadline-le, i .period-le, worst-range (tieSystem t r) (met-of-passed t r budget e _) k l (getD w k 0) (q .worst k l) .1)
 
     settled-wide : Wide (settledBy t budget)
     settled-wide = omega (arith, well .horizon-le, verdict-wide (verdict t budget) (settledBy t budget) (the-case t budget) .1)
