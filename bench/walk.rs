@@ -1,5 +1,6 @@
 // The plain walk that the proved one is compared with: slot by slot, the released job with the earliest deadline, ties to the
-// lower number; worst responses, the first idle instant after 0, and the first deadline that a job misses. It is written in two ways.
+// shorter period and then to the lower number; worst responses, the first idle instant after 0, and the first deadline that a job
+// misses. It is written in two ways.
 use crate::calls::Task;
 
 #[derive(Clone, Copy, Debug, PartialEq)]
@@ -31,7 +32,7 @@ pub fn one_pass(tasks: &[Task], end: u64) -> Walk {
     let mut at = 0;
     loop {
         let mut owner = None;
-        let mut earliest = u32::MAX;
+        let mut first = u64::MAX;
         for i in 0..n {
             if left[i] > 0 && wait[i] == slack[i] {
                 return Walk { end: End::Late(at), worst, idle };
@@ -41,9 +42,9 @@ pub fn one_pass(tasks: &[Task], end: u64) -> Walk {
                 left[i] = tasks[i].cost;
             }
             if left[i] > 0 {
-                let due = wait[i] - slack[i];
-                if due < earliest {
-                    earliest = due;
+                let key = u64::from(wait[i] - slack[i]) << 32 | u64::from(tasks[i].period);
+                if key < first {
+                    first = key;
                     owner = Some(i);
                 }
             }
@@ -89,16 +90,16 @@ pub fn two_passes(tasks: &[Task], end: u64) -> Walk {
             return Walk { end: End::Reached(at), worst, idle };
         }
         let mut owner = None;
-        let mut earliest = u32::MAX;
+        let mut first = u64::MAX;
         for i in 0..n {
             if wait[i] == 0 {
                 wait[i] = tasks[i].period;
                 left[i] = tasks[i].cost;
             }
             if left[i] > 0 {
-                let due = wait[i] - slack[i];
-                if due < earliest {
-                    earliest = due;
+                let key = u64::from(wait[i] - slack[i]) << 32 | u64::from(tasks[i].period);
+                if key < first {
+                    first = key;
                     owner = Some(i);
                 }
             }

@@ -229,7 +229,8 @@ uint64_t yolizadwa_start(const uint8_t *file, size_t file_len, uint8_t *state, s
  *   1. If `done` is not 0, the open job of the task that ran last is finished; if there is none, `done` means nothing.
  *   2. An open job at its deadline is closed as late: see late, closed and lowest of the new state.
  *   3. A task whose wait is 0 has a job released.
- *   4. The open job with the earliest deadline has the slot, of equal ones that of the lowest task.
+ *   4. The open job with the earliest deadline has the slot; of equal ones that of the task with the shortest period, and of
+ *      these that of the lowest task.
  *
  * Call it once at the beginning of every slot, slot 0 first, empty slots too. `done` is about the slot just before and
  * about no other: handed over later it ends the job that had the slot in between, if one had. At the first step hand

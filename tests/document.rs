@@ -18,6 +18,8 @@ const G: Rows = &[(0, 2, 4, 4), (0, 2, 4, 4)];
 const H: Rows = &[(4, 1, 1, 2), (0, 2, 3, 4)];
 const I: Rows = &[(0, 3, 5, 5), (2, 3, 5, 5)];
 pub const J: Rows = &[(4, 1, 1, 2)];
+/// Document 02's of the lamp, where equal deadlines go to the shorter period.
+const LAMP: Rows = &[(0, 4, 6, 6), (3, 1, 3, 3)];
 const LONGEST: Rows = &[(0, 1, 31_622, 31_622), (0, 1, 31_623, 31_623)];
 pub const TOO_LONG: Rows = &[(0, 1, 31_623, 31_623), (0, 1, 31_624, 31_624)];
 
@@ -39,6 +41,7 @@ const REPORTS: &[(Rows, u64, &str)] = &[
     (I, 0, "tasks 2\nload 6/5\nquick none\nhorizon 12\nverdict overload\nsettled 0\n"),
     (J, 1_000, "tasks 1\nload 1/2\nquick pass\nhorizon 8\nverdict passes\nsettled 8\nworst 0 1\nidle 1\n"),
     (J, u64::MAX, "tasks 1\nload 1/2\nquick pass\nhorizon 8\nverdict passes\nsettled 8\nworst 0 1\nidle 1\n"),
+    (LAMP, 15, "tasks 2\nload 6/6\nquick pass\nhorizon 15\nverdict passes\nsettled 15\nworst 0 6\nworst 1 1\nidle 5\n"),
     (LONGEST, 10, "tasks 2\nload 63245/999982506\nquick pass\nhorizon 1999965012\nverdict undecided\nsettled 10\n"),
 ];
 
@@ -63,6 +66,7 @@ const ANSWERS: &[(Rows, u64, u64)] = &[
     (H, 0, 0),
     (I, 0, 2),
     (J, 1, 1),
+    (LAMP, 1, 1),
     (LONGEST, 1, 1),
     (REQUESTED, 0, 0),
     (NOT_FROM_0, 0, 0),
@@ -119,6 +123,7 @@ pub fn steps(bench: &mut Bench) {
     let none = [0, 0, NONE];
     steps_are(bench, G, &[(0, 0, none), (1, 1, none), (0, 1, none), (0, NONE, none), (0, 0, none)]);
     steps_are(bench, F, &[(0, 0, none), (0, NONE, [2, 1, 1])]);
+    steps_are(bench, LAMP, &[(0, 0, none), (0, 0, none), (0, 0, none), (0, 1, none), (0, 0, none), (0, NONE, none)]);
     bench.end_group("document 01's dispatcher");
 }
 

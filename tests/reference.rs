@@ -275,8 +275,13 @@ pub fn first_late(tasks: &[Task], limit: u64) -> Option<Late> {
 
 // The run.
 
-fn next_job(open: &[Job]) -> Option<usize> {
-    (0..open.len()).min_by_key(|&index| (open[index].deadline, open[index].task))
+/// What is smallest goes first: the earliest deadline, then the shorter period, then the lower number.
+pub fn turn(tasks: &[Task], number: usize, deadline: u64) -> (u64, u32, usize) {
+    (deadline, tasks[number].period, number)
+}
+
+fn next_job(tasks: &[Task], open: &[Job]) -> Option<usize> {
+    (0..open.len()).min_by_key(|&index| turn(tasks, open[index].task, open[index].deadline))
 }
 
 /// Worst responses, over all jobs released before a time, and the first instant after 0 at which every job that was released
@@ -290,7 +295,7 @@ fn run(tasks: &[Task], until: u64) -> (Vec<u64>, u64) {
         while coming.last().map_or(false, |job| job.release == slot) {
             open.extend(coming.pop());
         }
-        if let Some(index) = next_job(&open) {
+        if let Some(index) = next_job(tasks, &open) {
             give(&mut open, index, slot, &mut worst);
         }
         slot += 1;
@@ -345,7 +350,7 @@ fn calm_within(tasks: &[Task], slots: u64) -> Option<bool> {
     let mut open: Vec<Job> = Vec::new();
     for slot in 0..slots {
         open.extend(released_at(tasks, slot));
-        if let Some(index) = next_job(&open) {
+        if let Some(index) = next_job(tasks, &open) {
             open[index].left -= 1;
         }
         open.retain(|job| job.left > 0);
@@ -561,7 +566,8 @@ fn release(tasks: &[Task], state: &mut State) {
 
 fn give_slot(tasks: &[Task], state: &mut State) {
     let open = (0..tasks.len()).filter(|&task| state.left[task] >= 1);
-    let owner = open.min_by_key(|&task| (slots_to_deadline(&tasks[task], state.wait[task]), task));
+    let due_in = |task: usize| u64::from(slots_to_deadline(&tasks[task], state.wait[task]));
+    let owner = open.min_by_key(|&task| turn(tasks, task, due_in(task)));
     state.last = owner.map_or(NONE, |task| task as u32);
     if let Some(task) = owner {
         state.left[task] -= 1;

@@ -34,7 +34,8 @@ impl Clock {
     }
 
     fn give(&mut self) -> Option<usize> {
-        let job = self.open.iter_mut().min_by_key(|job| (job.deadline, job.task))?;
+        let tasks = &self.tasks;
+        let job = self.open.iter_mut().min_by_key(|job| reference::turn(tasks, job.task, job.deadline))?;
         job.left -= 1;
         let task = job.task;
         self.open.retain(|job| job.left > 0);

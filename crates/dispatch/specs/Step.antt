@@ -54,32 +54,32 @@ module _ (t : Table) (d : State) (done : Bool) (unrefused : Unrefused t d) (whol
   done-fill e = e ∙ go done
     where
       go : (b : Bool) → cond b (closed (d .left) (d .last)) (d .left) ≡ fill (t .count) (leftDone t d b) (d .left)
-      go true = closed-fill (t .count) (d .left) (d .last) (unrefused .few) (unrefused .ran)
+      go true = closed-fill (t .count) (d .left) (d .last) (unrefused .ranged .few) (unrefused .ran)
       go false = sym (fill-same (t .count) (d .left) 0)
 
   filled-has : (f : ℕ → ℕ) {left : List ℕ} → left ≡ fill (t .count) f (d .left) → Has (t .count) left f
-  filled-has f e i l = rw e (fill-has (t .count) f (d .left) (omega (arith, unrefused .few, whole .lefts)) i l)
+  filled-has f e i l = rw e (fill-has (t .count) f (d .left) (omega (arith, unrefused .ranged .few, whole .lefts)) i l)
 
   -- Rule 2.
   late-bits : {left : List ℕ} {late : ℕ} → left ≡ fill (t .count) (leftDone t d done) (d .left) → late ≡ bits (isLateIn (d .wait) left (columnsOf t .slack) (t .count)) taskLimit → late ≡ bits (isLate t d done) taskLimit
   late-bits {left} e q = q ∙ bits-eq _ _ taskLimit (λ i l. same i (decLt i (t .count)))
     where
       same : (i : ℕ) → Dec (i < t .count) → isLateIn (d .wait) left (columnsOf t .slack) (t .count) i ≡ isLate t d done i
-      same i (yes l) = rw (filled-has (leftDone t d done) e i l, slack-has t (unrefused .few) i l)
+      same i (yes l) = rw (filled-has (leftDone t d done) e i l, slack-has t (unrefused .ranged .few) i l)
       same i (no l) = rw (le-ltb i (t .count) (omega arith))
 
   late-fill : {left left′ : List ℕ} {late : ℕ} → left ≡ fill (t .count) (leftDone t d done) (d .left) → late ≡ bits (isLate t d done) taskLimit → left′ ≡ closedAll left late (t .count) → left′ ≡ fill (t .count) (leftLate t d done) (d .left)
   unfolding closedAll
   late-fill e q s =
       s ∙ ap (fill (t .count) _) e ∙ fill-again (t .count) _ _ (d .left)
-      ∙ fill-eq (t .count) _ _ (d .left) (λ i l. rw (q, member-is (isLate t d done) i (omega (arith, unrefused .few)), filled-has (leftDone t d done) e i l))
+      ∙ fill-eq (t .count) _ _ (d .left) (λ i l. rw (q, member-is (isLate t d done) i (omega (arith, unrefused .ranged .few)), filled-has (leftDone t d done) e i l))
 
   -- Rules 3 and 4.
   module _ {left wait′ left′ : List ℕ} {seen : Seen} (e : left ≡ fill (t .count) (leftLate t d done) (d .left))
       (s : Served (d .wait) left (columnsOf t .period) (columnsOf t .cost) (columnsOf t .slack) (columnsOf t .rank) (t .count) wait′ left′ seen) where
     -- Once the late jobs are closed none is left.
     calm : (i : ℕ) → i < t .count → T (isLateIn (d .wait) left (columnsOf t .slack) (t .count) i) → ⊥
-    calm i l h = go (isLate t d done i) refl (rw (filled-has (leftLate t d done) e i l, slack-has t (unrefused .few) i l) at h)
+    calm i l h = go (isLate t d done i) refl (rw (filled-has (leftLate t d done) e i l, slack-has t (unrefused .ranged .few) i l) at h)
       where
         go : (b : Bool) → isLate t d done i ≡ b → T (ltb i (t .count) && (ltb 0 (cond b 0 (leftDone t d done i)) && eqb (waitOf d i) (task t i .period - task t i .deadline))) → ⊥
         go true q x = and-iff (ltb i (t .count)) false .0 x .1
@@ -93,7 +93,7 @@ module _ (t : Table) (d : State) (done : Bool) (unrefused : Unrefused t d) (whol
         go false q = q
 
     slot : Slotted (t .count) (waitOf d) (leftLate t d done) (λ i. task t i .period) (λ i. task t i .cost) (λ i. task t i .period - task t i .deadline) (tieOrder t) (d .wait) left wait′ left′ (seen .owner)
-    slot = table-served t (unrefused .few) (d .wait) left (waitOf d) (leftLate t d done) (λ i l. refl) (filled-has (leftLate t d done) e) (s .slot none-late)
+    slot = table-served t (unrefused .ranged .few) (d .wait) left (waitOf d) (leftLate t d done) (λ i l. refl) (filled-has (leftLate t d done) e) (s .slot none-late)
 
     owner-is : seen .owner ≡ ownerNow t d done
     unfolding ownerNow

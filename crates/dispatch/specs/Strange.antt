@@ -2,7 +2,7 @@
 use mathlib.Core.Path.{_≡_}
 use mathlib.Core.Logic.{_⊎_}
 use mathlib.Core.Bool.{Bool, not, _&&_, _||_}
-use Prim.Native.Nat.{ℕ, _-_, max, _≤_, _<_}
+use Prim.Native.Nat.{ℕ, _-_, max, _<_}
 use native.Mathlib.Decide.{decLt}
 use native.Mathlib.Omega.{arith}
 use borrow.Author.Tests.{lt-ltb, le-ltb, le-leb, lt-leb}
@@ -11,6 +11,7 @@ use Rattle.values.specs.declared.Task.{Task}
 use Rattle.values.specs.declared.Table.{Table}
 use Rattle.model.specs.Limits.{taskLimit}
 use Rattle.model.specs.Dispatcher.{State}
+use Rattle.wellformed.specs.Ranges.{Ranged}
 
 -- A task with this wait and these slots left does not belong to the table.
 abbrev pub strangeAt : Task → ℕ → ℕ → Bool
@@ -34,5 +35,5 @@ at-least n x = elim (decLt x n) [ yes p ↦ rw (lt-leb n x p, lt-ltb x n p) | no
 
 -- What a step that nothing refuses may assume.
 pub record Unrefused (t : Table) (d : State) : Type 0 where
-  pub few : t .count ≤ taskLimit
+  pub ranged : Ranged t
   pub ran : (d .last ≡ taskLimit) ⊎ (d .last < t .count)

@@ -6,6 +6,7 @@ ghost use lib.Dec.{ltb, eqb};
 ghost use Rattle.model.specs.Limits.{taskLimit};
 ghost use Rattle.model.specs.Values.{refusal};
 ghost use Rattle.model.specs.Dispatcher.{firstStrange, refuseStep, started, stepped};
+ghost use Rattle.wellformed.specs.Ranges.{Ranged};
 ghost use Rattle.slots.specs.Slot.{closed};
 ghost use Rattle.dispatch.specs.State.{stateOf, startedOf, steppedOf};
 ghost use Rattle.dispatch.specs.Strange.{strangeAt, Unrefused};
@@ -84,7 +85,7 @@ fn refused(d: Dispatcher, why: Refusal) -> Stepped
 }
 
 fn step_well_formed(d: Dispatcher, t: Table, done: bool) -> Stepped
-    requires { ⌜ t .count ≤ taskLimit ⌝ }
+    requires { ⌜ Ranged t ⌝ }
     ensures { λ r. ⌜ steppedOf r ≡ stepWellFormed t (stateOf d) done ⌝ }
 {
     let stranger = first_strange(d, t);

@@ -74,7 +74,7 @@ module _ (t : Table) (d : State) (done : Bool) where
   abbrev pub leftReleased : ℕ → ℕ
   leftReleased i = cond (eqb (waitOf d i) 0) (task t i .cost) (leftLate i)
 
-  -- Rule 4: the open job with the earliest deadline gets the slot: the one with the fewest slots to its deadline.
+  -- Rule 4: the open job with the earliest deadline gets the slot, the one with the fewest slots to its deadline; ties go as in the run.
   unfoldable pub ownerNow : ℕ
   ownerNow = choose (λ i. ltb 0 (leftReleased i)) (λ i. waitReleased i - (task t i .period - task t i .deadline)) (tieOrder t) (t .count)
 

@@ -222,12 +222,30 @@ job-given = (refl, refl, refl, refl)
 responses : (response table-b 0 0 15 ≡ 7) × (response table-b 1 1 7 ≡ 2)
 responses = (refl, refl)
 
--- Ties go to the lower number, or to whichever task the order puts first; of one rank to the lower number. The order decides ties alone.
+-- Ties go to the task that the order puts first, and of one rank to the lower number. The order decides ties alone.
 ties :
-    (map (λ order. map (owner table-g order) (0 ∷ 1 ∷ 2 ∷ 3 ∷ [])) (tieOrder table-g ∷ (λ k. 1 - k) ∷ (λ k. 0) ∷ []) ≡ (0 ∷ 0 ∷ 1 ∷ 1 ∷ []) ∷ (1 ∷ 1 ∷ 0 ∷ 0 ∷ []) ∷ (0 ∷ 0 ∷ 1 ∷ 1 ∷ []) ∷ [])
+    (map (λ order. map (owner table-g order) (0 ∷ 1 ∷ 2 ∷ 3 ∷ [])) ((λ k. k) ∷ (λ k. 1 - k) ∷ (λ k. 0) ∷ []) ≡ (0 ∷ 0 ∷ 1 ∷ 1 ∷ []) ∷ (1 ∷ 1 ∷ 0 ∷ 0 ∷ []) ∷ (0 ∷ 0 ∷ 1 ∷ 1 ∷ []) ∷ [])
     × (map (owner (tableOf (of 0 1 2 10 ∷ of 0 1 5 5 ∷ [])) (λ k. 1 - k)) (0 ∷ 1 ∷ []) ≡ 0 ∷ 1 ∷ [])
 unfolding owner ownerOf served choose
 ties = (refl, refl)
+
+-- The lamp's table of document 02: at 3 and at 9 both tasks have a job due by the end of the round, and the slot goes to task 1, whose
+-- period is shorter, though its number is higher. So the jobs of task 0 end at 5 and at 12; by the numbers it would be 4 and 11.
+abbrev pub table-lamp : Table
+table-lamp = tableOf (of 0 4 6 6 ∷ of 3 1 3 3 ∷ [])
+
+shorter-period :
+    map (λ order. map (owner table-lamp order) (0 ∷ 1 ∷ 2 ∷ 3 ∷ 4 ∷ 5 ∷ 6 ∷ 7 ∷ 8 ∷ 9 ∷ 10 ∷ 11 ∷ [])) (tieOrder table-lamp ∷ (λ k. k) ∷ [])
+    ≡ (0 ∷ 0 ∷ 0 ∷ 1 ∷ 0 ∷ 16 ∷ 1 ∷ 0 ∷ 0 ∷ 1 ∷ 0 ∷ 0 ∷ []) ∷ (0 ∷ 0 ∷ 0 ∷ 0 ∷ 1 ∷ 16 ∷ 1 ∷ 0 ∷ 0 ∷ 0 ∷ 0 ∷ 1 ∷ []) ∷ []
+unfolding owner ownerOf served choose
+shorter-period = refl
+
+-- It is the period and not D that decides, and of one period the lower number: at 2 both jobs are due by 6.
+periods-decide :
+    map (λ t. map (owner t (tieOrder t)) (0 ∷ 1 ∷ 2 ∷ 3 ∷ 4 ∷ 5 ∷ [])) (tableOf (of 2 2 4 12 ∷ of 0 3 6 6 ∷ []) ∷ tableOf (of 0 3 6 6 ∷ of 2 2 4 6 ∷ []) ∷ [])
+    ≡ (1 ∷ 1 ∷ 1 ∷ 0 ∷ 0 ∷ 16 ∷ []) ∷ (0 ∷ 0 ∷ 0 ∷ 1 ∷ 1 ∷ 16 ∷ []) ∷ []
+unfolding owner ownerOf served choose
+periods-decide = refl
 
 -- The earliest deadline is that of the job, not the shortest of the tasks: at 4 the job of task 1, due by 6, goes before one due by 8.
 abbrev table-l : Table
@@ -354,13 +372,14 @@ steps : Table → State → List Bool → List ℕ
 steps t d [] = []
 steps t d (done ∷ more) = turn t d done .owner ∷ steps t (after t d done) more
 
--- g with task 0 done after one slot; f, whose task 1 is closed late in the second step.
+-- g with task 0 done after one slot; f, whose task 1 is closed late in the second step; the lamp, whose task 1 has the tie at slot 3, though task 0 ran last.
 dispatched :
     (steps table-g (startOf table-g) (false ∷ true ∷ false ∷ false ∷ false ∷ []) ≡ 0 ∷ 1 ∷ 1 ∷ 16 ∷ 0 ∷ [])
     × (steps table-f (startOf table-f) (false ∷ false ∷ []) ≡ 0 ∷ 16 ∷ [])
     × (turn table-f (after table-f (startOf table-f) false) false ≡ record { owner = 16; late = 2; closed = 1; lowest = 1 })
+    × (steps table-lamp (startOf table-lamp) (replicate 6 false) ≡ 0 ∷ 0 ∷ 0 ∷ 1 ∷ 0 ∷ 16 ∷ [])
 unfolding steps startOf after turn ownerNow choose fill bits sum count first
-dispatched = (refl, refl, refl)
+dispatched = (refl, refl, refl, refl)
 
 -- The earliest deadline goes first, not the next release; a job at its deadline is closed before the next one of its task is released.
 abbrev hurried : Table

@@ -9,9 +9,9 @@ use Rattle.model.specs.Schedule.{none, job, Schedule, given}
 abbrev pub Order : Type 0
 Order = ℕ → ℕ
 
--- The base's order: the lower task number.
+-- The order by which ties go: the shorter period (document 02, T-06), and so of one period the lower number.
 abbrev pub tieOrder : Table → Order
-tieOrder t i = i
+tieOrder t i = task t i .period
 
 -- Task i comes before task k: by the earlier deadline, and where these are equal by the order.
 abbrev pub precedes : (ℕ → ℕ) → Order → ℕ → ℕ → Bool

@@ -5,16 +5,17 @@ use mathlib.Core.Bool.{Bool, true, false, not}
 use Prim.Native.Nat.{ℕ, zero, suc, _+_, _-_, _*_, _≤_, _<_}
 use native.Mathlib.Decide.{decLe}
 use native.Mathlib.Omega.{arith}
-use lib.Dec.{T}
+use lib.Dec.{T, eqb}
 use Rattle.values.specs.declared.Task.{Task}
 use Rattle.values.specs.declared.Table.{Table}
+use Rattle.model.specs.Notation.{every}
 use Rattle.model.specs.Limits.{slotLimit}
 use Rattle.model.specs.Tasks.{task, release, round, load}
 use Rattle.model.specs.Demand.{lateAt}
-use Rattle.model.specs.Run.{tieOrder}
+use Rattle.model.specs.Run.{Order, tieOrder}
 use Rattle.model.specs.Idle.{firstIdle, missedAt}
 use Rattle.model.specs.Patterns.{startingAt, calm}
-use Rattle.counting.specs.Count.{every-iff}
+use Rattle.counting.specs.Count.{every-iff, count-eq}
 use Rattle.counting.specs.Below.{below}
 use Rattle.wellformed.specs.Ranges.{Ranged}
 use Rattle.backlog.specs.System.{System, jobs, dues}
@@ -26,8 +27,8 @@ use Rattle.backlog.specs.TooMuch.{NeverTooMuch, never-iff}
 use Rattle.backlog.specs.EveryInstant.{over-iff}
 use Rattle.patterns.specs.Waiting.{Idle}
 use Rattle.patterns.specs.IdleInstants.{idle-streams}
-use Rattle.patterns.specs.FirstIdle.{first-idle}
-use Rattle.patterns.specs.Missed.{missed-late}
+use Rattle.patterns.specs.FirstIdle.{first-idle, first-any-order}
+use Rattle.patterns.specs.Missed.{missed-late, missed-any-order}
 use Rattle.patterns.specs.Pulled.{Pulled, pulled-late}
 use Rattle.patterns.specs.Starting.{starting-task, starting-count, starting-round, starting-load, starting-ranged}
 
@@ -43,6 +44,11 @@ calm-iff t r = (
   λ c u l h. not-iff (missedAt t (tieOrder t) u) .0 (every-iff _ (suc (firstIdle t (tieOrder t))) .0 c u (omega arith)) (rw (missed-late (tieSystem t r) u) h),
   λ h. every-iff _ (suc (firstIdle t (tieOrder t))) .1 (λ u l. not-iff (missedAt t (tieOrder t) u) .1 (λ x. h u (omega arith) (rw (missed-late (tieSystem t r) u) at x))),
 )
+
+-- It is calm in any other order of its tasks too, or in none.
+pub calm-any-order : (t : Table) (r : Ranged t) (rank : Order) → calm t ≡ every (λ u. not (missedAt t rank u)) (suc (firstIdle t rank))
+unfolding calm
+calm-any-order t r rank = rw (first-any-order t r rank (tieOrder t)) (ap (λ (n : ℕ). eqb n (suc (firstIdle t (tieOrder t)))) (count-eq _ _ (suc (firstIdle t (tieOrder t))) (λ u l. ap not (missed-any-order t r (tieOrder t) rank u))))
 
 -- Streams of a table's tasks: they have its costs and deadlines, and their jobs come at least a period apart.
 pub record Streamed (t : Table) (J : Jobs) (D : Dues J) : Type 0 where

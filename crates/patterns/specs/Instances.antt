@@ -1,15 +1,15 @@
 -- NO THEOREM OF THIS CRATE IS EMPTY: tables b, d and g meet what they ask for.
 use mathlib.Core.Path.{_≡_, refl}
-use mathlib.Core.Bool.{false}
-use Prim.Native.Nat.{ℕ, _+_, _-_, _≤_, _<_}
+use mathlib.Core.Bool.{false, not}
+use Prim.Native.Nat.{ℕ, suc, _+_, _-_, _≤_, _<_}
 use native.Mathlib.Omega.{arith}
 use lib.Dec.{T, lit≤, lit<}
 use Rattle.values.specs.declared.Judgement.{Judgement}
 use Rattle.values.specs.declared.Verdict.{Verdict}
-use Rattle.model.specs.Notation.{sum, largest, count, first, last, fill, Least}
+use Rattle.model.specs.Notation.{sum, largest, count, every, first, last, fill, Least}
 use Rattle.model.specs.Tasks.{release, taskFault, firstFaulty, round, load, horizon, judged}
 use Rattle.model.specs.Demand.{jobsIn, demand, lateAt}
-use Rattle.model.specs.Run.{tieOrder, choose, ownerOf, served}
+use Rattle.model.specs.Run.{Order, tieOrder, choose, ownerOf, served}
 use Rattle.model.specs.Verdict.{needed, verdict}
 use Rattle.model.specs.Dispatcher.{startOf, after, ownerNow}
 use Rattle.model.specs.History.{stateAt}
@@ -31,6 +31,7 @@ use Rattle.backlog.specs.Walk.{Clear}
 use Rattle.patterns.specs.IdleInstants.{CaughtUp, idle-iff}
 use Rattle.patterns.specs.FirstIdle.{first-idle, passed-idle, first-any-order}
 use Rattle.patterns.specs.WalkIdle.{noneLeft, walk-idle-at}
+use Rattle.patterns.specs.Calm.{calm-any-order}
 use Rattle.patterns.specs.WalkCalm.{walk-calm, walk-not-calm}
 use Rattle.patterns.specs.Pulled.{pulled-late}
 use Rattle.patterns.specs.Missed.{missed-late}
@@ -83,6 +84,10 @@ g-walk-idle = walk-idle-at table-g g-ranged 4 (g-clear 4)
 g-walk-calm : T (calm table-g)
 unfolding round load first sum count stateAt startOf after ownerNow choose fill
 g-walk-calm = walk-calm table-g g-ranged (lit≤ tt) 4 (lit< tt) (g-clear 4) tt
+
+-- And so it is by the run of any order.
+g-calm-by : (rank : Order) → T (every (λ u. not (missedAt table-g rank u)) (suc (firstIdle table-g rank)))
+g-calm-by rank = rw (← calm-any-order table-g g-ranged rank) g-walk-calm
 
 -- Table b does not pass quickly: with all offsets 0 it is well-formed, and is table d, which has no good schedule.
 b-ranged : Ranged table-b

@@ -1,16 +1,20 @@
 -- MISSED IS LATE (`missed-late`): by u the run has missed a deadline, in any order of the tasks, exactly if some interval that ends at u asks too much.
-use mathlib.Core.Path.{_≡_}
+use mathlib.Core.Path.{_≡_, sym, _∙_}
 use Prim.Native.Nat.{ℕ, suc, _<_}
 use native.Mathlib.Nat.{lt-mul-div-succ, div-lt-iff-lt-mul}
 use native.Mathlib.Omega.{arith}
 use lib.Dec.{T}
+use Rattle.values.specs.declared.Table.{Table}
 use Rattle.model.specs.Demand.{lateAt}
+use Rattle.model.specs.Run.{Order}
 use Rattle.model.specs.Idle.{missedAt}
 use Rattle.counting.specs.Count.{tests, some-iff, same-test}
 use Rattle.counting.specs.Below.{grows-mono}
+use Rattle.wellformed.specs.Ranges.{Ranged}
 use Rattle.backlog.specs.System.{System, size, dueOf, dues}
 use Rattle.backlog.specs.ModelRun.{servedOf, at}
 use Rattle.backlog.specs.RunSchedule.{undone-iff}
+use Rattle.backlog.specs.TableSystem.{systemOf}
 use Rattle.backlog.specs.EveryInstant.{Missed, missed-iff}
 
 module _ (S : System) where
@@ -28,3 +32,7 @@ module _ (S : System) where
 
   pub missed-late : (u : ℕ) → missedAt (S .table) (S .rank) u ≡ lateAt (S .table) u
   missed-late u = same-test _ _ (λ h. missed-iff S u .0 (missed-job u h)) (λ h. job-missed u (missed-iff S u .1 h))
+
+-- The order of the tasks does not matter.
+pub missed-any-order : (t : Table) (r : Ranged t) (rank rank′ : Order) (u : ℕ) → missedAt t rank u ≡ missedAt t rank′ u
+missed-any-order t r rank rank′ u = missed-late (systemOf t r rank) u ∙ sym (missed-late (systemOf t r rank′) u)

@@ -29,13 +29,13 @@ use Rattle.backlog.specs.Verdicts.{is-overload, is-undecided, is-late, is-passe
 use Rattle.backlog.specs.Longer.{longer}
 use Rattle.backlog.specs.RunRule.{run-rule}
 use Rattle.backlog.specs.Worst.{worst-range}
-use Rattle.backlog.specs.TableSystem.{tieSystem}
+use Rattle.backlog.specs.TableSystem.{systemOf, tieSystem}
 use Rattle.backlog.specs.Passes.{never-of-passed, passes-iff, overload-infeasible, late-infeasible}
 use Rattle.backlog.specs.PassedWorst.{met-of-passed}
 use Rattle.backlog.specs.Unique.{permitted-unique}
 use Rattle.backlog.specs.AnswersSay.{answers-say}
 use Rattle.patterns.specs.IdleInstants.{idle-iff}
-use Rattle.patterns.specs.FirstIdle.{passed-idle, first-any-order}
+use Rattle.patterns.specs.FirstIdle.{passed-idle}
 
 module _ (t : Table) (m : Measure) (well : judged t ≡ Judgement.WellFormed m) where
   -- With a budget that reaches the horizon it passes exactly if some schedule is good.
@@ -49,11 +49,11 @@ module _ (t : Table) (m : Measure) (well : judged t ≡ Judgement.WellFormed m) 
   pub late-rightly : (budget from to asked : ℕ) → verdict t budget ≡ Verdict.Late from to asked → (σ : Schedule) → Good t σ → ⊥
   late-rightly budget from to asked e σ g = late-infeasible t (well-formed t m well .ranged) budget from to asked e (σ, g)
 
-  -- The run of a passed table is itself a good schedule, so every job of it finishes, and by its deadline.
-  pub run-is-good : (budget : ℕ) → verdict t budget ≡ Verdict.Passes → Good t (run t (tieOrder t))
-  run-is-good budget e =
+  -- The run of a passed table is itself a good schedule, in whatever order its ties go, so every job of it finishes, and by its deadline.
+  pub run-is-good : (budget : ℕ) → verdict t budget ≡ Verdict.Passes → (rank : Order) → Good t (run t rank)
+  run-is-good budget e rank =
       let r = well-formed t m well .ranged in
-      sufficient (tieSystem t r) (never-of-passed t r budget e .1)
+      sufficient (systemOf t r rank) (never-of-passed t r budget e .1)
 
 -- Overload is said exactly if the load is above 1, whatever the budget.
 pub overload-exactly : (t : Table) (budget : ℕ) → (verdict t budget ≡ Verdict.Overload) ↔ (round t < load t)
@@ -147,10 +147,6 @@ idle-exactly t m well budget a p o =
     let (((pos, idle), least), soon) = passed-idle t r budget v _ in
     rw e (((pos, idle-iff (tieSystem t r) _ .0 idle), λ u l h. least u l (h .0, idle-iff (tieSystem t r) u .1 (h .1))), soon)
 
--- It does not depend on how ties are broken: in any order of the tasks it is the same.
-pub idle-any-order : (t : Table) (m : Measure) → judged t ≡ Judgement.WellFormed m → (rank rank′ : Order) → firstIdle t rank ≡ firstIdle t rank′
-idle-any-order t m well = first-any-order t (well-formed t m well .ranged)
-
 -- A worst response is at least 1 and at most the deadline.
 pub worst-by-deadline : (t : Table) (m : Measure) → judged t ≡ Judgement.WellFormed m → (budget : ℕ) (a : Answer) → Permitted t budget a → a .outcome ≡ Outcome.Tested Verdict.Passes → (i : ℕ) → i < t .count → (0 < getD (a .worst) i 0) × (getD (a .worst) i 0 ≤ task t i .deadline)
 worst-by-deadline t m well budget a p o i l =
@@ -175,8 +171,8 @@ pub longer-same-answer : (t : Table) (budget more : ℕ) (a b : Answer) → budg
 unfolding Permitted
 longer-same-answer t budget more a b l u p = permitted-unique t more a b (longer-judged t budget more a (judged t) l u p)
 
--- The run that the responses are taken from is document 01's: each slot goes to the released, unfinished job with the earliest
--- deadline, ties to the lower task number, and to none only if no such job is there.
+-- The run that the responses are taken from is document 01's, as T-06 amends it: each slot goes to the released, unfinished job with
+-- the earliest deadline, ties to the shorter period and then to the lower task number, and to none only if no such job is there.
 abbrev Waits : Table → ℕ → ℕ → ℕ → Type 0
 Waits t u i j = (i < t .count) × (release (task t i) j ≤ u) × (given (run t (tieOrder t)) i j 0 u < task t i .cost)
 
@@ -184,5 +180,5 @@ pub run-is-the-rule : (t : Table) (m : Measure) → judged t ≡ Judgement.WellF
     ((run t (tieOrder t) u ≡ none) × ((i j : ℕ) → Waits t u i j → ⊥))
     ⊎ ((i : ℕ) × (j : ℕ) × (run t (tieOrder t) u ≡ job i j) × Waits t u i j
     × ((k n : ℕ) → Waits t u k n → (due (task t i) j < due (task t k) n)
-    ⊎ ((due (task t i) j ≡ due (task t k) n) × ((tieOrder t i < tieOrder t k) ⊎ ((tieOrder t i ≡ tieOrder t k) × (i ≤ k))))))
+    ⊎ ((due (task t i) j ≡ due (task t k) n) × ((task t i .period < task t k .period) ⊎ ((task t i .period ≡ task t k .period) × (i ≤ k))))))
 run-is-the-rule t m well = run-rule (tieSystem t (well-formed t m well .ranged))

@@ -9,3 +9,4 @@ pub mod PlainText
 pub mod FileNumbers
 pub mod QuickTests
 pub mod DistanceTest
+pub mod Ties

@@ -1,4 +1,4 @@
--- Document 01's tables a to j, and the budgets that it names: one statement over a list of them, by one computed test and a law.
+-- Document 01's tables a to j, the budgets that it names, and document 02's table of the lamp: one statement over a list of them, by one computed test and a law.
 use mathlib.Core.Path.{_≡_, refl, subst}
 use mathlib.Core.List.{List, [], _∷_, map}
 use Prim.Native.Nat.{ℕ}
@@ -17,11 +17,11 @@ use Rattle.model.specs.Idle.{idleAt, firstIdle}
 use Rattle.model.specs.Verdict.{needed, lateStart, verdict, settledBy, brief, Permitted}
 use Rattle.model.specs.Dispatcher.{startOf, ownerNow, after}
 use Rattle.model.specs.History.{stateAt}
-use Rattle.model.specs.Examples.{table-a, table-b, table-c, table-d, table-e, table-f, table-g, table-h, table-i, table-j}
+use Rattle.model.specs.Examples.{table-a, table-b, table-c, table-d, table-e, table-f, table-g, table-h, table-i, table-j, table-lamp}
 use Rattle.backlog.specs.WalkWorst.{worstBy}
 use Rattle.backlog.specs.Computed.{answerOf, computed}
 
--- A table, a budget, and the answer that document 01 gives.
+-- A table, a budget, and the answer that the documents give.
 pub record Row : Type 0 where
   pub table : Table
   pub budget : ℕ
@@ -55,6 +55,7 @@ rows =
     ∷ row table-b 38 (passes (measured 15 11 38) (7 ∷ 2 ∷ replicate 14 0) 2)
     ∷ row table-c 14 (told Verdict.Undecided (measured 15 12 38) 14)
     ∷ row table-c 15 (told (Verdict.Late 8 15 8) (measured 15 12 38) 15)
+    ∷ row table-lamp 1000 (passes (measured 6 6 15) (6 ∷ 1 ∷ replicate 14 0) 5)
     ∷ []
 
 -- Every row's answer is the one permitted.
@@ -82,5 +83,5 @@ tables-answered = all-permitted rows rows-computed
 pub tables-said :
     map (λ r. outcomeSaid (r .answer .outcome)) rows
     ≡ (4 ∷ []) ∷ (4 ∷ []) ∷ (3 ∷ 8 ∷ 15 ∷ 8 ∷ []) ∷ (3 ∷ 0 ∷ 7 ∷ 9 ∷ []) ∷ (4 ∷ []) ∷ (3 ∷ 0 ∷ 1 ∷ 2 ∷ []) ∷ (4 ∷ []) ∷ (3 ∷ 4 ∷ 7 ∷ 4 ∷ []) ∷ (1 ∷ []) ∷ (4 ∷ [])
-    ∷ (2 ∷ []) ∷ (4 ∷ []) ∷ (2 ∷ []) ∷ (3 ∷ 8 ∷ 15 ∷ 8 ∷ []) ∷ []
+    ∷ (2 ∷ []) ∷ (4 ∷ []) ∷ (2 ∷ []) ∷ (3 ∷ 8 ∷ 15 ∷ 8 ∷ []) ∷ (4 ∷ []) ∷ []
 tables-said = refl

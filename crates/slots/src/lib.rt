@@ -8,6 +8,7 @@ ghost use Rattle.model.specs.Limits.{taskLimit};
 ghost use Rattle.model.specs.Notation.{bit, bits};
 ghost use Rattle.model.specs.Run.{tieOrder};
 ghost use Rattle.model.specs.Dispatcher.{startOf};
+ghost use Rattle.wellformed.specs.Ranges.{Ranged};
 ghost use Rattle.slots.specs.Columns.{columnsOf};
 ghost use Rattle.slots.specs.Choice.{ranks, keyOf};
 ghost use Rattle.slots.specs.Serve.{Served};
@@ -39,7 +40,7 @@ pub struct Columns {
 }
 
 pub fn unpack(t: Table) -> Columns
-    requires { ⌜ t .count ≤ taskLimit ⌝ }
+    requires { ⌜ Ranged t ⌝ }
     ensures { λ r. ⌜ r ≡ columnsOf t ⌝ }
 {
     let n = t.count;
@@ -75,12 +76,12 @@ pub fn offsets(t: Table) -> Numbers
     wait
 }
 
-// Of two tasks that tie, the one of lower rank goes first.
+// Of two tasks that tie, the one of lower rank goes first, and of one rank the lower number.
 fn rank_of(t: Table, i: usize) -> u16
-    requires { ⌜ i < taskLimit ⌝ }
+    requires { ⌜ Ranged t × (i < t .count) ⌝ }
     ensures { λ r. ⌜ r ≡ tieOrder t i ⌝ }
 {
-    i as u16
+    t.tasks[i].period as u16
 }
 
 // The difference, or 0.

@@ -34,7 +34,7 @@ abbrev home : tie.After-serve Inv-loop μ-loop → tie.At-loop Inv-loop μ-loop
 home c = c .before .before .before .before .before .before .before
 
 unpack-requires : tie.Need-unpack-requires Inv-loop μ-loop
-unpack-requires c κs = c .pre .0 .few
+unpack-requires c κs = c .pre .0
 
 offsets-requires : tie.Need-offsets-requires Inv-loop μ-loop
 offsets-requires c κs = c .before .before .before .before .before .pre .0 .few

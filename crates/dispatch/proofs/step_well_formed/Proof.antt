@@ -34,7 +34,7 @@ returns-2 c = let l = c .before .before in
 step-taken-requires : tie.Need-step-taken-requires
 step-taken-requires c κs = let l = c .before in
     let s = l .before .before .before in
-    record { few = s .before .pre; ran = one-of-iff (s .before .args .d .last) taskLimit (s .before .args .t .count) .0 (sym (l .last-strange .ensures) ∙ c .if2 .left) }
+    record { ranged = s .before .pre; ran = one-of-iff (s .before .args .d .last) taskLimit (s .before .args .t .count) .0 (sym (l .last-strange .ensures) ∙ c .if2 .left) }
 
 returns-3 : tie.Need-returns-3
 returns-3 c = let l = c .before .before in

@@ -66,7 +66,7 @@ smaller-requires : tie.Need-smaller-requires Inv-loop μ-loop Inv-search μ-sear
 smaller-requires c κs = search needs
 
 unpack-requires : tie.Need-unpack-requires Inv-loop μ-loop Inv-search μ-search
-unpack-requires c κs = well-formed _ _ (c .before .pre .0) .ranged .few
+unpack-requires c κs = well-formed _ _ (c .before .pre .0) .ranged
 
 offsets-requires : tie.Need-offsets-requires Inv-loop μ-loop Inv-search μ-search
 offsets-requires c κs = well-formed _ _ (c .before .before .before .before .before .before .pre .0) .ranged .few

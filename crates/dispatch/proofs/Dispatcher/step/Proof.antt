@@ -19,7 +19,7 @@ enum-told : tie.Need-enum-told
 enum-told c = search needs
 
 step-well-formed-requires : tie.Need-step-well-formed-requires
-step-well-formed-requires c κs = well-formed _ _ (sym (c .before .before .judge .ensures) ∙ c .enum-told .given .1) .ranged .few
+step-well-formed-requires c κs = well-formed _ _ (sym (c .before .before .judge .ensures) ∙ c .enum-told .given .1) .ranged
 
 returns : tie.Need-returns
 unfolding stepped
