@@ -24,7 +24,7 @@ use Rattle.patterns.specs.Quick.{simultaneous-ranged}
 use Rattle.patterns.specs.DistancePass.{pattern-ranged}
 use Rattle.promises.specs.Demand2.{passes-exactly, run-is-good}
 
--- In two orders of a table's tasks: whether a run is good, whether it has missed a deadline by u, whether u is idle, and the first such instant after 0.
+-- Alike in two orders of a table's tasks: whether the run is good, whether it has missed a deadline by u, whether u is idle, and the first idle instant.
 pub record Alike (t : Table) (rank other : Order) : Type 0 where
   pub good : Good t (run t rank) → Good t (run t other)
   pub missed : (u : ℕ) → missedAt t rank u ≡ missedAt t other u
