@@ -124,7 +124,7 @@ pub fn steps(bench: &mut Bench) {
     steps_are(bench, G, &[(0, 0, none), (1, 1, none), (0, 1, none), (0, NONE, none), (0, 0, none)]);
     steps_are(bench, F, &[(0, 0, none), (0, NONE, [2, 1, 1])]);
     steps_are(bench, LAMP, &[(0, 0, none), (0, 0, none), (0, 0, none), (0, 1, none), (0, 0, none), (0, NONE, none)]);
-    bench.end_group("document 01's dispatcher");
+    bench.end_group("the documents' dispatcher");
 }
 
 /// Files that are refused, with number and place.

@@ -2,7 +2,7 @@
 use Rattle.model.specs.Notation.{Bool, cond, not, _&&_, ℕ, suc, _-_, _%_, ℤ, pos, negsuc, _-ℤ_, leb, eqb, every, last, fill}
 use Rattle.model.specs.Values.{Task, Table, Judgement, QuickAnswer, DistanceAnswer}
 use Rattle.model.specs.Tasks.{task, round, load, judged}
-use Rattle.model.specs.Run.{tieOrder}
+use Rattle.model.specs.Run.{Order, tieOrder}
 use Rattle.model.specs.Idle.{firstIdle, missedAt}
 
 -- The table with the offset of each task i replaced by `start i`.
@@ -17,9 +17,12 @@ startingAt t start =
 abbrev pub light : Table → Bool
 light t = leb (load t) (round t)
 
--- The run misses no deadline up to its first idle instant after 0.
+-- The run, in an order of the tasks, misses no deadline up to its first idle instant after 0; and so in ours.
+abbrev pub calmBy : Order → Table → Bool
+calmBy rank t = every (λ u. not (missedAt t rank u)) (suc (firstIdle t rank))
+
 unfoldable pub calm : Table → Bool
-calm t = every (λ u. not (missedAt t (tieOrder t) u)) (suc (firstIdle t (tieOrder t)))
+calm t = calmBy (tieOrder t) t
 
 -- All tasks start at 0.
 abbrev pub simultaneous : Table → Table

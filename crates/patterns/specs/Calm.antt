@@ -8,13 +8,12 @@ use native.Mathlib.Omega.{arith}
 use lib.Dec.{T, eqb}
 use Rattle.values.specs.declared.Task.{Task}
 use Rattle.values.specs.declared.Table.{Table}
-use Rattle.model.specs.Notation.{every}
 use Rattle.model.specs.Limits.{slotLimit}
 use Rattle.model.specs.Tasks.{task, release, round, load}
 use Rattle.model.specs.Demand.{lateAt}
 use Rattle.model.specs.Run.{Order, tieOrder}
 use Rattle.model.specs.Idle.{firstIdle, missedAt}
-use Rattle.model.specs.Patterns.{startingAt, calm}
+use Rattle.model.specs.Patterns.{startingAt, calmBy, calm}
 use Rattle.counting.specs.Count.{every-iff, count-eq}
 use Rattle.counting.specs.Below.{below}
 use Rattle.wellformed.specs.Ranges.{Ranged}
@@ -46,7 +45,7 @@ calm-iff t r = (
 )
 
 -- It is calm in any other order of its tasks too, or in none.
-pub calm-any-order : (t : Table) (r : Ranged t) (rank : Order) → calm t ≡ every (λ u. not (missedAt t rank u)) (suc (firstIdle t rank))
+pub calm-any-order : (t : Table) (r : Ranged t) (rank : Order) → calm t ≡ calmBy rank t
 unfolding calm
 calm-any-order t r rank = rw (first-any-order t r rank (tieOrder t)) (ap (λ (n : ℕ). eqb n (suc (firstIdle t (tieOrder t)))) (count-eq _ _ (suc (firstIdle t (tieOrder t))) (λ u l. ap not (missed-any-order t r (tieOrder t) rank u))))
 

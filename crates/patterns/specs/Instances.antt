@@ -1,12 +1,12 @@
 -- NO THEOREM OF THIS CRATE IS EMPTY: tables b, d and g meet what they ask for.
 use mathlib.Core.Path.{_≡_, refl}
-use mathlib.Core.Bool.{false, not}
-use Prim.Native.Nat.{ℕ, suc, _+_, _-_, _≤_, _<_}
+use mathlib.Core.Bool.{false}
+use Prim.Native.Nat.{ℕ, _+_, _-_, _≤_, _<_}
 use native.Mathlib.Omega.{arith}
 use lib.Dec.{T, lit≤, lit<}
 use Rattle.values.specs.declared.Judgement.{Judgement}
 use Rattle.values.specs.declared.Verdict.{Verdict}
-use Rattle.model.specs.Notation.{sum, largest, count, every, first, last, fill, Least}
+use Rattle.model.specs.Notation.{sum, largest, count, first, last, fill, Least}
 use Rattle.model.specs.Tasks.{release, taskFault, firstFaulty, round, load, horizon, judged}
 use Rattle.model.specs.Demand.{jobsIn, demand, lateAt}
 use Rattle.model.specs.Run.{Order, tieOrder, choose, ownerOf, served}
@@ -14,7 +14,7 @@ use Rattle.model.specs.Verdict.{needed, verdict}
 use Rattle.model.specs.Dispatcher.{startOf, after, ownerNow}
 use Rattle.model.specs.History.{stateAt}
 use Rattle.model.specs.Idle.{idleAt, firstIdle, missedAt}
-use Rattle.model.specs.Patterns.{startingAt, calm, simultaneous, quickPass, commonDivisor, distance, distancePass}
+use Rattle.model.specs.Patterns.{startingAt, calmBy, calm, simultaneous, quickPass, commonDivisor, distance, distancePass}
 use Rattle.model.specs.Examples.{of, table-b, table-d, table-g}
 use Rattle.counting.specs.Search.{first-before}
 use Rattle.wellformed.specs.Ranges.{Ranged}
@@ -86,7 +86,7 @@ unfolding round load first sum count stateAt startOf after ownerNow choose fill
 g-walk-calm = walk-calm table-g g-ranged (lit≤ tt) 4 (lit< tt) (g-clear 4) tt
 
 -- And so it is by the run of any order.
-g-calm-by : (rank : Order) → T (every (λ u. not (missedAt table-g rank u)) (suc (firstIdle table-g rank)))
+g-calm-by : (rank : Order) → T (calmBy rank table-g)
 g-calm-by rank = rw (← calm-any-order table-g g-ranged rank) g-walk-calm
 
 -- Table b does not pass quickly: with all offsets 0 it is well-formed, and is table d, which has no good schedule.

@@ -1,8 +1,9 @@
 -- TIES, T-06 of document 02: how they go alters the run, the worst responses and the dispatcher, and nothing else. `verdict` with its
--- interval, `settledBy` and the measures take no order of the tasks at all; of what is told of a run, any two orders say the same.
+-- interval, `settledBy` and the measures take no order of the tasks at all; of what else is told of a run, any two orders say the same.
 use mathlib.Core.Path.{_≡_, ap}
-use mathlib.Core.Bool.{Bool, not, _&&_}
-use Prim.Native.Nat.{ℕ, suc}
+use mathlib.Core.Logic.{_↔_}
+use mathlib.Core.Bool.{Bool, _&&_}
+use Prim.Native.Nat.{ℕ}
 use native.Mathlib.Nat.{le-refl}
 use lib.Dec.{eqb}
 use Rattle.values.specs.declared.Table.{Table}
@@ -13,7 +14,7 @@ use Rattle.model.specs.Tasks.{horizon, judged}
 use Rattle.model.specs.Schedule.{Good}
 use Rattle.model.specs.Run.{Order, run}
 use Rattle.model.specs.Idle.{idleAt, firstIdle, missedAt}
-use Rattle.model.specs.Patterns.{light, simultaneous, quickPass, pattern, distancePass}
+use Rattle.model.specs.Patterns.{calmBy, light, simultaneous, quickPass, pattern, distancePass}
 use Rattle.counting.specs.Count.{count-eq}
 use Rattle.wellformed.specs.WellFormed.{well-formed}
 use Rattle.patterns.specs.IdleInstants.{idle-any-order}
@@ -26,21 +27,20 @@ use Rattle.promises.specs.Demand2.{passes-exactly, run-is-good}
 
 -- Alike in two orders of a table's tasks: whether the run is good, whether it has missed a deadline by u, whether u is idle, and the first idle instant.
 pub record Alike (t : Table) (rank other : Order) : Type 0 where
-  pub good : Good t (run t rank) → Good t (run t other)
+  pub good : Good t (run t rank) ↔ Good t (run t other)
   pub missed : (u : ℕ) → missedAt t rank u ≡ missedAt t other u
   pub idle : (u : ℕ) → idleAt t rank u ≡ idleAt t other u
   pub first-idle : firstIdle t rank ≡ firstIdle t other
 
--- Calm by the run of an order of the tasks: it misses no deadline up to its first idle instant after 0.
-abbrev pub calmBy : Order → Table → Bool
-calmBy rank t = every (λ u. not (missedAt t rank u)) (suc (firstIdle t rank))
-
 module _ (t : Table) (m : Measure) (well : judged t ≡ Judgement.WellFormed m) where
+  good-any-order : (rank other : Order) → Good t (run t rank) → Good t (run t other)
+  good-any-order rank other g = run-is-good t m well (horizon t) (passes-exactly t m well (horizon t) (le-refl (horizon t)) .1 (run t rank, g)) other
+
   pub ties-alter-nothing-else : (rank other : Order) → Alike t rank other
   ties-alter-nothing-else rank other =
       let r = well-formed t m well .ranged in
       record {
-        good = λ g. run-is-good t m well (horizon t) (passes-exactly t m well (horizon t) (le-refl (horizon t)) .1 (run t rank, g)) other;
+        good = (good-any-order rank other, good-any-order other rank);
         missed = missed-any-order t r rank other;
         idle = idle-any-order t r rank other;
         first-idle = first-any-order t r rank other;
