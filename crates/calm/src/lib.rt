@@ -7,7 +7,7 @@ ghost use Rattle.model.specs.Patterns.{startingAt, calm};
 ghost use Rattle.slots.specs.Slot.{at};
 ghost use Rattle.wellformed.specs.Ranges.{Ranged};
 use slots::Numbers;
-use values::TASK_LIMIT;
+use values::ROUND_LIMIT;
 use values::Table;
 use values::Task;
 
@@ -41,23 +41,7 @@ pub fn is_calm(t: Table) -> bool
     requires { ⌜ round t ≤ roundLimit ⌝ }
     ensures { λ r. ⌜ r ≡ calm t ⌝ }
 {
-    let columns = slots::unpack(t);
-    let period = columns.period;
-    let cost = columns.cost;
-    let slack = columns.slack;
-    let rank = columns.rank;
-    let mut wait = slots::offsets(t);
-    let mut left = [0u32; TASK_LIMIT];
-    // Counted for the proof alone: the walk ends within H.
-    let mut at: u64 = 0;
-    loop {
-        let seen = slots::serve(&mut wait, &mut left, &period, &cost, &slack, &rank, t.count);
-        if seen.late {
-            return false;
-        }
-        at = at + 1;
-        if slots::none_left(&left, t.count) {
-            return true;
-        }
-    }
+    let reached = leaps::walk(t, ROUND_LIMIT, true);
+    let here = reached.here;
+    0 < here.idle
 }

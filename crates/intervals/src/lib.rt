@@ -22,7 +22,7 @@ fn to_u64(x: u32) -> u64
 }
 
 // The jobs of a task inside an interval: those due by its end, less those released before its start.
-fn jobs_in(k: Task, from: u64, to: u64) -> u64
+pub fn jobs_in(k: Task, from: u64, to: u64) -> u64
     requires { ⌜ InRange k ⌝ }
     requires { ⌜ (from ≤ to) × (to ≤ horizonLimit) ⌝ }
     ensures { λ r. ⌜ r ≡ jobsIn k from to ⌝ }

@@ -10,13 +10,10 @@ use Rattle.model.specs.Notation.{sum, largest, count, first, last, fill, Least}
 use Rattle.model.specs.Tasks.{release, taskFault, firstFaulty, round, load, horizon, judged}
 use Rattle.model.specs.Demand.{jobsIn, demand, lateAt}
 use Rattle.model.specs.Run.{Order, tieOrder, choose, ownerOf, served}
-use Rattle.model.specs.Verdict.{needed, verdict}
-use Rattle.model.specs.Dispatcher.{startOf, after, ownerNow}
-use Rattle.model.specs.History.{stateAt}
+use Rattle.model.specs.Verdict.{verdict}
 use Rattle.model.specs.Idle.{idleAt, firstIdle, missedAt}
 use Rattle.model.specs.Patterns.{startingAt, calmBy, calm, simultaneous, quickPass, commonDivisor, distance, distancePass}
 use Rattle.model.specs.Examples.{of, table-b, table-d, table-g}
-use Rattle.counting.specs.Search.{first-before}
 use Rattle.wellformed.specs.Ranges.{Ranged}
 use Rattle.wellformed.specs.WellFormed.{well-formed}
 use Rattle.backlog.specs.System.{System, jobs, dues}
@@ -25,14 +22,13 @@ use Rattle.backlog.specs.TooMuch.{never-iff}
 use Rattle.backlog.specs.ModelRun.{servedOf, model-run}
 use Rattle.backlog.specs.Criterion.{late-iff-over}
 use Rattle.backlog.specs.EveryInstant.{over-iff}
-use Rattle.backlog.specs.Needed.{none-before}
 use Rattle.backlog.specs.Feasible.{Feasible}
 use Rattle.backlog.specs.Walk.{Clear}
 use Rattle.patterns.specs.IdleInstants.{CaughtUp, idle-iff}
 use Rattle.patterns.specs.FirstIdle.{first-idle, passed-idle, first-any-order}
 use Rattle.patterns.specs.WalkIdle.{noneLeft, walk-idle-at}
-use Rattle.patterns.specs.Calm.{calm-any-order}
-use Rattle.patterns.specs.WalkCalm.{walk-calm, walk-not-calm}
+use Rattle.patterns.specs.Calm.{calm-iff, calm-any-order}
+use Rattle.patterns.specs.WalkCalm.{walk-calm}
 use Rattle.patterns.specs.Pulled.{pulled-late}
 use Rattle.patterns.specs.Missed.{missed-late}
 use Rattle.patterns.specs.Starting.{starting-well-formed}
@@ -82,8 +78,8 @@ g-walk-idle : noneLeft table-g 4 ≡ idleAt table-g (tieOrder table-g) 4
 g-walk-idle = walk-idle-at table-g g-ranged 4 (g-clear 4)
 
 g-walk-calm : T (calm table-g)
-unfolding round load first sum count stateAt startOf after ownerNow choose fill
-g-walk-calm = walk-calm table-g g-ranged (lit≤ tt) 4 (lit< tt) (g-clear 4) tt
+unfolding firstIdle idleAt first round load sum count served ownerOf choose
+g-walk-calm = walk-calm table-g g-ranged (lit≤ tt) 4 (g-clear 4) (lit≤ tt)
 
 -- And so it is by the run of any order.
 g-calm-by : (rank : Order) → T (calmBy rank table-g)
@@ -122,18 +118,14 @@ b-least = distance-le (of 8 5 7 15) (of 0 2 2 5) (lit< tt) 0 2 (lit≤ tt)
 b-attained : (j : ℕ) × (m : ℕ) × (release (of 0 2 2 5) m ≡ release (of 8 5 7 15) j + distance (of 8 5 7 15) (of 0 2 2 5))
 b-attained = distance-attained (of 8 5 7 15) (of 0 2 2 5) (lit< tt) (lit< tt)
 
--- Table d is late first at 7, before a walk of it has nothing left, and so is not calm.
+-- Table d is late at 7, before its first idle instant, and so is not calm.
 d-ranged : Ranged table-d
 unfolding judged firstFaulty taskFault first round load horizon largest sum count
 d-ranged = well-formed table-d (record { round = 15; load = 11; horizon = 30 }) refl .ranged
 
-d-clear : Clear table-d 7
-unfolding needed lateAt first round horizon largest sum count demand jobsIn
-d-clear u l = none-before table-d u l
-
 d-not-calm : T (calm table-d) → ⊥
-unfolding lateAt first round load sum count demand jobsIn stateAt startOf after ownerNow choose fill
-d-not-calm = walk-not-calm table-d d-ranged (lit≤ tt) 7 d-clear (λ n a b. first-before (noneLeft table-d) 1 6 n a (omega arith)) tt
+unfolding lateAt firstIdle idleAt first round load sum count demand jobsIn served ownerOf choose
+d-not-calm h = calm-iff table-d d-ranged .0 h 7 (lit≤ tt) tt
 
 -- Its run has missed that deadline by then.
 d-missed : T (missedAt table-d (tieOrder table-d) 7)

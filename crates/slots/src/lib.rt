@@ -77,7 +77,7 @@ pub fn offsets(t: Table) -> Numbers
 }
 
 // Of two tasks that tie, the one of lower rank goes first, and of one rank the lower number.
-fn rank_of(t: Table, i: usize) -> u16
+pub fn rank_of(t: Table, i: usize) -> u16
     requires { ⌜ Ranged t × (i < t .count) ⌝ }
     ensures { λ r. ⌜ r ≡ tieOrder t i ⌝ }
 {

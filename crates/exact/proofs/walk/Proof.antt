@@ -14,7 +14,8 @@ use Rattle.wellformed.specs.WellFormed.{WellFormed, well-formed}
 use Rattle.backlog.specs.TooMuch.{late-at-iff, too-much-iff}
 use Rattle.intervals.specs.Starts.{demand-none, none-between}
 use Rattle.walks.specs.Walked.{Setting, setting, one-found, none-found}
-use Rattle.exact.specs.Walking.{Walking, walking-start, walking-next, permitted-quiet, permitted-late}
+use Rattle.answers.specs.Answers.{permitted-quiet, permitted-late}
+use Rattle.exact.specs.Walking.{Walking, walking-start, walking-next}
 use Rattle.exact.proofs.walk.Statement.{statement}
 use Rattle.exact.proofs.walk.Tie as tie
 
@@ -177,8 +178,8 @@ returns c =
     let f = facts a in
     let seen = c .before .before .before .serve .ensures in
     rw (c .conclude .ensures) (elim (c .before .if1 .came) [
-      | inl (if1, if2, from, asked) ↦ rw (asked, i .2) (permitted-quiet (s .args .t) (s .args .m) (s .args .budget) (s .pre .0) (s .pre .1) (i .3) (c .before .if1 .from) (none-found (f .ranged) (i .0 .0) (i .3 .walk) seen (not-late (if1 .taken))) (if2 .taken ∙ i .0 .1))
-      | inr (if1, loop, test, start, asks, if3, from, asked) ↦ rw (from, asked) (permitted-late (s .args .t) (s .args .m) (s .args .budget) (s .pre .0) (s .pre .1) (i .3) _ _ (omega (arith, i .0 .1)) (one-found (f .ranged) (i .0 .0) (i .3 .walk) seen (is-late (if1 .left))) (omega (arith, loop .inv .0, start .ensures .0 (test .taken))) (asks .ensures) (if3 .taken) (none-between (s .args .t) (f .ranged) (light a) (loop .inv .0) (omega (arith, loop .inv .1, loop .inv .2)) (start .ensures .1) (loop .inv .3)))
+      | inl (if1, if2, from, asked) ↦ rw (asked, i .2) (permitted-quiet (s .args .t) (s .args .m) (s .args .budget) (s .pre .0) (s .pre .1) (i .3 .tally) (c .before .if1 .from) (none-found (f .ranged) (i .0 .0) (i .3 .walk) seen (not-late (if1 .taken))) (if2 .taken ∙ i .0 .1))
+      | inr (if1, loop, test, start, asks, if3, from, asked) ↦ rw (from, asked) (permitted-late (s .args .t) (s .args .m) (s .args .budget) (s .pre .0) (s .pre .1) (i .3 .tally) _ _ (omega (arith, i .0 .1)) (i .3 .walk .clear) (one-found (f .ranged) (i .0 .0) (i .3 .walk) seen (is-late (if1 .left))) (omega (arith, loop .inv .0, start .ensures .0 (test .taken))) (asks .ensures) (if3 .taken) (none-between (s .args .t) (f .ranged) (light a) (loop .inv .0) (omega (arith, loop .inv .1, loop .inv .2)) (start .ensures .1) (loop .inv .3)))
     ])
 
 pub walk-spec : {M : Type 1} → statement M

@@ -2,8 +2,8 @@
 use native.Mathlib.Omega.{arith}
 use borrow.Author.Tests.{lt-ltb, le-ltb}
 use borrow.Author.Needs.{needs}
-use Rattle.exact.proofs.conclude.Statement.{statement}
-use Rattle.exact.proofs.conclude.Tie as tie
+use Rattle.answers.proofs.conclude.Statement.{statement}
+use Rattle.answers.proofs.conclude.Tie as tie
 
 brief-requires : tie.Need-brief-requires
 brief-requires c κs = search needs

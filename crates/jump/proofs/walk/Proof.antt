@@ -1,0 +1,80 @@
+-- What is said where the walk was late, and where it was not.
+use mathlib.Core.Path.{sym, subst, _∙_}
+use mathlib.Core.Logic.{inl, inr}
+use Prim.Native.Nat.{_≤_}
+use native.Mathlib.Omega.{arith}
+use lib.Dec.{T}
+use borrow.Author.Needs.{needs}
+use Rattle.wellformed.specs.WellFormed.{horizonLimit, WellFormed, well-formed}
+use Rattle.leaps.specs.Columns.{marked}
+use Rattle.answers.specs.Answers.{permitted-quiet, permitted-late}
+use Rattle.jump.proofs.walk.Statement.{statement}
+use Rattle.jump.proofs.walk.Tie as tie
+
+-- What is known of the table, and of where the walk was over.
+facts : (c : tie.After-walk) → let s = c .before .before in WellFormed (s .args .t) (s .args .m)
+facts c = well-formed _ _ (c .before .before .pre .0)
+
+time-le : (c : tie.After-walk) → c .walk .result .here .time ≤ horizonLimit
+time-le c = omega (arith, c .walk .ensures .upto, c .before .smaller .ensures, facts c .horizon-is, facts c .horizon-le)
+
+smaller-requires : tie.Need-smaller-requires
+smaller-requires c κs = search needs
+
+walk-requires : tie.Need-walk-requires
+walk-requires c κs =
+    let f = well-formed _ _ (c .before .pre .0) in
+    (f .ranged, (omega (arith, c .before .pre .1, f .load-is, f .round-is), omega (arith, c .smaller .ensures, f .horizon-is, f .horizon-le)))
+
+unpack-requires : tie.Need-unpack-requires
+unpack-requires c κs = facts (c .before .before .before) .ranged
+
+start-requires : tie.Need-start-requires
+start-requires c κs =
+    let u = c .before .before in
+    let w = u .before .before .before .before in
+    let r = facts w .ranged in
+    (r, (marked _ (r .few) (u .unpack .ensures), (time-le w, w .walk .ensures .late (u .before .if1 .taken))))
+
+demand-requires : tie.Need-demand-requires
+demand-requires c κs = let w = c .before .before .before .before .before .before .before in (facts w .ranged, (omega (arith, c .start .ensures .0), time-le w))
+
+conclude-requires : tie.Need-conclude-requires
+conclude-requires c κs = search needs
+
+returns : tie.Need-returns
+returns c =
+    let k = c .before .before in
+    let l = k .before .before .before .before in
+    let w = l .before .before .before in
+    let x = w .walk .ensures in
+    let s = w .before .before in
+    let (less, much, none) = k .start .ensures in
+    rw (c .conclude .ensures) (permitted-late (s .args .t) (s .args .m) (s .args .budget) (s .pre .0) (s .pre .1) (x .tally) _ _ (omega (arith, x .upto, w .before .smaller .ensures)) (x .clear) (x .late (l .if1 .taken)) less (c .before .demand .ensures) (omega (arith, much, c .before .demand .ensures)) none)
+
+conclude-requires-2 : tie.Need-conclude-requires-2
+conclude-requires-2 c κs = search needs
+
+returns-2 : tie.Need-returns-2
+returns-2 c =
+    let w = c .before .before .before .before in
+    let x = w .walk .ensures in
+    let s = w .before .before in
+    rw (c .conclude2 .ensures) (elim (x .ends (c .before .if1 .left)) [
+      | inl (ends, clear) ↦ permitted-quiet (s .args .t) (s .args .m) (s .args .budget) (s .pre .0) (s .pre .1) (x .tally) 0 clear (ends ∙ w .before .smaller .ensures)
+      | inr (asked, idle) ↦ absurd (subst T (sym asked) tt)
+    ])
+
+pub walk-spec : {M : Type 1} → statement M
+walk-spec =
+    tie.close
+    (tie.spec
+    smaller-requires
+    walk-requires
+    unpack-requires
+    start-requires
+    demand-requires
+    conclude-requires
+    returns
+    conclude-requires-2
+    returns-2)

@@ -1,0 +1,2 @@
+-- The search of the exact test by leaps.
+pub mod Start

@@ -1,0 +1,121 @@
+// The exact test by leaps: from one release or finish to the next, and at the first late deadline a search for the largest start.
+ghost use mathlib.Core.Path.{_≡_};
+ghost use Prim.Native.Nat.{ℕ, _-_, _≤_, _<_};
+ghost use lib.Dec.{T};
+ghost use Rattle.values.specs.declared.Judgement.{Judgement};
+ghost use Rattle.model.specs.Tasks.{judged};
+ghost use Rattle.model.specs.Demand.{demand, asksTooMuch, lateAt};
+ghost use Rattle.model.specs.Verdict.{Permitted};
+ghost use Rattle.wellformed.specs.Ranges.{Ranged};
+ghost use Rattle.wellformed.specs.WellFormed.{horizonLimit};
+ghost use Rattle.leaps.specs.Queue.{Queue};
+ghost use Rattle.leaps.specs.Columns.{Marked};
+ghost use Rattle.jump.specs.Start.{Last, dueBy};
+use leaps::Times;
+use values::Answer;
+use values::Judgement;
+use values::Measure;
+use values::TASK_LIMIT;
+use values::Table;
+
+// The jobs to be counted next in a search for a start: how far before the late deadline each is released.
+pub struct Lasts {
+    pub queue: Times,
+    pub jobs: usize,
+}
+
+// Of each task the last job that is due by then.
+fn last_jobs(t: Table, mark: &Times, to: u64) -> Lasts
+    requires { ⌜ Ranged t ⌝ }
+    requires { ⌜ Marked t (now mark) ⌝ }
+    requires { ⌜ to ≤ horizonLimit ⌝ }
+    ensures { λ r. ⌜ Queue (Last t to (t .count) (dueBy t to)) (r .queue) (r .jobs) ⌝ }
+{
+    let n = t.count;
+    let mut queue = [0u64; TASK_LIMIT];
+    let mut jobs: usize = 0;
+    for i in 0..n {
+        let task = t.tasks[i];
+        let due = intervals::jobs_in(task, 0, to);
+        if 0 < due {
+            let last = leaps::to_u64(task.offset) + (due - 1) * leaps::to_u64(task.period);
+            leaps::insert(&mut queue, jobs, leaps::entry(to - last, mark[i]));
+            jobs = jobs + 1;
+        }
+    }
+    Lasts { queue, jobs }
+}
+
+// The largest start from which the interval to a late deadline asks too much: from job to job, the latest release first.
+fn start(t: Table, mark: &Times, to: u64) -> u64
+    requires { ⌜ Ranged t ⌝ }
+    requires { ⌜ Marked t (now mark) ⌝ }
+    requires { ⌜ to ≤ horizonLimit ⌝ }
+    requires { ⌜ T (lateAt t to) ⌝ }
+    ensures { λ r. ⌜ (r < to) × (to - r < demand t r to) × ((later : ℕ) → r < later → later < to → T (asksTooMuch t later to) → ⊥) ⌝ }
+{
+    let lasts = last_jobs(t, mark, to);
+    let mut queue = lasts.queue;
+    let mut jobs = lasts.jobs;
+    let mut asked: u64 = 0;
+    let mut length: u64 = 0;
+    loop {
+        let key = queue[jobs - 1];
+        let i = leaps::task_of(key);
+        let task = t.tasks[i];
+        length = leaps::time_of(key);
+        asked = asked + leaps::to_u64(task.cost);
+        if length < asked {
+            break;
+        }
+        let longer = length + leaps::to_u64(task.period);
+        if longer + leaps::to_u64(task.offset) <= to {
+            leaps::insert(&mut queue, jobs - 1, leaps::entry(longer, mark[i]));
+        } else {
+            jobs = jobs - 1;
+        }
+    }
+    to - length
+}
+
+// To the end or to the first late deadline; there the largest start that asks too much is looked for.
+fn walk(t: Table, m: Measure, budget: u64) -> Answer
+    requires { ⌜ judged t ≡ Judgement.WellFormed m ⌝ }
+    requires { ⌜ m .load ≤ m .round ⌝ }
+    ensures { λ r. ⌜ Permitted t budget r ⌝ }
+{
+    let reached = leaps::walk(t, answers::smaller(budget, m.horizon), false);
+    let here = reached.here;
+    let worst = reached.worst;
+    let at = here.time;
+    if here.late {
+        let columns = leaps::unpack(t);
+        let mark = columns.mark;
+        let from = start(t, &mark, at);
+        return answers::conclude(
+            m,
+            from,
+            intervals::demand(t, from, at),
+            at,
+            worst,
+            here.idle,
+        );
+    }
+    answers::conclude(m, 0, 0, at, worst, here.idle)
+}
+
+// The one permitted answer to any table and budget.
+pub fn test(t: Table, budget: u64) -> Answer
+    ensures { λ r. ⌜ Permitted t budget r ⌝ }
+{
+    match table::judge(t) {
+        Judgement::Refused(why) => answers::refuse(why),
+        Judgement::WellFormed(m) => {
+            if m.round < m.load {
+                answers::overload(m)
+            } else {
+                walk(t, m, budget)
+            }
+        }
+    }
+}
