@@ -1,18 +1,19 @@
 /*
  * Yolizadwa for C (from C99 on) and C++: judge a table of tasks, then give out time slot by slot.
  *
- * Eight calls, in the static library that `rt staticlib yolizadwa` writes for x86-64:
+ * Nine calls, in the static library that `rt staticlib yolizadwa` writes for x86-64:
  *
- *   yolizadwa_write       writes a table file from the numbers of its tasks
- *   yolizadwa_from_text   writes the table file of a table in plain text
- *   yolizadwa_to_text     writes the plain text of a table file
- *   yolizadwa_check       judges a table file and writes its report as text
- *   yolizadwa_quick       judges it in short, with all tasks started at once: pass, or no answer
- *   yolizadwa_distance    judges it in short, with its offsets: pass, overload, or no answer
- *   yolizadwa_start       makes the dispatcher's first state for a table file
- *   yolizadwa_step        gives out one slot and makes the next state
+ *   yolizadwa_write          writes a table file from the numbers of its tasks
+ *   yolizadwa_from_text      writes the table file of a table in plain text
+ *   yolizadwa_to_text        writes the plain text of a table file
+ *   yolizadwa_check          judges a table file and writes its report as text
+ *   yolizadwa_check_plainly  does the same slot by slot
+ *   yolizadwa_quick          judges it in short, with all tasks started at once: pass, or no answer
+ *   yolizadwa_distance       judges it in short, with its offsets: pass, overload, or no answer
+ *   yolizadwa_start          makes the dispatcher's first state for a table file
+ *   yolizadwa_step           gives out one slot and makes the next state
  *
- * What holds for all eight:
+ * What holds for all nine:
  *   - They keep nothing between calls, allocate nothing, and may run in several threads at once on different buffers.
  *   - Of the C library they need memcpy and memset alone. The host tests hold the stack of each call to 16 KiB.
  *   - A result below 65,536 is an answer. Any other is a refusal: 65,536 x number + place. A refusal changes no byte.
@@ -167,6 +168,13 @@ uint64_t yolizadwa_to_text(const uint8_t *file, size_t file_len, uint8_t *text, 
  * Refusals: 30; 20 to 26; 1 and 3 to 7.
  */
 uint64_t yolizadwa_check(const uint8_t *file, size_t file_len, uint8_t *report, size_t report_len);
+
+/*
+ * The same check by the plain engine, which walks slot by slot where yolizadwa_check leaps from one release or finish to the
+ * next. For every file and report buffer the two return the same number and leave the same bytes: that is proved, so this call
+ * is there for comparison alone.
+ */
+uint64_t yolizadwa_check_plainly(const uint8_t *file, size_t file_len, uint8_t *report, size_t report_len);
 
 /*
  * The quick test: lets all tasks start at 0, whatever their offsets, and looks at the slots up to the first instant after 0

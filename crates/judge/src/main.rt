@@ -46,7 +46,7 @@ fn judge(input: &[u8], output: &mut [u8]) -> usize
         Admission::Refused(why) => report::write_refusal(output, why),
         Admission::Admitted => {
             let table = loaded.table;
-            let answer = exact::test(table, loaded.budget);
+            let answer = jump::test(table, loaded.budget);
             let outcome = answer.outcome;
             let quick = quick::is_pass(quick::test(table));
             write_outcome(output, table.count, quick, answer, outcome)

@@ -9,4 +9,5 @@ pub mod PlainText
 pub mod FileNumbers
 pub mod QuickTests
 pub mod DistanceTest
+pub mod Engines
 pub mod Ties

@@ -6,6 +6,7 @@ ghost use Prim.Native.Nat.{_+_, _*_, _<_, _≤_, min};
 ghost use lib.Dec.{eqb};
 ghost use lib.ListN.{length};
 ghost use Rattle.model.specs.Limits.{taskLimit, reportBytes};
+ghost use Rattle.model.specs.Verdict.{Permitted};
 ghost use Rattle.model.specs.TableFile.{loadedFrom};
 ghost use Rattle.model.specs.Dispatcher.{started, stepped};
 ghost use Rattle.model.specs.Report.{quickNumber, quickExported, distanceNumber, distanceExported, Checked};
@@ -69,7 +70,18 @@ fn export_answer(answer: Answer, tasks: usize, quick: bool, buffer: &mut [u8]) -
     }
 }
 
-fn check_file(file: &[u8], buffer: &mut [u8]) -> u64
+// The permitted answer, by leaps or slot by slot.
+fn tested(t: Table, budget: u64, plainly: bool) -> Answer
+    ensures { λ r. ⌜ Permitted t budget r ⌝ }
+{
+    if plainly {
+        exact::test(t, budget)
+    } else {
+        jump::test(t, budget)
+    }
+}
+
+fn check_file(file: &[u8], buffer: &mut [u8], plainly: bool) -> u64
     requires { ⌜ reportBytes ≤ length (now buffer) ⌝ }
     ensures { λ r. ⌜ FileExported (now (buffer .entry)) (loadedFrom (now (file .entry))) (exported r (now (buffer .exit))) (loadedFrom (now (file .entry)) .admission) ⌝ }
 {
@@ -79,7 +91,7 @@ fn check_file(file: &[u8], buffer: &mut [u8]) -> u64
         Admission::Refused(why) => refused(why),
         Admission::Admitted => {
             let table = loaded.table;
-            let answer = exact::test(table, loaded.budget);
+            let answer = tested(table, loaded.budget, plainly);
             let quick = quick::is_pass(quick::test(table));
             export_answer(answer, table.count, quick, buffer)
         }
@@ -87,14 +99,28 @@ fn check_file(file: &[u8], buffer: &mut [u8]) -> u64
 }
 
 // Any file and any buffer: the buffer is looked at before the file.
-#[no_mangle]
-pub extern "C" fn yolizadwa_check(file: &[u8], report: &mut [u8]) -> u64
-    ensures { λ r. ⌜ Checked (now (file .entry)) (now (report .entry)) (record { number = r; buffer = now (report .exit) }) ⌝ }
+fn check(file: &[u8], report: &mut [u8], plainly: bool) -> u64
+    ensures { λ r. ⌜ Checked (now (file .entry)) (now (report .entry)) (exported r (now (report .exit))) ⌝ }
 {
     if report.len() < REPORT_BYTES {
         return refused_buffer(report.len());
     }
-    check_file(file, report)
+    check_file(file, report, plainly)
+}
+
+#[no_mangle]
+pub extern "C" fn yolizadwa_check(file: &[u8], report: &mut [u8]) -> u64
+    ensures { λ r. ⌜ Checked (now (file .entry)) (now (report .entry)) (record { number = r; buffer = now (report .exit) }) ⌝ }
+{
+    check(file, report, false)
+}
+
+// The same by the plain engine, slot by slot.
+#[no_mangle]
+pub extern "C" fn yolizadwa_check_plainly(file: &[u8], report: &mut [u8]) -> u64
+    ensures { λ r. ⌜ Checked (now (file .entry)) (now (report .entry)) (record { number = r; buffer = now (report .exit) }) ⌝ }
+{
+    check(file, report, true)
 }
 
 fn quick_number(answer: QuickAnswer) -> u64

@@ -17,11 +17,11 @@ refused-requires c κs = search needs
 enum-told : tie.Need-enum-told
 enum-told c = search needs
 
+tested-requires : tie.Need-tested-requires
+tested-requires c κs = search needs
+
 test-requires : tie.Need-test-requires
 test-requires c κs = search needs
-
-test-requires-2 : tie.Need-test-requires-2
-test-requires-2 c κs = search needs
 
 is-pass-requires : tie.Need-is-pass-requires
 is-pass-requires c κs = search needs
@@ -47,8 +47,8 @@ returns-2 c =
     let told = t .before .before in
     let loaded = told .before .before .load .ensures in
     let (m, well) = well-table _ loaded (told .enum-told .given .1) in
-    let passed = told-pass _ m well (p .before .test2 .ensures) (p .is-pass .ensures) in
-    rw (← loaded, told .enum-told .given .1) (_, t .test .ensures, rw passed at (e .export-answer .ensures))
+    let passed = told-pass _ m well (p .before .test .ensures) (p .is-pass .ensures) in
+    rw (← loaded, told .enum-told .given .1) (_, t .tested .ensures, rw passed at (e .export-answer .ensures))
 
 pub check-file-spec : {M : Type 1} → statement M
 check-file-spec =
@@ -58,8 +58,8 @@ check-file-spec =
     enum-known-admission
     refused-requires
     enum-told
+    tested-requires
     test-requires
-    test-requires-2
     is-pass-requires
     export-answer-requires
     returns

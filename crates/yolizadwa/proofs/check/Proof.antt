@@ -1,8 +1,8 @@
 -- The buffer's length decides first.
 use borrow.Author.Needs.{needs}
 use borrow.Author.Tests.{lt-ltb, le-ltb}
-use Rattle.yolizadwa.proofs.yolizadwa_check.Statement.{statement}
-use Rattle.yolizadwa.proofs.yolizadwa_check.Tie as tie
+use Rattle.yolizadwa.proofs.check.Statement.{statement}
+use Rattle.yolizadwa.proofs.check.Tie as tie
 
 refused-buffer-requires : tie.Need-refused-buffer-requires
 refused-buffer-requires c κs = search needs
@@ -21,6 +21,6 @@ returns-2 c =
     let e = c .before .before in
     rw (le-ltb _ _ (e .before .before .if1 .left)) (e .check-file .ensures)
 
-pub yolizadwa-check-spec : {M : Type 1} → statement M
-yolizadwa-check-spec =
+pub check-spec : {M : Type 1} → statement M
+check-spec =
     tie.close (tie.spec refused-buffer-requires returns check-file-requires same-length returns-2)
