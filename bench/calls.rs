@@ -12,14 +12,22 @@ pub struct Task {
 extern "C" {
     fn clock_gettime(clock: i32, time: *mut [i64; 2]) -> i32;
     fn yolizadwa_check(file: *const u8, file_len: usize, report: *mut u8, report_len: usize) -> u64;
+    fn yolizadwa_check_plainly(file: *const u8, file_len: usize, report: *mut u8, report_len: usize) -> u64;
     fn yolizadwa_quick(file: *const u8, file_len: usize) -> u64;
     fn yolizadwa_distance(file: *const u8, file_len: usize) -> u64;
     fn yolizadwa_start(file: *const u8, file_len: usize, state: *mut u8, state_len: usize) -> u64;
     fn yolizadwa_step(file: *const u8, file_len: usize, state: *mut u8, state_len: usize, done: u32) -> u64;
 }
 
+// Either engine: check leaps, check_plainly walks slot by slot.
+pub type Check = fn(&[u8], &mut [u8; 512]) -> u64;
+
 pub fn check(file: &[u8], report: &mut [u8; 512]) -> u64 {
     unsafe { yolizadwa_check(file.as_ptr(), file.len(), report.as_mut_ptr(), report.len()) }
+}
+
+pub fn check_plainly(file: &[u8], report: &mut [u8; 512]) -> u64 {
+    unsafe { yolizadwa_check_plainly(file.as_ptr(), file.len(), report.as_mut_ptr(), report.len()) }
 }
 
 pub fn quick(file: &[u8]) -> u64 {
@@ -39,6 +47,10 @@ pub fn step(file: &[u8], state: &mut [u8; 144], done: u32) -> u64 {
 }
 
 pub fn report_on(file: &[u8]) -> String {
+    report_by(check, file)
+}
+
+pub fn report_by(check: Check, file: &[u8]) -> String {
     let mut report = [0u8; 512];
     let length = check(file, &mut report);
     assert!(length < 65536, "refused {} at {}", length >> 16, length & 0xffff);

@@ -49,7 +49,7 @@ fn long_rounds() {
         assert_eq!(quick(&file), 0);
         let short = timed(1000, &mut || assert_eq!(distance(black_box(&file)), 1));
         let long = timed(1, &mut || assert!(passes(black_box(&tasks))));
-        println!("{:<6} {:>12} {:>12.7} {:>12.3} {:>14.0}", tasks.len(), round(&tasks), short / 1e9, long / 1e9, long / short);
+        println!("{:<6} {:>12} {:>12.7} {:>12.7} {:>14.0}", tasks.len(), round(&tasks), short / 1e9, long / 1e9, long / short);
     }
 }
 

@@ -16,6 +16,31 @@ pub struct Walk {
     pub idle: u64,
 }
 
+// The part of a report that a walk decides, as the walk would say it; of a late table's interval only the end.
+pub fn said_by(walk: &Walk, tasks: usize, at_horizon: bool) -> Vec<String> {
+    match walk.end {
+        End::Late(at) => vec!["verdict late".into(), format!("settled {at}"), format!("interval .. {at}")],
+        End::Reached(at) if !at_horizon => vec!["verdict undecided".into(), format!("settled {at}")],
+        End::Reached(at) => {
+            let mut lines = vec!["verdict passes".into(), format!("settled {at}")];
+            lines.extend((0..tasks).map(|i| format!("worst {i} {}", walk.worst[i])));
+            lines.push(format!("idle {}", walk.idle));
+            lines
+        }
+    }
+}
+
+pub fn said_by_report(report: &str) -> Vec<String> {
+    report
+        .lines()
+        .skip(4)
+        .map(|line| match line.split(' ').collect::<Vec<_>>()[..] {
+            ["interval", _, to, "demand", _] => format!("interval .. {to}"),
+            _ => line.to_string(),
+        })
+        .collect()
+}
+
 // Late jobs are looked for in the pass that makes the slot, as the proved walk does it.
 #[inline(never)]
 pub fn one_pass(tasks: &[Task], end: u64) -> Walk {

@@ -1,0 +1,83 @@
+// The tables that the programs are timed on. No program uses all of them.
+#![allow(dead_code)]
+
+use crate::calls::{task, Task};
+
+pub fn tables() -> Vec<(&'static str, Vec<Task>)> {
+    let long16 = [
+        (700, 2000, 60000), (0, 1500, 50000), (9, 3100, 48000), (55000, 900, 40000), (1, 2200, 37500), (12, 777, 30000),
+        (60000, 1900, 25000), (3, 1000, 24000), (5, 650, 20000), (8, 400, 18750), (31000, 1700, 16000), (44, 900, 15000),
+        (0, 333, 12500), (2, 1100, 12000), (17, 450, 10000), (4000, 800, 9600),
+    ];
+    let short16 = [
+        (0, 1, 18), (3, 1, 20), (1, 1, 21), (7, 1, 24), (0, 1, 28), (2, 1, 30), (9, 1, 35), (4, 2, 36), (0, 1, 40), (5, 2, 42),
+        (6, 2, 45), (8, 2, 56), (1, 2, 60), (2, 2, 63), (11, 3, 70), (0, 3, 72),
+    ];
+    let plain = |rows: &[(u32, u32, u32)]| rows.iter().map(|&(o, c, t)| task(o, c, t, t)).collect::<Vec<_>>();
+    vec![
+        ("1 task, period 60,000", vec![task(60000, 23456, 50000, 60000)]),
+        ("1 task, period 12", vec![task(60000, 5, 9, 12)]),
+        ("1 task, period 60,000, busy", vec![task(0, 58000, 59000, 60000)]),
+        ("4 tasks, periods 40,000 to 60,000", plain(&[(0, 15000, 60000), (20, 11000, 50000), (60000, 9000, 40000), (3, 14000, 48000)])),
+        ("4 tasks, periods 11 to 19", plain(&[(0, 3, 11), (5, 3, 13), (2, 4, 17), (9, 4, 19)])),
+        ("16 tasks, periods 9,600 to 60,000", plain(&long16)),
+        ("16 tasks, periods 18 to 72", plain(&short16)),
+    ]
+}
+
+// Late only after tens of thousands of slots or more, and the largest start that asks too much is the first release of all.
+pub fn late_tables() -> Vec<(&'static str, Vec<Task>)> {
+    let late16 = [
+        (66, 3000, 3000), (373, 3000, 3000), (729, 9600, 9600), (550, 12500, 12500), (2155, 50000, 50000), (399, 12500, 12500),
+        (807, 9375, 9375), (359, 18750, 18750), (1751, 3163, 50000), (245, 3750, 3750), (144, 5000, 5000), (112, 3750, 3750),
+        (3595, 24000, 24000), (339, 50000, 50000), (1141, 9375, 9375), (464, 4000, 4000),
+    ];
+    let late4 = [(12281, 40000, 40000), (1538, 9375, 9375), (14404, 21316, 40000), (540, 3200, 3200)];
+    let short16 = [
+        (1, 42, 42), (4, 21, 21), (4, 65, 65), (2, 72, 72), (6, 40, 40), (2, 66, 66), (5, 72, 72), (7, 112, 112), (5, 120, 120),
+        (6, 40, 40), (1, 110, 110), (2, 112, 112), (3, 91, 91), (3, 84, 84), (4, 99, 99), (1453, 25565, 25740),
+    ];
+    let at = |offset: u32, rows: &[(u32, u32, u32)]| rows.iter().map(|&(c, d, t)| task(offset, c, d, t)).collect::<Vec<_>>();
+    let mut dense: Vec<Task> = (0..15).map(|i| task(i, 1, 16, 16)).collect();
+    dense.push(task(0, 3750, 59759, 60000));
+    vec![
+        ("late, 4 tasks", at(500, &late4)),
+        ("late, 16 tasks, long periods", at(500, &late16)),
+        ("late, 16 tasks, short periods", at(500, &short16)),
+        ("late, 16 tasks, a release a slot", dense),
+    ]
+}
+
+// Made against the search: a release in nearly every slot, and never more than two slots to spare, so that none is passed over.
+pub fn worst_to_search() -> Vec<Task> {
+    let mut tasks: Vec<Task> = (1..15).map(|k| task((1 << (k - 1)) - 1, 1, 1, 1 << k)).collect();
+    tasks.push(task(0, 3, 49151, 49152));
+    tasks
+}
+
+// Short periods: one task in every slot, an event in every slot, a release in nearly every slot.
+pub fn crowded_tables() -> Vec<(&'static str, Vec<Task>)> {
+    let turns = (0..15).map(|i| task(i, 1, 16, 16)).chain([task(15, 3000, 48000, 48000)]).collect();
+    vec![
+        ("1 task, period 1, offset 60,000", vec![task(60000, 1, 1, 1)]),
+        ("2 tasks, an event every slot", vec![task(0, 1, 2, 2), task(0, 29999, 59998, 59998)]),
+        ("late, 15 tasks, a release a slot", worst_to_search()),
+        ("16 tasks, a release a slot", turns),
+    ]
+}
+
+// Few tasks and an H near its limit.
+pub fn long_round() -> Vec<Task> {
+    vec![task(60000, 20000, 50000, 60000), task(0, 20000, 55000, 59996)]
+}
+
+// Of document 01 those that pass within some slots: a, e, g, j and b.
+pub fn tiny_tables() -> Vec<(&'static str, Vec<Task>)> {
+    vec![
+        ("1 task, period 1", vec![task(0, 1, 1, 1)]),
+        ("2 tasks, period 2", vec![task(1, 1, 1, 2), task(0, 1, 1, 2)]),
+        ("2 tasks, period 4", vec![task(0, 2, 4, 4), task(0, 2, 4, 4)]),
+        ("1 task, period 2, offset 4", vec![task(4, 1, 1, 2)]),
+        ("2 tasks, periods 5 and 15", vec![task(8, 5, 7, 15), task(0, 2, 2, 5)]),
+    ]
+}
