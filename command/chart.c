@@ -45,7 +45,7 @@ static unsigned long usual_slots(const struct table *table)
     struct report report;
     overload(&full);
     replace_budget(&full, 1);
-    check_table(&full, &report);
+    check_table(&full, 0, &report);
     uint64_t horizon = report_number(&report, "\nhorizon ");
     return horizon < LEAST_USUAL ? LEAST_USUAL : horizon > MOST_USUAL ? MOST_USUAL : (unsigned long)horizon;
 }

@@ -21,6 +21,7 @@ struct request {
     const char *files[2];
     int all;
     int early;
+    int plainly;
     unsigned long slots; /* 0: as many as is usual */
 };
 
@@ -67,7 +68,7 @@ struct task task_at(const struct table *table, unsigned number);
 int say_refusal(FILE *to, const struct input *input, uint64_t result);
 
 /* Reports. */
-void check_table(const struct table *table, struct report *report);
+void check_table(const struct table *table, int plainly, struct report *report);
 uint64_t report_number(const struct report *report, const char *words);
 int report_verdict(const struct report *report, const char *verdict);
 
@@ -89,7 +90,7 @@ int show(const struct request *request);
 int run(const struct request *request);
 
 /* Around a call that may take long: a check of up to so many slots, or of none, and so many walks to an idle instant. */
-void begin_progress(const struct table *table, uint64_t budget, unsigned walks);
+void begin_progress(const struct table *table, uint64_t budget, unsigned walks, int plainly);
 void end_progress(void);
 
 /* Pages: NULL names the page of the command itself. 0 if there is no such page. */

@@ -8,7 +8,7 @@ int distance(const struct request *request)
     if (status != DONE) {
         return status;
     }
-    begin_progress(&table, 0, task_count(&table));
+    begin_progress(&table, 0, task_count(&table), 0);
     uint64_t answer = yolizadwa_distance(table.file, table.len);
     end_progress();
     if (answer == 2) {

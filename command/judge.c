@@ -162,8 +162,8 @@ int judge(const struct request *request)
     if (status != DONE) {
         return status;
     }
-    begin_progress(&table, budget_of(&table), 1);
-    check_table(&table, &report);
+    begin_progress(&table, budget_of(&table), 1, request->plainly);
+    check_table(&table, request->plainly, &report);
     end_progress();
     fputs(report.text, stdout);
     return explain(&table, &report, request->all);

@@ -25,7 +25,7 @@ struct word {
 };
 
 static const struct word words[] = {
-    {"judge", "judge FILE [--all]", 1, {"--all", NULL}, judge},
+    {"judge", "judge FILE [--all] [--plainly]", 1, {"--all", "--plainly"}, judge},
     {"quick", "quick FILE", 1, {NULL, NULL}, quick},
     {"distance", "distance FILE", 1, {NULL, NULL}, distance},
     {"run", "run FILE [--slots N] [--early]", 1, {"--slots", "--early"}, run},
@@ -79,6 +79,7 @@ static int take_option(const struct word *word, char **arguments, struct request
     if (strcmp(option, "--slots") != 0) {
         request->all |= strcmp(option, "--all") == 0;
         request->early |= strcmp(option, "--early") == 0;
+        request->plainly |= strcmp(option, "--plainly") == 0;
         return 1;
     }
     if (arguments[1] == NULL || !read_slots(arguments[1], &request->slots)) {
@@ -109,7 +110,7 @@ static int take(const struct word *word, char **arguments, struct request *reque
 
 static int do_word(const struct word *word, char **arguments)
 {
-    struct request request = {{NULL, NULL}, 0, 0, 0};
+    struct request request = {{NULL, NULL}, 0, 0, 0, 0};
     int files = 0;
     while (*arguments != NULL) {
         if (strcmp(*arguments, "--help") == 0) {

@@ -10,7 +10,7 @@ struct page {
 static const char usage[] =
     "yolizadwa judges tables of periodic tasks and shows who has each slot.\n"
     "\n"
-    "  yolizadwa judge FILE [--all]               whether every job is in time\n"
+    "  yolizadwa judge FILE [--all] [--plainly]   whether every job is in time\n"
     "  yolizadwa quick FILE                       an answer at once, or none\n"
     "  yolizadwa distance FILE                    an answer by the offsets, or none\n"
     "  yolizadwa run FILE [--slots N] [--early]   a chart of who has each slot\n"
@@ -31,13 +31,15 @@ static const char usage[] =
     "overload; 4: undecided, or no answer.\n";
 
 static const char page_judge[] =
-    "yolizadwa judge FILE [--all]\n"
+    "yolizadwa judge FILE [--all] [--plainly]\n"
     "\n"
     "Prints the report on a table: tasks, load, the quick answer, horizon, verdict,\n"
     "settled; if it passes also the worst response of each task and the first idle\n"
     "instant. If it is late, the interval that asks for more slots than it has, and\n"
     "the jobs of it, the first 100 or with --all every one. A table that is no good\n"
     "is refused with a number and a place, in words, and of a text with the line.\n"
+    "With --plainly the run is looked at slot by slot and not from one release or\n"
+    "finish to the next: the report is the same and takes longer.\n"
     "\n"
     "Ends with 0 if the table passes, 2 if it is refused, 3 if it is late or\n"
     "overloaded, 4 if its budget ends before the answer is known.\n";

@@ -71,7 +71,7 @@ static double quick_slots(const struct table *table, double round)
  * From a check of the first slots with costs of 1: what a slot took, times the slots that are looked at if no deadline is late
  * before, and those of the walks to an idle instant. Where even that check would take long, nothing is foretold.
  */
-static void estimate(const struct table *table, uint64_t budget, unsigned walks)
+static void estimate(const struct table *table, uint64_t budget, unsigned walks, int plainly)
 {
     struct table probe = *table;
     struct report report;
@@ -82,7 +82,7 @@ static void estimate(const struct table *table, uint64_t budget, unsigned walks)
     }
     replace_budget(&probe, PROBE_SLOTS);
     double began = now();
-    check_table(&probe, &report);
+    check_table(&probe, plainly, &report);
     double took = now() - began;
     uint64_t horizon = report_number(&report, "\nhorizon "), settled = report_number(&report, "\nsettled ");
     double slots = (double)(budget < horizon ? budget : horizon) + walks * quick_slots(table, (double)horizon / 2);
@@ -91,10 +91,10 @@ static void estimate(const struct table *table, uint64_t budget, unsigned walks)
 }
 
 /* The outlook is made before the handler may read it. */
-void begin_progress(const struct table *table, uint64_t budget, unsigned walks)
+void begin_progress(const struct table *table, uint64_t budget, unsigned walks, int plainly)
 {
     if (isatty(STDERR_FILENO)) {
-        estimate(table, budget, walks);
+        estimate(table, budget, walks, plainly);
         seconds = 0;
         over = 0;
         signal(SIGALRM, tell);

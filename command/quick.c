@@ -8,7 +8,7 @@ int quick(const struct request *request)
     if (status != DONE) {
         return status;
     }
-    begin_progress(&table, 0, 1);
+    begin_progress(&table, 0, 1, 0);
     uint64_t answer = yolizadwa_quick(table.file, table.len);
     end_progress();
     if (answer == 1) {

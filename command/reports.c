@@ -4,9 +4,11 @@
 
 #include "command.h"
 
-void check_table(const struct table *table, struct report *report)
+void check_table(const struct table *table, int plainly, struct report *report)
 {
-    uint64_t length = yolizadwa_check(table->file, table->len, (uint8_t *)report->text, YOLIZADWA_REPORT_BYTES);
+    uint8_t *text = (uint8_t *)report->text;
+    uint64_t length = plainly ? yolizadwa_check_plainly(table->file, table->len, text, YOLIZADWA_REPORT_BYTES)
+                              : yolizadwa_check(table->file, table->len, text, YOLIZADWA_REPORT_BYTES);
     report->text[length] = '\0';
 }
 

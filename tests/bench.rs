@@ -1,6 +1,6 @@
 //! Puts requests to the library and holds what comes back to what is permitted.
 
-use crate::calls::{Calls, Reply, Request, CALLS};
+use crate::calls::{Call, Calls, Reply, Request, CALLS};
 use crate::reference;
 
 const BATCH: usize = 2_000;
@@ -40,9 +40,13 @@ impl Bench {
         self.ask_knowing(request, permitted);
     }
 
+    /// A check is made by both engines.
     pub fn ask_knowing(&mut self, request: Request, permitted: Permitted) {
+        if request.call == Call::Check {
+            self.queue.push((request.clone().plainly(), permitted.clone()));
+        }
         self.queue.push((request, permitted));
-        if self.queue.len() == BATCH {
+        if self.queue.len() >= BATCH {
             self.flush();
         }
     }

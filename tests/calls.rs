@@ -16,9 +16,10 @@ pub enum Call {
     ToText,
     Quick,
     Distance,
+    CheckPlainly,
 }
 
-pub const CALLS: [(Call, &str); 8] = [
+pub const CALLS: [(Call, &str); 9] = [
     (Call::Check, "check"),
     (Call::Start, "start"),
     (Call::Step, "step"),
@@ -27,6 +28,7 @@ pub const CALLS: [(Call, &str); 8] = [
     (Call::ToText, "to text"),
     (Call::Quick, "quick"),
     (Call::Distance, "distance"),
+    (Call::CheckPlainly, "check plainly"),
 ];
 
 #[derive(Clone, Debug)]
@@ -42,6 +44,11 @@ pub struct Request {
 impl Request {
     pub fn check(file: Vec<u8>) -> Request {
         Request { call: Call::Check, file, buffer: vec![0xE7; REPORT_BYTES + 8], number: 0 }
+    }
+
+    /// The same check by the plain engine.
+    pub fn plainly(self) -> Request {
+        Request { call: Call::CheckPlainly, ..self }
     }
 
     pub fn start(file: Vec<u8>) -> Request {

@@ -96,6 +96,11 @@ uint64_t yolizadwa_check(const uint8_t *file, size_t file_len, uint8_t *report, 
     return forward(CHECK, file, file_len, report, report_len, 0);
 }
 
+uint64_t yolizadwa_check_plainly(const uint8_t *file, size_t file_len, uint8_t *report, size_t report_len)
+{
+    return forward(CHECK_PLAINLY, file, file_len, report, report_len, 0);
+}
+
 uint64_t yolizadwa_start(const uint8_t *file, size_t file_len, uint8_t *state, size_t state_len)
 {
     return forward(START, file, file_len, state, state_len, 0);

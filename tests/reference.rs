@@ -594,7 +594,7 @@ pub fn step(tasks: &[Task], state: &State, done: bool) -> Result<State, Refusal>
 fn check_buffer(request: &Request) -> Result<(), Refusal> {
     let length = request.buffer.len();
     match request.call {
-        Call::Check if length < REPORT_BYTES => refuse(30, length),
+        Call::Check | Call::CheckPlainly if length < REPORT_BYTES => refuse(30, length),
         Call::Start | Call::Step if length != STATE_BYTES => refuse(50, length.min(LARGEST_PLACE)),
         _ => Ok(()),
     }
@@ -634,7 +634,7 @@ fn fitting(request: &Request, bytes: Vec<u8>) -> Result<(u64, Vec<u8>), Refusal>
 
 fn answered(request: &Request) -> Result<(u64, Vec<u8>), Refusal> {
     match request.call {
-        Call::Check => {
+        Call::Check | Call::CheckPlainly => {
             let (budget, tasks) = read_table(request)?;
             let text = report(&tasks, budget).into_bytes();
             Ok((text.len() as u64, text))

@@ -48,7 +48,8 @@ uint64_t plain_call(uint32_t call, const uint8_t *file, size_t file_len, uint8_t
     case FROM_TEXT: return yolizadwa_from_text(file, file_len, buffer, buffer_len);
     case TO_TEXT: return yolizadwa_to_text(file, file_len, buffer, buffer_len);
     case QUICK: return yolizadwa_quick(file, file_len);
-    default: return yolizadwa_distance(file, file_len);
+    case DISTANCE: return yolizadwa_distance(file, file_len);
+    default: return yolizadwa_check_plainly(file, file_len, buffer, buffer_len);
     }
 }
 

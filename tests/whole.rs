@@ -69,6 +69,7 @@ pub fn stack(bench: &mut Bench) {
     let steps: Vec<Request> = files.iter().cloned().flat_map(hard_steps).collect();
     let writes: Vec<Request> = hard_tables().iter().flat_map(|tasks| hard_writes(tasks)).collect();
     deepest(bench, "check", &checks);
+    deepest(bench, "check plainly", &checks.into_iter().map(Request::plainly).collect::<Vec<_>>());
     deepest(bench, "quick", &files.iter().cloned().map(Request::quick).collect::<Vec<_>>());
     deepest(bench, "distance", &files.iter().cloned().map(Request::distance).collect::<Vec<_>>());
     deepest(bench, "start", &starts);

@@ -94,7 +94,7 @@ pub fn unpack(t: Table) -> Columns
     let mut mark = [0u64; TASK_LIMIT];
     for i in 0..n {
         let task = t.tasks[i];
-        let own = slots::rank_of(t, i) as u64 * PLACES + i as u64;
+        let own = slots::rank_of(task) as u64 * PLACES + i as u64;
         period[i] = entry(to_u64(task.period), own);
         cost[i] = to_u64(task.cost);
         deadline[i] = entry(to_u64(task.deadline), own);

@@ -4,9 +4,8 @@ ghost use mathlib.Core.Bool.{cond, _&&_};
 ghost use Prim.Native.Nat.{_+_, _-_, _*_, _^_, _≤_, _<_};
 ghost use lib.Dec.{ltb, eqb};
 ghost use lib.ListN.{set};
-ghost use Rattle.model.specs.Limits.{taskLimit};
+ghost use Rattle.model.specs.Limits.{taskLimit, slotLimit};
 ghost use Rattle.model.specs.Notation.{bit, bits};
-ghost use Rattle.model.specs.Run.{tieOrder};
 ghost use Rattle.model.specs.Dispatcher.{startOf};
 ghost use Rattle.wellformed.specs.Ranges.{Ranged};
 ghost use Rattle.slots.specs.Columns.{columnsOf};
@@ -15,6 +14,7 @@ ghost use Rattle.slots.specs.Serve.{Served};
 ghost use Rattle.slots.specs.Slot.{closed, isLate, isMember, closedAll, noneLeft, waitReleased, leftReleased};
 use values::TASK_LIMIT;
 use values::Table;
+use values::Task;
 
 // Where a task is named, this is none.
 pub const NO_TASK: u32 = TASK_LIMIT as u32;
@@ -53,7 +53,7 @@ pub fn unpack(t: Table) -> Columns
         period[i] = task.period;
         cost[i] = task.cost;
         slack[i] = less(task.period, task.deadline);
-        rank[i] = rank_of(t, i);
+        rank[i] = rank_of(task);
     }
     Columns {
         period,
@@ -77,11 +77,11 @@ pub fn offsets(t: Table) -> Numbers
 }
 
 // Of two tasks that tie, the one of lower rank goes first, and of one rank the lower number.
-pub fn rank_of(t: Table, i: usize) -> u16
-    requires { ⌜ Ranged t × (i < t .count) ⌝ }
-    ensures { λ r. ⌜ r ≡ tieOrder t i ⌝ }
+pub fn rank_of(task: Task) -> u16
+    requires { ⌜ task .period ≤ slotLimit ⌝ }
+    ensures { λ r. ⌜ r ≡ task .period ⌝ }
 {
-    t.tasks[i].period as u16
+    task.period as u16
 }
 
 // The difference, or 0.

@@ -35,7 +35,7 @@ element-copy-out-task : tie.Need-element-copy-out-task Inv-loop μ-loop
 element-copy-out-task c = search needs
 
 rank-of-requires : tie.Need-rank-of-requires Inv-loop μ-loop
-rank-of-requires c κs = (c .before .before .before .pre, c .before .loop-test .taken)
+rank-of-requires c κs = c .before .before .before .pre .each (c .before .before .loop .i) (c .before .loop-test .taken) .period-le
 
 cast-own : tie.Need-cast-own Inv-loop μ-loop
 cast-own c = search needs

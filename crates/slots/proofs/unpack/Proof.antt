@@ -47,7 +47,8 @@ array-write-slack : tie.Need-array-write-slack Inv-loop μ-loop
 array-write-slack c = search needs
 
 rank-of-requires : tie.Need-rank-of-requires Inv-loop μ-loop
-rank-of-requires c κs = search needs
+rank-of-requires c κs = let a = c .before .before .before in
+    a .before .pre .each (a .loop .i) (omega arith) .period-le
 
 mul-rank : tie.Need-mul-rank Inv-loop μ-loop
 mul-rank c = search needs
