@@ -15,7 +15,7 @@ use searches::searches;
 use turns::{middle, turn_about, Best, TURNS};
 use walk::{one_pass, said_by, said_by_report, two_passes, End, Walk};
 
-// With fewer slots a check is reading, judging and reporting; such tables have a bar of their own.
+// With fewer slots a check is judging and reporting; such tables have a bar of their own.
 const MANY_SLOTS: u64 = 500;
 
 // With fewer events the same is nearly all of a check, however many slots there are.
@@ -65,7 +65,8 @@ struct Times {
     noise: f64,
 }
 
-// A check also makes the quick test's walk, which the Rust programs do not. Judging and the report stay in the proved time.
+// A check also makes the quick test's walk, which the Rust programs do not; the reading of the file goes out with it. Judging
+// the table and the report stay in the proved time.
 fn event_times(tasks: &[Task], slots: u64) -> Times {
     let file = table_file(tasks, slots);
     let mut report = [0u8; 512];
@@ -204,7 +205,7 @@ fn said(bar: &str, missed: &[&str]) -> bool {
     holds
 }
 
-// Each bar as it was asked for, and over the tables with so many events that reading, judging and reporting are a small part.
+// Each bar as it was asked for, and over the tables with so many events that judging and reporting are a small part.
 fn bars(rows: &[Row]) -> bool {
     let missed = |bad: &dyn Fn(&Row) -> bool| rows.iter().filter(|row| bad(row)).map(|row| row.name).collect::<Vec<_>>();
     let slow = |row: &Row| row.slots > MANY_SLOTS && row.ratio() > 1.0;

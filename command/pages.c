@@ -39,7 +39,7 @@ static const char page_judge[] =
     "the jobs of it, the first 100 or with --all every one. A table that is no good\n"
     "is refused with a number and a place, in words, and of a text with the line.\n"
     "With --plainly the run is looked at slot by slot and not from one release or\n"
-    "finish to the next: the report is the same and takes longer.\n"
+    "finish to the next: the report is the same, and it takes longer.\n"
     "\n"
     "Ends with 0 if the table passes, 2 if it is refused, 3 if it is late or\n"
     "overloaded, 4 if its budget ends before the answer is known.\n";

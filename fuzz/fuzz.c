@@ -109,6 +109,10 @@ static void try_file(const uint8_t *bytes, size_t len, const uint8_t *more, size
     HOLDS(memcmp(text, second, REPORT) == 0);
     HOLDS(check(file, len, REPORT + 88, 0x77, second) == r);
     HOLDS(memcmp(text, second, REPORT) == 0);
+    // the plain engine says the same
+    memset(second, 0xa5, REPORT);
+    HOLDS(yolizadwa_check_plainly(file, len, second, REPORT) == r);
+    HOLDS(r >= REFUSED || memcmp(text, second, r) == 0);
     check(file, len, REPORT - 1, 0xa5, 0);
     check(file, len, more_len ? more[0] : 0, 0xa5, 0);
 

@@ -158,12 +158,12 @@ uint64_t yolizadwa_to_text(const uint8_t *file, size_t file_len, uint8_t *text, 
  * A camera runs a table only if the report has the line `verdict passes`; only then does what is said of the worst
  * responses hold.
  *
- * The time needed grows with `settled`, which is at most the budget and at most 2,000,060,000, and with the slots that the
- * quick test looks at (see yolizadwa_quick), which the budget does not bound. No call can stop a check. The time of start and
- * step does not depend on the budget. Measured (docs/PERFORMANCE.md): compiled for an Arm machine (Neoverse V1), a slot of a
- * check took about 2 ns with 1 task and 19 to 41 ns with 16, and a step 0.6 microseconds. On x86-64 (a virtual machine, Xeon
- * at 2.5 GHz) a slot with 1 task took 4 to 7 ns, and a step about 1 microsecond. The search for a late table's interval took
- * at most a third of the time of its slots, and up to 11 times that time on a table made so that no start is passed over.
+ * The time needed grows with the releases and finishes up to `settled`, which is at most the budget and at most 2,000,060,000,
+ * and with those that the quick test looks at (see yolizadwa_quick), which the budget does not bound. No call can stop a check.
+ * The time of start and step does not depend on the budget. Measured (docs/PERFORMANCE.md): compiled for an Arm machine
+ * (Neoverse V1), a release or finish took 3 to 12 ns, the search for a late table's interval at most three quarters of the time up
+ * to its deadline, and a step 0.6 microseconds; two tasks with periods of 60,000 and 59,996 were checked in 0.4 ms, and
+ * tables/slow.txt, with a release every fourth slot of 1,799,880,002, with a large budget in 2.9 seconds.
  *
  * Refusals: 30; 20 to 26; 1 and 3 to 7.
  */
@@ -172,7 +172,7 @@ uint64_t yolizadwa_check(const uint8_t *file, size_t file_len, uint8_t *report, 
 /*
  * The same check by the plain engine, which walks slot by slot where yolizadwa_check leaps from one release or finish to the
  * next. For every file and report buffer the two return the same number and leave the same bytes: that is proved, so this call
- * is there for comparison alone.
+ * is there for comparison alone. A slot took about 2 ns with 1 task and 19 to 43 ns with 16.
  */
 uint64_t yolizadwa_check_plainly(const uint8_t *file, size_t file_len, uint8_t *report, size_t report_len);
 
@@ -185,8 +185,8 @@ uint64_t yolizadwa_check_plainly(const uint8_t *file, size_t file_len, uint8_t *
  * that. The budget must stand in the file and plays no part.
  *
  * Mostly few slots are looked at. But with a load near 1 they may be as many as a round has, up to 1,000,000,000, here and in a
- * check whatever its budget: the longest that was measured, of 16 tasks, took 24 seconds (docs/PERFORMANCE.md). No call can
- * stop it.
+ * check whatever its budget. It leaps as a check does; the longest that was measured, of 16 tasks with periods from 54,000 on,
+ * took 5 ms (docs/PERFORMANCE.md). No call can stop it.
  *
  * Refusals: 20 to 26; 1 and 3 to 7.
  */

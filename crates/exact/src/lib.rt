@@ -1,4 +1,4 @@
-// The exact test: a walk slot by slot, and at the first late deadline a search for the largest start.
+// The exact test by the plain engine: a walk slot by slot, and at the first late deadline a search for the largest start.
 ghost use mathlib.Core.Path.{_≡_};
 ghost use Prim.Native.Nat.{_≤_, max};
 ghost use Rattle.values.specs.declared.Judgement.{Judgement};

@@ -1,5 +1,5 @@
 -- TWO ENGINES, ONE ANSWER (T-07): `jump::test` leaps from one release or finish to the next, `exact::test` walks slot by slot. Each has
--- the contract `Permitted`, and so has each of the two exported checks the contract `Checked`; what meets one of them is one thing.
+-- the contract `Permitted`, and so has each of the two exported checks the contract `Checked`; each permits one result.
 use mathlib.Core.Path.{_≡_, ap}
 use mathlib.Core.List.{List}
 use Prim.Native.Nat.{ℕ}
