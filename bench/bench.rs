@@ -7,7 +7,7 @@ mod samples;
 mod searches;
 mod turns;
 mod walk;
-use calls::{check, check_plainly, horizon, quick, report_by, report_on, start, step, table_file, task, timed, Task};
+use calls::{check, check_plainly, horizon, quick, report_by, report_on, start, step, table_file, task, timed, Task, REPORT_BYTES, STATE_BYTES, TASKS};
 use samples::{late_tables, tables, worst_to_search};
 use searches::searches;
 use turns::{middle, turn_about, Best, TURNS};
@@ -37,7 +37,7 @@ fn walks() -> bool {
             End::Reached(at) => (at, file),
         };
         assert_eq!(said_by(&one_pass(&tasks, slots), tasks.len(), slots == horizon), said_by_report(&report_by(check_plainly, &file)), "{name}");
-        let mut report = [0u8; 512];
+        let mut report = [0u8; REPORT_BYTES];
         let all = turn_about(&mut [
             &mut || {
                 black_box(check_plainly(black_box(&file), &mut report));
@@ -93,12 +93,12 @@ fn single_calls() {
     let print = |name: &str, best: &Best| println!("{name:<34} {:>8.2} {:>7.1}", best.best / 1e3, best.noise());
     for (name, tasks) in slow_to_judge() {
         let file = table_file(&tasks, 0);
-        let mut report = [0u8; 512];
+        let mut report = [0u8; REPORT_BYTES];
         let all = turn_about(&mut [&mut || {
             black_box(check(black_box(&file), &mut report));
         }]);
         print(name, &all[0]);
-        let mut state = [0u8; 144];
+        let mut state = [0u8; STATE_BYTES];
         let all = turn_about(&mut [&mut || {
             black_box(start(black_box(&file), &mut state));
         }]);
@@ -108,13 +108,13 @@ fn single_calls() {
             refused => format!("refused {} at {}", refused >> 16, refused & 0xffff),
         });
     }
-    for (name, tasks) in tables().into_iter().filter(|(_, tasks)| tasks.len() == 16) {
+    for (name, tasks) in tables().into_iter().filter(|(_, tasks)| tasks.len() >= 16) {
         let file = table_file(&tasks, 0);
-        let mut state = [0u8; 144];
+        let mut state = [0u8; STATE_BYTES];
         assert_eq!(start(&file, &mut state), 0);
         let all = turn_about(&mut [&mut || {
             let owner = black_box(step(black_box(&file), &mut state, 0));
-            assert!(owner <= 16);
+            assert!(owner <= TASKS as u64);
         }]);
         print(&format!("step, {name}"), &all[0]);
     }

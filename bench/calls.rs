@@ -1,6 +1,10 @@
 // The proved library's calls, table files for them, and the time that one takes. No program uses all of it.
 #![allow(dead_code)]
 
+pub const TASKS: usize = 32;
+pub const REPORT_BYTES: usize = 1024;
+pub const STATE_BYTES: usize = 4 * (2 * TASKS + 4);
+
 #[derive(Clone, Copy)]
 pub struct Task {
     pub offset: u32,
@@ -20,13 +24,13 @@ extern "C" {
 }
 
 // Either engine: check leaps, check_plainly walks slot by slot.
-pub type Check = fn(&[u8], &mut [u8; 512]) -> u64;
+pub type Check = fn(&[u8], &mut [u8; REPORT_BYTES]) -> u64;
 
-pub fn check(file: &[u8], report: &mut [u8; 512]) -> u64 {
+pub fn check(file: &[u8], report: &mut [u8; REPORT_BYTES]) -> u64 {
     unsafe { yolizadwa_check(file.as_ptr(), file.len(), report.as_mut_ptr(), report.len()) }
 }
 
-pub fn check_plainly(file: &[u8], report: &mut [u8; 512]) -> u64 {
+pub fn check_plainly(file: &[u8], report: &mut [u8; REPORT_BYTES]) -> u64 {
     unsafe { yolizadwa_check_plainly(file.as_ptr(), file.len(), report.as_mut_ptr(), report.len()) }
 }
 
@@ -38,11 +42,11 @@ pub fn distance(file: &[u8]) -> u64 {
     unsafe { yolizadwa_distance(file.as_ptr(), file.len()) }
 }
 
-pub fn start(file: &[u8], state: &mut [u8; 144]) -> u64 {
+pub fn start(file: &[u8], state: &mut [u8; STATE_BYTES]) -> u64 {
     unsafe { yolizadwa_start(file.as_ptr(), file.len(), state.as_mut_ptr(), state.len()) }
 }
 
-pub fn step(file: &[u8], state: &mut [u8; 144], done: u32) -> u64 {
+pub fn step(file: &[u8], state: &mut [u8; STATE_BYTES], done: u32) -> u64 {
     unsafe { yolizadwa_step(file.as_ptr(), file.len(), state.as_mut_ptr(), state.len(), done) }
 }
 
@@ -51,7 +55,7 @@ pub fn report_on(file: &[u8]) -> String {
 }
 
 pub fn report_by(check: Check, file: &[u8]) -> String {
-    let mut report = [0u8; 512];
+    let mut report = [0u8; REPORT_BYTES];
     let length = check(file, &mut report);
     assert!(length < 65536, "refused {} at {}", length >> 16, length & 0xffff);
     String::from_utf8(report[..length as usize].to_vec()).unwrap()

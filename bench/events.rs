@@ -3,7 +3,7 @@
 use std::cmp::Reverse;
 use std::collections::BinaryHeap;
 
-use crate::calls::Task;
+use crate::calls::{Task, TASKS};
 use crate::walk::{End, Walk};
 
 const PERIOD_BITS: u32 = 16;
@@ -30,9 +30,9 @@ pub fn events(tasks: &[Task], end: u64) -> u64 {
 #[inline(always)]
 fn in_arrays(tasks: &[Task], end: u64) -> (Walk, u64) {
     // said once, so that no place in an array is checked in the loop
-    assert!(tasks.len() <= 16);
-    let mut state = Arrays { next: [0; 16], open: [NO_JOB; 16], left: [0; 16] };
-    let mut worst = [0u32; 16];
+    assert!(tasks.len() <= TASKS);
+    let mut state = Arrays { next: [0; TASKS], open: [NO_JOB; TASKS], left: [0; TASKS] };
+    let mut worst = [0u32; TASKS];
     let (mut jobs, mut idle, mut at, mut events) = (0, 0, 0, 0);
     for (next, k) in state.next.iter_mut().zip(tasks) {
         *next = k.offset as u64;
@@ -67,9 +67,9 @@ fn in_arrays(tasks: &[Task], end: u64) -> (Walk, u64) {
 }
 
 struct Arrays {
-    next: [u64; 16],
-    open: [u64; 16],
-    left: [u64; 16],
+    next: [u64; TASKS],
+    open: [u64; TASKS],
+    left: [u64; TASKS],
 }
 
 // The open job with the earliest deadline, the next release or the end, and how many jobs were released now.
@@ -112,8 +112,8 @@ pub fn heaps(tasks: &[Task], end: u64) -> Walk {
     let first = |(i, k): (usize, &Task)| Reverse((k.offset as u64) << TASK_BITS | i as u64);
     let mut releases: BinaryHeap<Reverse<u64>> = tasks.iter().enumerate().map(first).collect();
     let mut open = BinaryHeap::with_capacity(tasks.len());
-    let mut left = [0u64; 16];
-    let mut worst = [0u32; 16];
+    let mut left = [0u64; TASKS];
+    let mut worst = [0u32; TASKS];
     let (mut idle, mut at) = (0, 0);
     loop {
         let due = open.peek().map_or(NO_JOB, |&Reverse(top)| deadline(top));
@@ -153,7 +153,7 @@ fn number(top: u64) -> usize {
 
 // Opens the jobs that are released now, and hands back the next release.
 #[inline(always)]
-fn release(tasks: &[Task], at: u64, releases: &mut BinaryHeap<Reverse<u64>>, open: &mut BinaryHeap<Reverse<u64>>, left: &mut [u64; 16]) -> u64 {
+fn release(tasks: &[Task], at: u64, releases: &mut BinaryHeap<Reverse<u64>>, open: &mut BinaryHeap<Reverse<u64>>, left: &mut [u64; TASKS]) -> u64 {
     loop {
         let mut top = releases.peek_mut().unwrap();
         let (time, i) = (top.0 >> TASK_BITS, number(top.0));

@@ -8,7 +8,7 @@ mod samples;
 mod searches;
 mod turns;
 mod walk;
-use calls::{check, check_plainly, horizon, quick, report_by, table_file, timed, Task};
+use calls::{check, check_plainly, horizon, quick, report_by, table_file, timed, Task, REPORT_BYTES};
 use events::{arrays, events, heaps};
 use samples::{crowded_tables, late_tables, long_round, tables, tiny_tables, worst_to_search};
 use searches::searches;
@@ -69,7 +69,7 @@ struct Times {
 // the table and the report stay in the proved time.
 fn event_times(tasks: &[Task], slots: u64) -> Times {
     let file = table_file(tasks, slots);
-    let mut report = [0u8; 512];
+    let mut report = [0u8; REPORT_BYTES];
     let all = turn_about(&mut [
         &mut || {
             black_box(check(black_box(&file), &mut report));
@@ -163,7 +163,7 @@ impl Tiny {
     fn of(name: &'static str, tasks: &[Task]) -> Tiny {
         let slots = slots_of(name, tasks);
         let file = table_file(tasks, slots);
-        let (mut report, mut other) = ([0u8; 512], [0u8; 512]);
+        let (mut report, mut other) = ([0u8; REPORT_BYTES], [0u8; REPORT_BYTES]);
         let all = turn_about(&mut [
             &mut || {
                 black_box(check(black_box(&file), &mut report));

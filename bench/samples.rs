@@ -3,6 +3,11 @@
 
 use crate::calls::{task, Task};
 
+// Each task as two of half its cost.
+fn halves(rows: &[(u32, u32, u32)]) -> Vec<(u32, u32, u32)> {
+    rows.iter().flat_map(|&(o, c, t)| [(o, c / 2, t), (60000 - o, c - c / 2, t)]).collect()
+}
+
 pub fn tables() -> Vec<(&'static str, Vec<Task>)> {
     let long16 = [
         (700, 2000, 60000), (0, 1500, 50000), (9, 3100, 48000), (55000, 900, 40000), (1, 2200, 37500), (12, 777, 30000),
@@ -22,6 +27,8 @@ pub fn tables() -> Vec<(&'static str, Vec<Task>)> {
         ("4 tasks, periods 11 to 19", plain(&[(0, 3, 11), (5, 3, 13), (2, 4, 17), (9, 4, 19)])),
         ("16 tasks, periods 9,600 to 60,000", plain(&long16)),
         ("16 tasks, periods 18 to 72", plain(&short16)),
+        ("32 tasks, periods 9,600 to 60,000", plain(&halves(&long16))),
+        ("32 tasks, periods 36 to 144", plain(&halves(&short16.map(|(o, c, t)| (o, 2 * c, 2 * t))))),
     ]
 }
 
@@ -80,4 +87,20 @@ pub fn tiny_tables() -> Vec<(&'static str, Vec<Task>)> {
         ("1 task, period 2, offset 4", vec![task(4, 1, 1, 2)]),
         ("2 tasks, periods 5 and 15", vec![task(8, 5, 7, 15), task(0, 2, 2, 5)]),
     ]
+}
+
+// 32 tasks whose periods are divisors of 963,761,198,400, which is their least common multiple: a load of 0.92. The last is late in the end.
+pub fn longest_rounds() -> Vec<(&'static str, Vec<Task>)> {
+    let slow = [
+        20160, 20748, 21216, 21840, 22176, 22572, 23023, 24640, 25300, 27300, 28152, 29925, 31920, 32604, 32725, 36432, 36960, 37050, 38038,
+        38556, 39900, 40480, 40755, 45885, 46368, 46575, 50050, 51051, 52003, 52800, 55080, 55692,
+    ];
+    let fast = [
+        4158, 4301, 4862, 4914, 5060, 5225, 5681, 5852, 6688, 7140, 8280, 8398, 8740, 9568, 10395, 10626, 11088, 11286, 13041, 13650, 13685,
+        14400, 15470, 16632, 17472, 18216, 18354, 19320, 19635, 19665, 19734, 19760,
+    ];
+    let table = |periods: [u32; 32]| (0..).zip(periods).map(|(i, period)| task(i * 7919 % 60001, period * 3 / 104, period, period)).collect::<Vec<_>>();
+    let mut late = table(slow);
+    late[31].deadline = 36000;
+    vec![("32 tasks, periods 20,160 to 55,692", table(slow)), ("32 tasks, periods 4,158 to 19,760", table(fast)), ("late, 32 tasks, periods 20,160 to 55,692", late)]
 }

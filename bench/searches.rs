@@ -2,7 +2,7 @@
 // deadline, and with one slot less, which is undecided after the same walk: the difference is the search.
 use std::hint::black_box;
 
-use crate::calls::{horizon, quick, report_by, table_file, Check, Task};
+use crate::calls::{horizon, quick, report_by, table_file, Check, Task, REPORT_BYTES};
 use crate::turns::{turn_about, Best};
 use crate::walk::{one_pass, End};
 
@@ -21,7 +21,7 @@ pub fn searches(check: Check, tables: Vec<(&str, Vec<Task>, f64)>) -> bool {
         let text = report_by(check, &late);
         let from: u64 = text.lines().last().unwrap().split(' ').nth(1).unwrap().parse().unwrap();
         assert!(report_by(check, &undecided).contains("verdict undecided"), "{name}");
-        let (mut report, mut other) = ([0u8; 512], [0u8; 512]);
+        let (mut report, mut other) = ([0u8; REPORT_BYTES], [0u8; REPORT_BYTES]);
         let all = turn_about(&mut [
             &mut || {
                 black_box(check(black_box(&late), &mut report));

@@ -1,7 +1,7 @@
 // The plain walk that the proved one is compared with: slot by slot, the released job with the earliest deadline, ties to the
 // shorter period and then to the lower number; worst responses, the first idle instant after 0, and the first deadline that a job
 // misses. It is written in two ways.
-use crate::calls::Task;
+use crate::calls::{Task, TASKS};
 
 #[derive(Clone, Copy, Debug, PartialEq)]
 pub enum End {
@@ -12,7 +12,7 @@ pub enum End {
 #[derive(Debug, PartialEq)]
 pub struct Walk {
     pub end: End,
-    pub worst: [u32; 16],
+    pub worst: [u32; TASKS],
     pub idle: u64,
 }
 
@@ -45,10 +45,10 @@ pub fn said_by_report(report: &str) -> Vec<String> {
 #[inline(never)]
 pub fn one_pass(tasks: &[Task], end: u64) -> Walk {
     let n = tasks.len();
-    let mut wait = [0u32; 16];
-    let mut left = [0u32; 16];
-    let mut slack = [0u32; 16];
-    let mut worst = [0u32; 16];
+    let mut wait = [0u32; TASKS];
+    let mut left = [0u32; TASKS];
+    let mut slack = [0u32; TASKS];
+    let mut worst = [0u32; TASKS];
     let mut idle = 0;
     for i in 0..n {
         wait[i] = tasks[i].offset;
@@ -95,10 +95,10 @@ pub fn one_pass(tasks: &[Task], end: u64) -> Walk {
 #[inline(never)]
 pub fn two_passes(tasks: &[Task], end: u64) -> Walk {
     let n = tasks.len();
-    let mut wait = [0u32; 16];
-    let mut left = [0u32; 16];
-    let mut slack = [0u32; 16];
-    let mut worst = [0u32; 16];
+    let mut wait = [0u32; TASKS];
+    let mut left = [0u32; TASKS];
+    let mut slack = [0u32; TASKS];
+    let mut worst = [0u32; TASKS];
     let mut idle = 0;
     for i in 0..n {
         wait[i] = tasks[i].offset;

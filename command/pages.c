@@ -106,7 +106,7 @@ static const char page_make[] =
 
 static const char page_text[] =
     "A table in plain text: a line for the budget, then a line for each task, of\n"
-    "which there are 1 to 16, numbered from 0.\n"
+    "which there are 1 to 32, numbered from 0.\n"
     "\n"
     "  # the March lens\n"
     "  budget 1000          # slots that the judge may look at\n"
@@ -116,11 +116,11 @@ static const char page_text[] =
     "A job of task 0 is released at 8, 23, 38 and so on, needs 5 slots, and is due\n"
     "7 slots after its release. # begins a comment; blanks or tabs part words.\n"
     "\n"
-    "  period     1 to 60,000; their least common multiple at most 1,000,000,000\n"
+    "  period     1 to 60,000; their least common multiple at most 1,000,000,000,000\n"
     "  deadline   1 to the period\n"
     "  cost       1 to the deadline\n"
     "  offset     0 to 60,000\n"
-    "  budget     the horizon is enough; 2,000,060,000 is for every table\n";
+    "  budget     the horizon is enough; 2,000,000,060,000 is for every table\n";
 
 static const struct page pages[] = {
     {"judge", page_judge}, {"quick", page_quick}, {"distance", page_distance}, {"run", page_run},

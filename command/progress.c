@@ -7,7 +7,7 @@
 
 #include "command.h"
 
-/* A fraction of a second even with 16 tasks under the emulator. */
+/* A fraction of a second even with 32 tasks under the emulator. */
 enum { PROBE_SLOTS = 200000, DIGITS = 20 };
 
 static const char begins[] = "\rjudging: ";
@@ -50,7 +50,7 @@ static double now(void)
     return (double)time.tv_sec + (double)time.tv_nsec / 1e9;
 }
 
-enum { LONGEST_ROUND = 1000000000 };
+static const double longest_round = 1e12;
 
 /*
  * The quick test ends by then, and a walk with other offsets no later: what comes in at once, and what comes in while that is
@@ -77,7 +77,7 @@ static void estimate(const struct table *table, uint64_t budget, unsigned walks,
     struct report report;
     outlook_length = (size_t)snprintf(outlook, sizeof outlook, " s");
     lighten(&probe);
-    if (quick_slots(&probe, LONGEST_ROUND) > PROBE_SLOTS) {
+    if (quick_slots(&probe, longest_round) > PROBE_SLOTS) {
         return;
     }
     replace_budget(&probe, PROBE_SLOTS);

@@ -17,13 +17,13 @@ static const struct meaning meanings[] = {
     {YOLIZADWA_BAD_DEADLINE, "the deadline of task ", " is not between 1 and its period"},
     {YOLIZADWA_BAD_COST, "the cost of task ", " is not between 1 and its deadline"},
     {YOLIZADWA_BAD_OFFSET, "the offset of task ", " is above 60,000"},
-    {YOLIZADWA_LONG_ROUND, "the least common multiple of the periods is above 1,000,000,000", NULL},
+    {YOLIZADWA_LONG_ROUND, "the least common multiple of the periods is above 1,000,000,000,000", NULL},
     {YOLIZADWA_CUT_SHORT, "the file ends inside the record that begins at byte ", ""},
     {YOLIZADWA_UNKNOWN_KIND, "the record that begins at byte ", " is of no known kind"},
     {YOLIZADWA_NO_BUDGET_FIRST, "the file does not begin with a budget", NULL},
     {YOLIZADWA_SECOND_BUDGET, "a second budget begins at byte ", ""},
     {YOLIZADWA_BYTES_AFTER_END, "the file goes on at byte ", ", after its end"},
-    {YOLIZADWA_SEVENTEENTH_TASK, "a seventeenth task begins at byte ", ""},
+    {YOLIZADWA_EXTRA_TASK, "a thirty-third task begins at byte ", ""},
     {YOLIZADWA_NO_END, "the file stops at byte ", " without an end"},
     {YOLIZADWA_UNKNOWN_WORD, "line ", " begins with a word that is neither budget nor task"},
     {YOLIZADWA_NO_NUMBER, "line ", " has a word that is no decimal number"},
@@ -31,7 +31,7 @@ static const struct meaning meanings[] = {
     {YOLIZADWA_NUMBERS_DUE, "line ", " has too few numbers or too many; a budget has one, a task four: offset cost deadline period"},
     {YOLIZADWA_NO_BUDGET, "up to line ", " there is no budget, which comes first, as in: budget 1000"},
     {YOLIZADWA_BUDGET_AGAIN, "line ", " is a second budget"},
-    {YOLIZADWA_TASK_TOO_MANY, "line ", " is a seventeenth task, and 16 is the most"},
+    {YOLIZADWA_TASK_TOO_MANY, "line ", " is a thirty-third task, and 32 is the most"},
 };
 
 static const struct meaning *meaning_of(uint32_t number)

@@ -10,6 +10,9 @@
 
 enum { REPORT = YOLIZADWA_REPORT_BYTES, STATE = YOLIZADWA_STATE_BYTES, REFUSED = 65536, NONE = YOLIZADWA_TASKS };
 
+// Where the words behind the waits and the slots left stand in a state.
+enum { LAST = 8 * NONE, LATE = LAST + 4, CLOSED = LAST + 8, LOWEST = LAST + 12 };
+
 #define HOLDS(fact)                                                       \
     do {                                                                  \
         if (!(fact)) {                                                    \
@@ -66,9 +69,9 @@ static uint64_t step(const uint8_t *file, size_t len, uint8_t *state, uint32_t d
     HOLDS(yolizadwa_step(file, len, again, STATE, done) == r);
     HOLDS(memcmp(state, again, STATE) == 0);
     if (r < REFUSED) {
-        uint32_t late = word(state, 132), closed = word(state, 136), lowest = word(state, 140);
-        HOLDS(r <= NONE && word(state, 128) == r);
-        HOLDS(late >> 16 == 0 && closed == (uint32_t)__builtin_popcount(late));
+        uint32_t late = word(state, LATE), closed = word(state, CLOSED), lowest = word(state, LOWEST);
+        HOLDS(r <= NONE && word(state, LAST) == r);
+        HOLDS((uint64_t)late >> NONE == 0 && closed == (uint32_t)__builtin_popcount(late));
         HOLDS(lowest == (late ? (uint32_t)__builtin_ctz(late) : NONE));
     } else {
         HOLDS(memcmp(state, before, STATE) == 0);
@@ -80,7 +83,7 @@ static uint64_t step(const uint8_t *file, size_t len, uint8_t *state, uint32_t d
 
 // No budget bounds the quick test and the distance test, so a round that is neither short nor refused is passed over.
 static int affordable(const uint8_t *file, size_t len) {
-    uint64_t round = 1, short_enough = 1 << 18, longest = 1000000000;
+    uint64_t round = 1, short_enough = 1 << 18, longest = 1000000000000;
     for (size_t at = 9; at + 17 <= len && file[at] == 2 && round <= longest; at += 17) {
         uint64_t a = round, b = word(file, at + 13), period = b;
         if (period == 0 || period > 60000) return 1;
@@ -163,7 +166,7 @@ static void try_file(const uint8_t *bytes, size_t len, const uint8_t *more, size
             uint32_t done = more_len ? more[i % more_len] & 1 : 0;
             uint64_t owner = step(file, len, state, done);
             HOLDS(owner == NONE || owner < tasks);
-            if (passes) HOLDS(word(state, 132) == 0);
+            if (passes) HOLDS(word(state, LATE) == 0);
         }
     }
     HOLDS(memcmp(file, kept, len) == 0);
@@ -184,8 +187,8 @@ int LLVMFuzzerTestOneInput(const uint8_t *data, size_t size) {
         return 0;
     }
     // the bytes as the numbers of a table that is mostly well-formed
-    uint8_t file[10 + 17 * 16];
-    size_t at = 0, used = 0, tasks = 1 + (form >> 1) % 16;
+    uint8_t file[YOLIZADWA_LONGEST_FILE];
+    size_t at = 0, used = 0, tasks = 1 + (form >> 1) % NONE;
     uint32_t longest = 1u << (cut % 12);
     file[at++] = 1;
     for (int i = 0; i < 8; i++) file[at++] = i < 2 ? (used < size ? data[used++] : 0xff) : 0;

@@ -33,16 +33,16 @@
 extern "C" {
 #endif
 
-#define YOLIZADWA_TASKS 16         /* the most tasks a table may have; as a task number: none */
-#define YOLIZADWA_REPORT_BYTES 512 /* the least length of a report buffer; no report is longer */
-#define YOLIZADWA_STATE_BYTES 144  /* the only length of a state buffer */
-#define YOLIZADWA_LONGEST_FILE 282 /* bytes of the longest file that is not refused */
+#define YOLIZADWA_TASKS 32          /* the most tasks a table may have; as a task number: none */
+#define YOLIZADWA_REPORT_BYTES 1024 /* the least length of a report buffer; no report is longer */
+#define YOLIZADWA_STATE_BYTES 272   /* the only length of a state buffer */
+#define YOLIZADWA_LONGEST_FILE 554  /* bytes of the longest file that is not refused */
 
 /*
  * A table file is a row of records; a record is one byte of kind and a body. Numbers are little-endian.
  *
  *   kind 1, budget   8 bytes: how many slots the test may look at. First in the file, once.
- *   kind 2, task    16 bytes: offset, cost, deadline, period, four bytes each. 0 to 16 times; numbered from 0.
+ *   kind 2, task    16 bytes: offset, cost, deadline, period, four bytes each. 0 to 32 times; numbered from 0.
  *   kind 3, end      0 bytes. Nothing comes after it.
  */
 enum yolizadwa_kind {
@@ -59,23 +59,23 @@ enum yolizadwa_kind {
  */
 enum yolizadwa_refusal {
     YOLIZADWA_NO_TASK = 1,          /* the table has no task; place 0 */
-    YOLIZADWA_TOO_MANY_TASKS = 2,   /* more than 16 tasks; place 16. A file with so many is refused with 25, a text with 66 */
+    YOLIZADWA_TOO_MANY_TASKS = 2,   /* more than 32 tasks; place 32. A file with so many is refused with 25, a text with 66 */
     YOLIZADWA_BAD_PERIOD = 3,       /* a period outside 1 to 60,000; place: the task */
     YOLIZADWA_BAD_DEADLINE = 4,     /* a deadline outside 1 to the period; place: the task */
     YOLIZADWA_BAD_COST = 5,         /* a cost outside 1 to the deadline; place: the task */
     YOLIZADWA_BAD_OFFSET = 6,       /* an offset above 60,000; place: the task */
-    YOLIZADWA_LONG_ROUND = 7,       /* the periods' least common multiple is above 1,000,000,000; place 0 */
-    YOLIZADWA_STRANGE_STATE = 8,    /* the state does not fit the table; place: the first task that does not, 16: last */
+    YOLIZADWA_LONG_ROUND = 7,       /* the periods' least common multiple is above 1,000,000,000,000; place 0 */
+    YOLIZADWA_STRANGE_STATE = 8,    /* the state does not fit the table; place: the first task that does not, 32: last */
     YOLIZADWA_CUT_SHORT = 20,       /* the file ends inside a record; place: where the record begins */
     YOLIZADWA_UNKNOWN_KIND = 21,    /* a record of no known kind; place: where it begins */
     YOLIZADWA_NO_BUDGET_FIRST = 22, /* the first record is a task or the end, or the file is empty; place 0 */
     YOLIZADWA_SECOND_BUDGET = 23,   /* a second budget; place: where it begins */
     YOLIZADWA_BYTES_AFTER_END = 24, /* bytes after the end record; place: the first of them */
-    YOLIZADWA_SEVENTEENTH_TASK = 25,/* a seventeenth task; place: where it begins */
+    YOLIZADWA_EXTRA_TASK = 25,      /* a thirty-third task; place: where it begins */
     YOLIZADWA_NO_END = 26,          /* the file ends after a whole record, without an end record; place: its length */
-    YOLIZADWA_SHORT_REPORT = 30,    /* the report buffer has fewer than 512 bytes; place: its length */
+    YOLIZADWA_SHORT_REPORT = 30,    /* the report buffer has fewer than 1,024 bytes; place: its length */
     YOLIZADWA_SHORT_BUFFER = 31,    /* the buffer is shorter than what is to be written; place: its length */
-    YOLIZADWA_STATE_LENGTH = 50,    /* the state buffer has not 144 bytes; place: its length, 65,535 if it is longer */
+    YOLIZADWA_STATE_LENGTH = 50,    /* the state buffer has not 272 bytes; place: its length, 65,535 if it is longer */
     YOLIZADWA_BROKEN_ROWS = 51,     /* the words of a table are no whole rows; place: their number, at most 65,535 */
     YOLIZADWA_STRANGE_ROW = 52,     /* a row of a table is no task; place: the first such row, at most 65,535 */
     /* Of a text; place: the line, counted from 1, at most 65,535. */
@@ -86,7 +86,7 @@ enum yolizadwa_refusal {
     YOLIZADWA_NO_BUDGET = 64,       /* a task comes before the budget, or the text ends without one: then the place is the
                                        line in which it ends, one more than it has line feeds */
     YOLIZADWA_BUDGET_AGAIN = 65,    /* a second budget */
-    YOLIZADWA_TASK_TOO_MANY = 66    /* a seventeenth task */
+    YOLIZADWA_TASK_TOO_MANY = 66    /* a thirty-third task */
 };
 
 /* Whether a result is a refusal, and then its number and its place. */
@@ -134,12 +134,12 @@ uint64_t yolizadwa_write(const uint32_t *words, size_t count, uint64_t budget, u
  *
  * Bytes behind what is written stay as they were.
  */
-#define YOLIZADWA_LONGEST_TEXT 492
+#define YOLIZADWA_LONGEST_TEXT 956
 uint64_t yolizadwa_from_text(const uint8_t *text, size_t text_len, uint8_t *file, size_t file_len);
 uint64_t yolizadwa_to_text(const uint8_t *file, size_t file_len, uint8_t *text, size_t text_len);
 
 /*
- * Judges a table file. The result is the length of the report, 1 to 512. The report stands at the beginning of the
+ * Judges a table file. The result is the length of the report, 1 to 1,024. The report stands at the beginning of the
  * buffer, in lines that each end with one line feed and with no zero byte at its end; the bytes behind it stay as they
  * were.
  *
@@ -158,7 +158,7 @@ uint64_t yolizadwa_to_text(const uint8_t *file, size_t file_len, uint8_t *text, 
  * A camera runs a table only if the report has the line `verdict passes`; only then does what is said of the worst
  * responses hold.
  *
- * The time needed grows with the releases and finishes up to `settled`, which is at most the budget and at most 2,000,060,000,
+ * The time needed grows with the releases and finishes up to `settled`, which is at most the budget and at most 2,000,000,060,000,
  * and with those that the quick test looks at (see yolizadwa_quick), which the budget does not bound. No call can stop a check.
  * The time of start and step does not depend on the budget. Measured (docs/PERFORMANCE.md): compiled for an Arm machine
  * (Neoverse V1), a release or finish took 3 to 12 ns, the search for a late table's interval at most three quarters of the time up
@@ -184,7 +184,7 @@ uint64_t yolizadwa_check_plainly(const uint8_t *file, size_t file_len, uint8_t *
  * Pass: a check of the file, with any budget that reaches the horizon, says `verdict passes`. No answer says nothing about
  * that. The budget must stand in the file and plays no part.
  *
- * Mostly few slots are looked at. But with a load near 1 they may be as many as a round has, up to 1,000,000,000, here and in a
+ * Mostly few slots are looked at. But with a load near 1 they may be as many as a round has, up to 1,000,000,000,000, here and in a
  * check whatever its budget. It leaps as a check does; the longest that was measured, of 16 tasks with periods from 54,000 on,
  * took 5 ms (docs/PERFORMANCE.md). No call can stop it.
  *
@@ -202,23 +202,23 @@ uint64_t yolizadwa_quick(const uint8_t *file, size_t file_len);
  * means what it means of the quick test, for the offsets in the file, and wherever that one passes, so does this one.
  *
  * No budget bounds the slots looked at: there is a walk for each task, mostly short, but with a load near 1 as long as the
- * quick test's may be, up to 16 times 1,000,000,000 slots in all. No call can stop it.
+ * quick test's may be, up to 32 times 1,000,000,000,000 slots in all. No call can stop it.
  *
  * Refusals: 20 to 26; 1 and 3 to 7.
  */
 uint64_t yolizadwa_distance(const uint8_t *file, size_t file_len);
 
 /*
- * The dispatcher's state: 144 bytes, 36 little-endian words of 32 bits each. On x86-64 this struct is that layout; hand
+ * The dispatcher's state: 272 bytes, 68 little-endian words of 32 bits each. On x86-64 this struct is that layout; hand
  * over (uint8_t *)&state and sizeof state. It needs no alignment.
  */
 struct yolizadwa_state {
     uint32_t wait[YOLIZADWA_TASKS]; /* slots until the task's next release */
     uint32_t left[YOLIZADWA_TASKS]; /* slots that its open job may still use; 0: no job is open */
-    uint32_t last;                  /* the task that had the last slot; 16: none */
+    uint32_t last;                  /* the task that had the last slot; 32: none */
     uint32_t late;                  /* bit i: task i's job was closed late in the last step */
     uint32_t closed;                /* how many jobs were closed late in the last step */
-    uint32_t lowest;                /* the lowest task among them; 16: none */
+    uint32_t lowest;                /* the lowest task among them; 32: none */
 };
 
 /*
@@ -232,7 +232,7 @@ uint64_t yolizadwa_start(const uint8_t *file, size_t file_len, uint8_t *state, s
 
 /*
  * Gives out one slot: takes the state and writes the next one in its place. The result is the task that has this slot, 0
- * to 15, or 16 for none. In this order:
+ * to 31, or 32 for none. In this order:
  *
  *   1. If `done` is not 0, the open job of the task that ran last is finished; if there is none, `done` means nothing.
  *   2. An open job at its deadline is closed as late: see late, closed and lowest of the new state.
@@ -251,7 +251,7 @@ uint64_t yolizadwa_start(const uint8_t *file, size_t file_len, uint8_t *state, s
  *
  * Hand over the file that the state was started with. Refusals: 50; 20 to 26; 1 and 3 to 7; 8 for a wait above both
  * offset and period, for an open job with more slots left than its cost, or with a wait below period - deadline or above
- * period - 1, for a last that is neither 16 nor a task, and for nothing else.
+ * period - 1, for a last that is neither 32 nor a task, and for nothing else.
  */
 uint64_t yolizadwa_step(const uint8_t *file, size_t file_len, uint8_t *state, size_t state_len, uint32_t done);
 

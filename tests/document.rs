@@ -4,7 +4,7 @@ use crate::bench::Bench;
 use crate::calls::Request;
 use crate::files::ask_all;
 use crate::inputs::{file_of, rows_of, table_of};
-use crate::reference::{self, State, Task, NONE};
+use crate::reference::{self, State, Task, LONGEST_FILE, NONE, REPORT_BYTES, STATE_BYTES, TASKS};
 
 type Rows = &'static [(u32, u32, u32, u32)];
 
@@ -20,8 +20,12 @@ const I: Rows = &[(0, 3, 5, 5), (2, 3, 5, 5)];
 pub const J: Rows = &[(4, 1, 1, 2)];
 /// Document 02's of the lamp, where equal deadlines go to the shorter period.
 const LAMP: Rows = &[(0, 4, 6, 6), (3, 1, 3, 3)];
-const LONGEST: Rows = &[(0, 1, 31_622, 31_622), (0, 1, 31_623, 31_623)];
-pub const TOO_LONG: Rows = &[(0, 1, 31_623, 31_623), (0, 1, 31_624, 31_624)];
+const LONG: Rows = &[(0, 1, 31_623, 31_623), (0, 1, 31_624, 31_624)];
+const LONGER: Rows = &[(0, 1, 281, 281), (0, 1, 59_641, 59_641), (0, 1, 59_669, 59_669)];
+/// Of all tables those whose round is nearest to its limit: one below it, and ten above.
+const LONGEST: Rows = &[(0, 1, 7_777, 7_777), (0, 1, 9_901, 9_901), (0, 1, 12_987, 12_987)];
+pub const TOO_LONG: Rows = &[(0, 1, 4_093, 4_093), (0, 1, 8_779, 8_779), (0, 1, 27_830, 27_830)];
+const TOO_LONG_TOO: Rows = &[(0, 1, 279, 279), (0, 1, 59_780, 59_780), (0, 1, 59_957, 59_957)];
 
 /// Tables with a budget and the report they give.
 const REPORTS: &[(Rows, u64, &str)] = &[
@@ -42,7 +46,9 @@ const REPORTS: &[(Rows, u64, &str)] = &[
     (J, 1_000, "tasks 1\nload 1/2\nquick pass\nhorizon 8\nverdict passes\nsettled 8\nworst 0 1\nidle 1\n"),
     (J, u64::MAX, "tasks 1\nload 1/2\nquick pass\nhorizon 8\nverdict passes\nsettled 8\nworst 0 1\nidle 1\n"),
     (LAMP, 15, "tasks 2\nload 6/6\nquick pass\nhorizon 15\nverdict passes\nsettled 15\nworst 0 6\nworst 1 1\nidle 5\n"),
-    (LONGEST, 10, "tasks 2\nload 63245/999982506\nquick pass\nhorizon 1999965012\nverdict undecided\nsettled 10\n"),
+    (LONG, 10, "tasks 2\nload 63247/1000045752\nquick pass\nhorizon 2000091504\nverdict undecided\nsettled 10\n"),
+    (LONGEST, 10, "tasks 3\nload 306584263/999999999999\nquick pass\nhorizon 1999999999998\nverdict undecided\nsettled 10\n"),
+    (LONGER, 10, "tasks 3\nload 3592244939/999999990949\nquick pass\nhorizon 1999999981898\nverdict undecided\nsettled 10\n"),
 ];
 
 /// Source 000, after theorem 2: it passes, but not by its distances.
@@ -130,7 +136,7 @@ pub fn steps(bench: &mut Bench) {
 /// Files that are refused, with number and place.
 fn refused_files() -> Vec<(Vec<u8>, u64, u64)> {
     let b = file_of(38, &table_of(B));
-    let seventeen = file_of(1, &[Task { offset: 0, cost: 1, deadline: 17, period: 17 }; 17]);
+    let too_many = file_of(1, &[Task { offset: 0, cost: 1, deadline: 60, period: 60 }; TASKS + 1]);
     let second = |row: (u32, u32, u32, u32)| file_of(9, &table_of(&[(0, 1, 2, 3), row]));
     vec![
         (file_of(9, &[]), 1, 0),
@@ -145,6 +151,7 @@ fn refused_files() -> Vec<(Vec<u8>, u64, u64)> {
         (second((60_001, 5, 4, 5)), 5, 1),
         (second((60_001, 1, 4, 5)), 6, 1),
         (file_of(9, &table_of(TOO_LONG)), 7, 0),
+        (file_of(9, &table_of(TOO_LONG_TOO)), 7, 0),
         (b[..8].to_vec(), 20, 0),
         (b[..25].to_vec(), 20, 9),
         ([&b[..9], &[4][..]].concat(), 21, 9),
@@ -154,8 +161,8 @@ fn refused_files() -> Vec<(Vec<u8>, u64, u64)> {
         (vec![2], 22, 0),
         ([&b[..26], &[1][..]].concat(), 23, 26),
         ([&b[..], &[0][..]].concat(), 24, 44),
-        (seventeen[..282].to_vec(), 25, 281),
-        (seventeen, 25, 281),
+        (too_many[..LONGEST_FILE].to_vec(), 25, LONGEST_FILE as u64 - 1),
+        (too_many, 25, LONGEST_FILE as u64 - 1),
         (b[..9].to_vec(), 26, 9),
         (b[..43].to_vec(), 26, 43),
     ]
@@ -170,8 +177,8 @@ fn strange_states() -> Vec<(State, u64)> {
         (&|state| (state.left[0], state.wait[0]) = (1, 7), 0),
         (&|state| (state.left[0], state.wait[0]) = (1, 15), 0),
         (&|state| (state.left[1], state.wait[1]) = (2, 2), 1),
-        (&|state| state.last = 2, 16),
-        (&|state| state.last = 17, 16),
+        (&|state| state.last = 2, NONE.into()),
+        (&|state| state.last = NONE + 1, NONE.into()),
         (&|state| (state.last, state.wait[1]) = (u32::MAX, 6), 1),
     ];
     let changed = |change: &dyn Fn(&mut State)| {
@@ -189,15 +196,16 @@ pub fn refusals(bench: &mut Bench) {
         refused_with(bench, Request::quick(file.clone()), number, place);
         refused_with(bench, Request::distance(file.clone()), number, place);
         refused_with(bench, Request::start(file.clone()), number, place);
-        refused_with(bench, Request::step(file, vec![0xE7; 144], 0), number, place);
+        refused_with(bench, Request::step(file, vec![0xE7; STATE_BYTES], 0), number, place);
     }
     for (state, place) in strange_states() {
         refused_with(bench, Request::step(b.clone(), state.to_bytes(), 0), 8, place);
     }
-    for length in [0, 511] {
+    for length in [0, REPORT_BYTES - 1] {
         refused_with(bench, Request { buffer: vec![0xE7; length], ..Request::check(b.clone()) }, 30, length as u64);
     }
-    for (length, place) in [(0, 0), (143, 143), (145, 145), (65_535, 65_535), (65_536, 65_535), (70_000, 65_535)] {
+    for length in [0, STATE_BYTES - 1, STATE_BYTES + 1, 65_535, 65_536, 70_000] {
+        let place = length.min(65_535) as u64;
         refused_with(bench, Request { buffer: vec![0xE7; length], ..Request::start(b.clone()) }, 50, place);
         refused_with(bench, Request::step(vec![9], vec![0xE7; length], 0), 50, place);
     }
@@ -206,7 +214,7 @@ pub fn refusals(bench: &mut Bench) {
 
 /// Rows that are refused, with number and place: each fault beside later ones, which must not be told.
 fn refused_rows() -> Vec<(Vec<u32>, u64, u64)> {
-    let good = [2, 0, 1, 17, 17];
+    let good = [2, 0, 1, 60, 60];
     let (bad, strange) = ([2, 60_001, 7, 6, 5], [3, 60_001, 7, 6, 5]);
     let rows = |rows: &[[u32; 5]]| rows.concat();
     vec![
@@ -214,12 +222,12 @@ fn refused_rows() -> Vec<(Vec<u32>, u64, u64)> {
         ([&strange[..], &[2; 4]].concat(), 51, 9),
         (vec![3; 65_536], 51, 65_535),
         (rows(&[bad, strange, strange]), 52, 1),
-        (rows(&[[0; 5]; 17]), 52, 0),
+        (rows(&[[0; 5]; TASKS + 1]), 52, 0),
         (rows(&[&[good; 65_535][..], &[strange]].concat()), 52, 65_535),
         (rows(&[&[good; 65_536][..], &[strange]].concat()), 52, 65_535),
         (Vec::new(), 1, 0),
-        (rows(&[bad; 17]), 2, 16),
-        (rows(&[good; 18]), 2, 16),
+        (rows(&[bad; TASKS + 1]), 2, TASKS as u64),
+        (rows(&[good; TASKS + 2]), 2, TASKS as u64),
         (rows(&[good, [2, 60_001, 9, 9, 0]]), 3, 1),
         (rows(&[good, bad, [2, 0, 0, 0, 0]]), 4, 1),
         (rows(&[[2, 60_001, 5, 4, 5]]), 5, 0),

@@ -31,7 +31,7 @@ pub fn ask_all(bench: &mut Bench, file: &[u8]) {
     bench.ask(Request::to_text(file.to_vec()));
 }
 
-fn sixteen(rng: &mut Rng) -> Vec<Task> {
+fn most(rng: &mut Rng) -> Vec<Task> {
     (0..TASKS).map(|_| Task { offset: rng.range(0, 40), cost: 1, deadline: rng.range(10, 20), period: 20 }).collect()
 }
 
@@ -88,7 +88,7 @@ fn every_tail(bench: &mut Bench, file: &[u8]) {
 }
 
 pub fn damaged_one_by_one(bench: &mut Bench, rng: &mut Rng) {
-    for tasks in [table_of(B), table_of(J), sixteen(rng)] {
+    for tasks in [table_of(B), table_of(J), most(rng)] {
         let file = file_of(1_000, &tasks);
         every_cut(bench, &file);
         every_byte_changed(bench, &file);

@@ -96,7 +96,7 @@ fn pick_round(rng: &mut Rng) -> u32 {
 fn pick_count(rng: &mut Rng) -> usize {
     match rng.below(10) {
         0..=5 => 1 + rng.below(4) as usize,
-        6..=8 => 4 + rng.below(8) as usize,
+        6..=8 => 4 + rng.below(TASKS as u64 / 2) as usize,
         _ => TASKS,
     }
 }
@@ -208,8 +208,8 @@ pub fn near_border(rng: &mut Rng) -> Vec<Task> {
 
 /// A table with long periods, its least common multiple mostly near or above its limit.
 pub fn long_round(rng: &mut Rng) -> Vec<Task> {
-    let periods = [31_621, 31_622, 31_623, 31_624, 59_999, 60_000, 50_000, 16_384, 46_656, 1_000, 1];
-    let count = 1 + rng.below(4) as usize;
+    let periods = [4_093, 7_777, 8_779, 9_901, 12_987, 27_830, 31_623, 59_957, 59_999, 60_000, 50_000, 16_384, 46_656, 1_000, 1];
+    let count = 1 + rng.below(6) as usize;
     let long = |rng: &mut Rng| if rng.chance(60) { rng.pick(&periods) } else { rng.range(1, 60_000) };
     (0..count).map(|_| light(long(rng))).collect()
 }
@@ -345,7 +345,7 @@ fn idle_wait(rng: &mut Rng, task: &Task) -> u32 {
 }
 
 pub fn wild_state(rng: &mut Rng) -> State {
-    let size = rng.pick(&[1, 2, 16, 17, 60_000, 1 << 32]);
+    let size = rng.pick(&[1, 2, u64::from(NONE), u64::from(NONE) + 1, 60_000, 1 << 32]);
     let mut words = || rng.below(size) as u32;
     State {
         wait: std::array::from_fn(|_| words()),
@@ -369,7 +369,7 @@ pub fn border_state(rng: &mut Rng, tasks: &[Task]) -> State {
         2 => (state.left[number], state.wait[number]) = (1, due.saturating_sub(rng.range(0, 1))),
         3 => (state.left[number], state.wait[number]) = (task.cost, task.period - rng.range(0, 1)),
         4 => state.left[number] = u32::MAX,
-        _ => state.last = rng.pick(&[0, 1, tasks.len() as u32 - 1, tasks.len() as u32, 15, 16, 17, u32::MAX]),
+        _ => state.last = rng.pick(&[0, 1, tasks.len() as u32 - 1, tasks.len() as u32, NONE - 1, NONE, NONE + 1, u32::MAX]),
     }
     state
 }

@@ -4,7 +4,7 @@ use crate::bench::Bench;
 use crate::document::B;
 use crate::inputs::*;
 use crate::program;
-use crate::reference::{self, LONGEST_FILE};
+use crate::reference::{self, LONGEST_FILE, TASKS};
 use crate::whole::hard_files;
 use std::fs::File;
 use std::io::Write;
@@ -93,8 +93,9 @@ fn table_files(bench: &mut Bench) {
 
 /// More bytes than the judge has room for, which is one more than a legal file can have.
 fn too_long(bench: &mut Bench) {
-    let (b, longest) = (file_of(1_000, &table_of(B)), file_of(1_000, &[table_of(B)[1]; 16]));
-    for more in [1, 2, 17, 238, 239, 240, 300, 65_536, 1_000_000] {
+    let (b, longest) = (file_of(1_000, &table_of(B)), file_of(1_000, &[table_of(B)[1]; TASKS]));
+    let room = LONGEST_FILE + 1 - b.len();
+    for more in [1, 2, 17, room - 1, room, room + 1, 600, 65_536, 1_000_000] {
         for (file, place, byte) in [(&b, 44, 0), (&b, 44, 3), (&longest, LONGEST_FILE, 2), (&longest, LONGEST_FILE, 3)] {
             let output = through_pipe(&[&file[..], &vec![byte; more]].concat());
             let refusal = format!("refused 24 at {place}\n");
@@ -103,13 +104,14 @@ fn too_long(bench: &mut Bench) {
     }
 }
 
-/// A seventeenth task is refused wherever it is cut, and whatever follows.
-fn seventeenth(bench: &mut Bench) {
-    let file = file_of(1_000, &[table_of(B)[1]; 17]);
+/// A task too many is refused wherever it is cut, and whatever follows.
+fn one_too_many(bench: &mut Bench) {
+    let file = file_of(1_000, &[table_of(B)[1]; TASKS + 1]);
+    let refusal = format!("refused 25 at {}\n", LONGEST_FILE - 1);
     for length in (LONGEST_FILE..=file.len()).chain([3_000]) {
         let mut input = file.clone();
         input.resize(length, 2);
-        must_print(bench, &through_pipe(&input), "refused 25 at 281\n", || format!("seventeen tasks cut at {length}"));
+        must_print(bench, &through_pipe(&input), &refusal, || format!("a task too many cut at {length}"));
     }
 }
 
@@ -117,7 +119,7 @@ pub fn inputs_by_hand(bench: &mut Bench) {
     unreadable(bench);
     table_files(bench);
     too_long(bench);
-    seventeenth(bench);
+    one_too_many(bench);
     for file in hard_files() {
         must_print(bench, &through_pipe(&file), &permitted(&file), || format!("{file:?}"));
         must_print(bench, &in_pieces(&file, 100), &permitted(&file), || format!("{file:?} in pieces"));

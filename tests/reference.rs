@@ -4,15 +4,15 @@ use crate::calls::{Call, Request};
 use crate::inputs::file_of;
 use crate::plain;
 
-pub const TASKS: usize = 16;
-pub const NONE: u32 = 16;
-pub const REPORT_BYTES: usize = 512;
-pub const STATE_BYTES: usize = 144;
-/// The bytes of a file of sixteen tasks, the longest legal one.
-pub const LONGEST_FILE: usize = 282;
+pub const TASKS: usize = 32;
+pub const NONE: u32 = TASKS as u32;
+pub const REPORT_BYTES: usize = 1_024;
+pub const STATE_BYTES: usize = 4 * (2 * TASKS + 4);
+/// A budget, as many tasks as there can be, the end.
+pub const LONGEST_FILE: usize = 9 + 17 * TASKS + 1;
 pub const LARGEST_PLACE: usize = 65_535;
 const LONGEST: u32 = 60_000;
-const LARGEST_ROUND: u64 = 1_000_000_000;
+const LARGEST_ROUND: u64 = 1_000_000_000_000;
 
 #[derive(Clone, Copy, PartialEq, Eq, Debug)]
 pub struct Task {
@@ -496,10 +496,10 @@ impl State {
         State {
             wait: std::array::from_fn(|task| word(bytes, task)),
             left: std::array::from_fn(|task| word(bytes, TASKS + task)),
-            last: word(bytes, 32),
-            late: word(bytes, 33),
-            closed: word(bytes, 34),
-            lowest: word(bytes, 35),
+            last: word(bytes, 2 * TASKS),
+            late: word(bytes, 2 * TASKS + 1),
+            closed: word(bytes, 2 * TASKS + 2),
+            lowest: word(bytes, 2 * TASKS + 3),
         }
     }
 

@@ -72,7 +72,7 @@ const REFUSED: &[(&str, u64, u64)] = &[
     ("budget 5\ntask 0 1 1 4294967295\n", 3, 0),
     ("budget 5\ntask 0 1 1 0\ntask\n", 63, 3),
     ("budget 5\ntask 0 1 2 2\n\n\ntask 60001 1 2 2\n", 6, 1),
-    ("budget 5\ntask 0 1 31623 31623\ntask 0 1 31624 31624\n", 7, 0),
+    ("budget 5\ntask 0 1 4093 4093\ntask 0 1 8779 8779\ntask 0 1 27830 27830\n", 7, 0),
 ];
 
 pub fn by_the_letter(bench: &mut Bench) {
@@ -86,9 +86,9 @@ pub fn by_the_letter(bench: &mut Bench) {
         refused_with(bench, Request { buffer: Vec::new(), ..request.clone() }, number, place);
         refused_with(bench, request, number, place);
     }
-    let sixteen = format!("budget 5\n{}", "task 0 1 17 17\n".repeat(16));
-    for more in ["task 0 1 17 17", "task x", "task"] {
-        refused_with(bench, Request::from_text(format!("{sixteen}{more}").into_bytes()), 66, 18);
+    let most = format!("budget 5\n{}", "task 0 1 60 60\n".repeat(TASKS));
+    for more in ["task 0 1 60 60", "task x", "task"] {
+        refused_with(bench, Request::from_text(format!("{most}{more}").into_bytes()), 66, TASKS as u64 + 2);
     }
     bench.end_group("plain text by the letter");
 }
@@ -107,7 +107,7 @@ fn every_byte(bench: &mut Bench) {
 }
 
 fn every_cut(bench: &mut Bench, rng: &mut Rng) {
-    for tasks in [0, 1, 2, 16, 17] {
+    for tasks in [0, 1, 2, TASKS, TASKS + 1] {
         let (budget, table) = (any_budget(rng), sized(rng, tasks));
         for text in [plain::text_of(budget, &table), dressed(rng, budget, &table)] {
             (0..=text.len()).for_each(|length| ask(bench, &text[..length]));
@@ -118,14 +118,14 @@ fn every_cut(bench: &mut Bench, rng: &mut Rng) {
 /// Every row of up to five words of a few sorts after a first word, where each first word is due, is not, and is too much.
 fn every_line(bench: &mut Bench) {
     let sorts = ["1", "x", "4294967296", "18446744073709551616"];
-    let sixteen = format!("budget 5\n{}", "task 0 1 17 17\n".repeat(16));
+    let most = format!("budget 5\n{}", "task 0 1 60 60\n".repeat(TASKS));
     let mut rows = vec![String::new()];
     for _ in 0..5 {
         let longer = rows.iter().flat_map(|row| sorts.map(|word| format!("{row} {word}")));
         rows = std::iter::once(String::new()).chain(longer).collect();
     }
     for row in rows {
-        for before in ["", "budget 5\n", &sixteen] {
+        for before in ["", "budget 5\n", &most] {
             ["budget", "task"].iter().for_each(|first| ask(bench, format!("{before}{first}{row}\ny")));
         }
     }
@@ -199,7 +199,7 @@ fn longest(bench: &mut Bench) {
 }
 
 pub fn buffers(bench: &mut Bench, rng: &mut Rng) {
-    for tasks in [0, 1, 2, 15, 16, 17] {
+    for tasks in [0, 1, 2, TASKS - 1, TASKS, TASKS + 1] {
         let (budget, table) = (any_budget(rng), sized(rng, tasks));
         let (file, text) = (file_of(budget, &table), plain::text_of(budget, &table));
         for length in (0..=text.len() + 5).chain([4_096, 65_535, 65_536, 70_000]) {

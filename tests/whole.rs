@@ -5,7 +5,7 @@ use crate::calls::Request;
 use crate::inputs::{file_of, rows_of};
 use crate::plain;
 use crate::program;
-use crate::reference::{self, Task, TASKS};
+use crate::reference::{self, Task, LONGEST_FILE, TASKS};
 use std::process::Command;
 
 const STACK_LIMIT: u64 = 16_384;
@@ -40,14 +40,15 @@ fn deepest(bench: &mut Bench, name: &str, requests: &[Request]) {
     requests.iter().cloned().for_each(|request| bench.ask(request));
 }
 
-/// Sixteen tasks of the longest numbers: they pass, are late, are overloaded, or are refused at the end; no task; and tasks
+/// As many tasks as there can be, of the longest numbers: they pass, are late, are overloaded, or are refused at the end; no task; and tasks
 /// with a release in nearly every slot and at most two slots to spare, late after a look at each release.
 fn hard_tables() -> [Vec<Task>; 7] {
-    let passes = vec![Task { offset: 60_000, cost: 3_750, deadline: 60_000, period: 60_000 }; TASKS];
+    let passes = vec![Task { offset: 60_000, cost: 60_000 / TASKS as u32, deadline: 60_000, period: 60_000 }; TASKS];
     let (mut late, mut long, mut bad) = (passes.clone(), passes.clone(), passes.clone());
     late.iter_mut().for_each(|task| (task.offset, task.deadline) = (0, 59_999));
-    long[15] = Task { offset: 0, cost: 1, deadline: 1, period: 59_999 };
-    bad[15].offset = 60_001;
+    long[TASKS - 2] = Task { offset: 0, cost: 1, deadline: 1, period: 59_957 };
+    long[TASKS - 1] = Task { offset: 0, cost: 1, deadline: 1, period: 59_999 };
+    bad[TASKS - 1].offset = 60_001;
     let whole = |period| Task { offset: 60_000, cost: period, deadline: period, period };
     let heavy = (0..TASKS as u32).map(|task| whole(31_622 + task % 2)).collect();
     let ruler = |k: u32| Task { offset: (1 << (k - 1)) - 1, cost: 1, deadline: 1, period: 1 << k };
@@ -58,7 +59,7 @@ fn hard_tables() -> [Vec<Task>; 7] {
 
 pub fn hard_files() -> Vec<Vec<u8>> {
     let mut files: Vec<Vec<u8>> = hard_tables().iter().map(|tasks| file_of(u64::MAX, tasks)).collect();
-    files.extend([files[0][..280].to_vec(), vec![3; 300]]);
+    files.extend([files[0][..LONGEST_FILE - 2].to_vec(), vec![3; LONGEST_FILE + 18]]);
     files
 }
 

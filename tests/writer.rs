@@ -16,10 +16,10 @@ fn ask_rows(bench: &mut Bench, rng: &mut Rng, words: &[u32]) {
 
 /// Rows of other kinds from a row on, over a table that is good up to its number of tasks, and over one that is bad.
 fn other_kinds(bench: &mut Bench, rng: &mut Rng) {
-    for rows in [1, 2, 3, 16, 17, 18, 40] {
+    for rows in [1, 2, 3, TASKS, TASKS + 1, TASKS + 2, 40] {
         let mut words = rows_of(&sized(rng, rows));
         words[4] = rng.pick(&[words[4], 0]);
-        for place in [0, 1, 2, 15, 16, 17, rows - 1].into_iter().filter(|&place| place < rows) {
+        for place in [0, 1, 2, TASKS - 1, TASKS, TASKS + 1, rows - 1].into_iter().filter(|&place| place < rows) {
             for kind in OTHER_KINDS {
                 let mut one = words.clone();
                 one[5 * place] = kind;
@@ -44,11 +44,11 @@ fn long_tables(bench: &mut Bench, rng: &mut Rng) {
 
 pub fn rows(bench: &mut Bench, rng: &mut Rng) {
     for _ in 0..10 {
-        let (words, any) = (rows_of(&sized(rng, 20)), rng.next() as u32);
-        for count in 0..=100 {
+        let (words, any) = (rows_of(&sized(rng, TASKS + 4)), rng.next() as u32);
+        for count in 0..=words.len() {
             ask_rows(bench, rng, &words[..count]);
-            ask_rows(bench, rng, &[2; 100][..count]);
-            ask_rows(bench, rng, &[any; 100][..count]);
+            ask_rows(bench, rng, &vec![2; count]);
+            ask_rows(bench, rng, &vec![any; count]);
         }
     }
     other_kinds(bench, rng);
@@ -57,7 +57,7 @@ pub fn rows(bench: &mut Bench, rng: &mut Rng) {
 }
 
 pub fn buffers(bench: &mut Bench, rng: &mut Rng) {
-    for tasks in [0, 1, 2, 3, 15, 16, 17] {
+    for tasks in [0, 1, 2, 3, TASKS - 1, TASKS, TASKS + 1] {
         let (rows, needed) = (rows_of(&sized(rng, tasks)), 9 + 17 * tasks + 1);
         for length in (0..=needed + 5).chain([4_096, 65_534, 65_535, 65_536, 65_537, 70_000, 131_072]) {
             let buffer = (0..length).map(|_| rng.next() as u8).collect();

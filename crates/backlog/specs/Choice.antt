@@ -1,4 +1,4 @@
--- THE CHOICE (`choose-is`): among at most 16 tasks the model's choice is an open one that comes no later than any other open one, or is none, and none is open.
+-- THE CHOICE (`choose-is`): among no more tasks than a table can have the model's choice is an open one that comes no later than any other open one, or is none, and none is open.
 use mathlib.Core.Path.{_≡_, refl, sym, subst, _∙_}
 use mathlib.Core.Logic.{_⊎_, inl, inr, _≢_}
 use mathlib.Core.Bool.{Bool, true, false, cond, _&&_, _||_}

@@ -1,11 +1,11 @@
 -- NO THEOREM OF THIS CRATE IS EMPTY: what they ask for is met by tables of document 01.
 use mathlib.Core.Path.{_≡_, refl}
 use mathlib.Core.Logic.{inr, _⊎_, _↔_}
-use mathlib.Core.List.{_∷_}
+use mathlib.Core.List.{[], _∷_}
 use mathlib.Core.Bool.{Bool, false, true}
 use Prim.Native.Nat.{ℕ, suc, _+_, _-_, _≤_, _<_}
 use native.Mathlib.Omega.{arith}
-use lib.ListN.{getD, replicate}
+use lib.ListN.{getD}
 use lib.Dec.{T, lit≤, lit<, eqb}
 use Rattle.model.specs.Notation.{sum, largest, count, first, last, fill, Least}
 use Rattle.values.specs.declared.Verdict.{Verdict}
@@ -19,7 +19,7 @@ use Rattle.model.specs.Run.{Order, choose, run, Worst}
 use Rattle.model.specs.Verdict.{needed, lateStart, verdict, settledBy, Worsts, Permitted}
 use Rattle.model.specs.Dispatcher.{State, Stepped, firstStrange, startOf, isLate, ownerNow, after, turn, stepped}
 use Rattle.model.specs.History.{stateAt, ownerAt, had, Finished}
-use Rattle.model.specs.Examples.{table-b, table-c, table-d, table-f, table-g, table-i}
+use Rattle.model.specs.Examples.{padded, table-b, table-c, table-d, table-f, table-g, table-i}
 use Rattle.model.specs.Schedule.{none, job}
 use Rattle.wellformed.specs.Ranges.{Ranged}
 use Rattle.wellformed.specs.WellFormed.{well-formed}
@@ -218,7 +218,7 @@ g-never-refused = never-refused table-g (record { round = 4; load = 4; horizon =
 
 -- A state of table g that somebody else made: task 0 is open with one slot left and its wait is 2, and task 1 ran last.
 other : State
-other = record { wait = 2 ∷ 2 ∷ replicate 14 0; left = 1 ∷ 0 ∷ replicate 14 0; last = 1 }
+other = record { wait = padded 0 (2 ∷ 2 ∷ []); left = padded 0 (1 ∷ 0 ∷ []); last = 1 }
 
 g-belongs : Belongs table-g other
 unfolding other firstStrange first

@@ -1,4 +1,4 @@
--- A TABLE IS STREAMS OF JOBS (`demand-streams`): one of at most 16 tasks that cost something and are due after their release and by the next one, with an order of its tasks, makes streams with the model's demand.
+-- A TABLE IS STREAMS OF JOBS (`demand-streams`): one of no more tasks than allowed, which cost something and are due after their release and by the next one, with an order of its tasks, makes streams with the model's demand.
 use mathlib.Core.Path.{_≡_, refl, sym, ap, _∙_}
 use mathlib.Core.Logic.{_⊎_, inl, inr, _↔_}
 use Prim.Native.Nat.{ℕ, suc, _+_, _-_, _*_, _%_, _≤_, _<_}

@@ -95,7 +95,7 @@ module _ (t : Table) where
         go (inl (e, f, never)) q = (omega arith, λ x. never (closed-late-iff .1 (l, omega arith, x)))
         go (inr (e, c)) q = absurd (omega arith)
 
-  -- A state that the tests of 8 let through, with 16 entries in each list.
+  -- A state that the tests of 8 let through, with an entry for every task that a table can have in each list.
   pub record Belongs (d : State) : Type 0 where
     pub waits : length (d .wait) ≡ taskLimit
     pub lefts : length (d .left) ≡ taskLimit

@@ -1,7 +1,7 @@
 // The dispatcher: a start on any table, and a step on any table and any state.
 ghost use mathlib.Core.Path.{_≡_};
 ghost use mathlib.Core.Bool.{cond, not, _||_};
-ghost use Prim.Native.Nat.{_-_, _^_, max, _≤_, _<_};
+ghost use Prim.Native.Nat.{_-_, max, _≤_};
 ghost use lib.Dec.{ltb, eqb};
 ghost use Rattle.model.specs.Limits.{taskLimit};
 ghost use Rattle.model.specs.Values.{refusal};
@@ -189,13 +189,12 @@ fn after_report(left: Numbers, last: u32, done: bool) -> Numbers
 }
 
 fn turn_of(owner: u32, late: u32) -> Turn
-    requires { ⌜ late < 2 ^ taskLimit ⌝ }
     ensures { λ r. ⌜ r ≡ turnOf owner late ⌝ }
 {
     Turn {
         owner,
         late,
         closed: u32::count_ones(late),
-        lowest: u16::trailing_zeros(late as u16),
+        lowest: u32::trailing_zeros(late),
     }
 }

@@ -3,12 +3,12 @@ use mathlib.Core.Path.{_≡_, refl}
 use mathlib.Core.List.{List, [], _∷_, _++_, map}
 use mathlib.Core.Logic.{inl, inr}
 use mathlib.Core.Bool.{Bool, true, false}
-use Prim.Native.Nat.{ℕ, zero, suc, _-_, _/_, _%_}
+use Prim.Native.Nat.{ℕ, zero, suc, _+_, _-_, _*_, _/_, _%_, _^_}
 use lib.Dec.{eqb, lit≤, lit<}
 use lib.ListN.{length, getD, replicate}
 use Rattle.model.specs.Values.{Task, Table, Measure, Judgement, Verdict, Outcome, Admission, Given, Writing, refusal, verdictSaid, judgementSaid, admissionSaid, givenSaid, outcomeSaid}
 use Rattle.model.specs.Notation.{pos, negsuc, sum, largest, count, first, last, bits, fill, text, digits, decimal}
-use Rattle.model.specs.Limits.{taskLimit, longestFile, longestText}
+use Rattle.model.specs.Limits.{taskLimit, slotLimit, roundLimit, reportBytes, longestFile, longestText}
 use Rattle.model.specs.Tasks.{task, taskFault, firstFaulty, round, load, horizon, measure, judgedBy, judged}
 use Rattle.model.specs.Demand.{jobsIn, demand, asksTooMuch, lateAt}
 use Rattle.model.specs.Schedule.{none, given}
@@ -20,9 +20,17 @@ use Rattle.model.specs.TableFile.{taskIn, tableOf, bytesOf, taskRecords,
 use Rattle.model.specs.Dispatcher.{State, firstStrange, startOf, started, ownerNow, after, turn, stepped}
 use Rattle.model.specs.History.{stateAt, ownerAt, reported, had, Finished}
 use Rattle.model.specs.Report.{worstLines, reportOf, refused, written, Checked, quickExported, distanceExported, Printed}
-use Rattle.model.specs.StateBuffer.{bufferOf, stateIn, startExported, stepExported, handed}
+use Rattle.model.specs.StateBuffer.{stateBytes, bufferOf, stateIn, startExported, stepExported, handed}
 use Rattle.model.specs.Writer.{fileWritten, firstStranger, tableIn, writeExported}
 use Rattle.model.specs.PlainText.{split, filled, allDigits, valueAfter, numbersFault, same, budgetLine, taskLine, lineOf, readLines, textForm, textLoaded, taskTexts, textOf, textWritten, fromTextExported, toTextExported}
+
+-- The limits, and what follows from them: the longest file, the longest text and the bytes of a state buffer.
+limits : taskLimit ∷ slotLimit ∷ roundLimit ∷ reportBytes ∷ longestFile ∷ longestText ∷ stateBytes ∷ [] ≡ 32 ∷ 60000 ∷ 1000000000000 ∷ 1024 ∷ 554 ∷ 956 ∷ 272 ∷ []
+limits = refl
+
+-- A number for each task that a table can have: these, and then x.
+abbrev pub padded : ℕ → List ℕ → List ℕ
+padded x w = w ++ replicate (taskLimit - length w) x
 
 -- A task as document 01 writes it, and its tables.
 abbrev pub of : ℕ → ℕ → ℕ → ℕ → Task
@@ -67,15 +75,15 @@ table-k = tableOf (of 0 1 1 4 ∷ of 1 1 1 4 ∷ of 1 1 1 4 ∷ [])
 abbrev refuse : ℕ → ℕ → Judgement
 refuse n p = Judgement.Refused (refusal n p)
 
--- The numbers 1 to 6 with their places: no task, seventeen and eighteen tasks, then T, D, C and O of task 1, before later faults and,
+-- The numbers 1 to 6 with their places: no task, one and two tasks too many, then T, D, C and O of task 1, before later faults and,
 -- but for T = 0 and D = 0, which leave no C in range, alone.
 faulty : Task → Judgement
 faulty k = judged (tableOf (of 0 1 1 1 ∷ k ∷ []))
 
 refusals :
     (judged (tableOf []) ≡ refuse 1 0)
-    × (judged (record { count = 17; tasks = replicate taskLimit (of 0 1 1 1) }) ≡ refuse 2 16)
-    × (judged (record { count = 18; tasks = replicate taskLimit (of 0 1 1 1) }) ≡ refuse 2 16)
+    × (judged (record { count = taskLimit + 1; tasks = replicate taskLimit (of 0 1 1 1) }) ≡ refuse 2 taskLimit)
+    × (judged (record { count = taskLimit + 2; tasks = replicate taskLimit (of 0 1 1 1) }) ≡ refuse 2 taskLimit)
     × (map faulty (of 0 0 0 0 ∷ of 0 1 1 60001 ∷ of 0 1 0 5 ∷ of 60001 1 6 5 ∷ of 0 1 6 5 ∷ of 0 0 1 5 ∷ of 60001 5 4 5 ∷ of 0 5 4 5 ∷ of 60001 1 1 5 ∷ []) ≡ refuse 3 1 ∷ refuse 3 1 ∷ refuse 4 1 ∷ refuse 4 1 ∷ refuse 4 1 ∷ refuse 5 1 ∷ refuse 5 1 ∷ refuse 5 1 ∷ refuse 6 1 ∷ [])
 unfolding faulty judged firstFaulty taskFault first
 refusals = (refl, refl, refl, refl)
@@ -87,27 +95,42 @@ task-by-task :
 unfolding judged firstFaulty taskFault first
 task-by-task = (refl, refl)
 
--- Number 7 and its place. The search for an H so large is too long to compute, so it is given: document 01's periods at the limit, of which
--- the first two are read; periods whose H is 10^9 + 1; and what is wrong with a task comes first.
+-- Number 7 and its place. The search for an H so large is too long to compute, so it is given, and `wellformed/specs/AtLimit.antt` proves
+-- it: document 02's periods, whose H was too large in document 01; the tables whose H is nearest to the limit, below and above; the
+-- limit itself, which no table has, and one more; and what is wrong with a task comes first.
 abbrev once : ℕ → Task
 once p = of 0 1 p p
-
-abbrev pub within-limit : Table
-within-limit = tableOf (once 31622 ∷ once 31623 ∷ [])
-
-abbrev pub above-limit : Table
-above-limit = tableOf (once 31623 ∷ once 31624 ∷ [])
 
 abbrev measured : ℕ → ℕ → ℕ → Measure
 measured h l z = record { round = h; load = l; horizon = z }
 
+abbrev pub now-read : Table
+now-read = tableOf (once 31623 ∷ once 31624 ∷ [])
+
+abbrev pub now-measured : Measure
+now-measured = measured 1000045752 63247 2000091504
+
+abbrev pub within-limit : Table
+within-limit = tableOf (once 7777 ∷ once 9901 ∷ once 12987 ∷ [])
+
+abbrev pub within-measured : Measure
+within-measured = measured 999999999999 306584263 1999999999998
+
+abbrev pub above-limit : Table
+above-limit = tableOf (once 4093 ∷ once 8779 ∷ once 27830 ∷ [])
+
+abbrev pub above-measured : Measure
+above-measured = measured 1000000000010 394160207 2000000000020
+
 refused-by-round :
-    (judgedBy (measured 999982506 63245 1999965012) within-limit ≡ Judgement.WellFormed (measured 999982506 63245 1999965012))
-    × (judgedBy (measured 1000045752 63247 2000091504) above-limit ≡ refuse 7 0)
-    × (judgedBy (measured 1000000001 71598 2000000002) (tableOf (once 19019 ∷ once 52579 ∷ [])) ≡ refuse 7 0)
-    × (judgedBy (measured 1000045752 63247 2000151505) (tableOf (once 31623 ∷ of 60001 1 1 31624 ∷ [])) ≡ refuse 6 1)
+    (judgedBy now-measured now-read ≡ Judgement.WellFormed now-measured)
+    × (judgedBy within-measured within-limit ≡ Judgement.WellFormed within-measured)
+    × (judgedBy above-measured above-limit ≡ refuse 7 0)
+    × (judgedBy (measured roundLimit 1 1) within-limit ≡ Judgement.WellFormed (measured roundLimit 1 1))
+    × (judgedBy (measured (roundLimit + 1) 1 1) within-limit ≡ refuse 7 0)
+    × (judgedBy above-measured (tableOf (once 4093 ∷ of 60001 1 1 8779 ∷ once 27830 ∷ [])) ≡ refuse 6 1)
 unfolding firstFaulty taskFault first
-refused-by-round = (refl, refl, refl, refl)
+refused-by-round = (refl, refl, refl, refl, refl, refl)
 
 -- The ends of the ranges are inside them.
 inside-ranges : map taskFault (of 0 1 1 1 ∷ of 60000 60000 60000 60000 ∷ []) ≡ 0 ∷ 0 ∷ []
@@ -169,7 +192,7 @@ said-file : map admissionSaid (Admission.Refused (refusal 21 9) ∷ Admission.Ad
 said-file = refl
 
 -- A slot for none, with the tasks 1 and 2 closed late.
-said-step : map givenSaid (Given.Refused (refusal 8 16) ∷ Given.Slot (record { owner = 16; late = 6; closed = 2; lowest = 1 }) ∷ []) ≡ (8 ∷ 16 ∷ []) ∷ (0 ∷ 16 ∷ 6 ∷ 2 ∷ 1 ∷ []) ∷ []
+said-step : map givenSaid (Given.Refused (refusal 8 taskLimit) ∷ Given.Slot (record { owner = taskLimit; late = 6; closed = 2; lowest = 1 }) ∷ []) ≡ (8 ∷ taskLimit ∷ []) ∷ (0 ∷ taskLimit ∷ 6 ∷ 2 ∷ 1 ∷ []) ∷ []
 said-step = refl
 
 -- A budget equal to the needed count suffices, and one slot less does not; overload needs none.
@@ -204,17 +227,17 @@ overload-is-not-late = (refl, refl)
 -- ---- the run
 
 -- Some owners of b: task 0 has the slots 8, 9, 12, 13 and 14, so its job finishes at 15, 7 after its release.
-owners : map (owner table-b (tieOrder table-b)) (0 ∷ 1 ∷ 2 ∷ 8 ∷ 9 ∷ 10 ∷ 11 ∷ 12 ∷ 13 ∷ 14 ∷ 15 ∷ []) ≡ 1 ∷ 1 ∷ 16 ∷ 0 ∷ 0 ∷ 1 ∷ 1 ∷ 0 ∷ 0 ∷ 0 ∷ 1 ∷ []
+owners : map (owner table-b (tieOrder table-b)) (0 ∷ 1 ∷ 2 ∷ 8 ∷ 9 ∷ 10 ∷ 11 ∷ 12 ∷ 13 ∷ 14 ∷ 15 ∷ []) ≡ 1 ∷ 1 ∷ taskLimit ∷ 0 ∷ 0 ∷ 1 ∷ 1 ∷ 0 ∷ 0 ∷ 0 ∷ 1 ∷ []
 unfolding owner ownerOf served choose
 owners = refl
 
--- The slots of one job, between two instants: job 0 of task 0; from 10 to 12 job 2 of task 1 has both slots, and job 1 none. Where none of 16
--- tasks has a slot, the run says so.
+-- The slots of one job, between two instants: job 0 of task 0; from 10 to 12 job 2 of task 1 has both slots, and job 1 none. Where
+-- none of the most tasks has a slot, the run says so.
 job-given :
     (map (λ u. given (run table-b (tieOrder table-b)) 0 0 u 15) (8 ∷ 9 ∷ 13 ∷ []) ≡ 5 ∷ 4 ∷ 2 ∷ [])
     × (map (given (run table-b (tieOrder table-b)) 0 0 0) (8 ∷ 14 ∷ 15 ∷ []) ≡ 0 ∷ 4 ∷ 5 ∷ [])
     × (map (λ j. given (run table-b (tieOrder table-b)) 1 j 10 12) (1 ∷ 2 ∷ []) ≡ 0 ∷ 2 ∷ [])
-    × (run (tableOf (replicate 16 (of 1 1 16 16))) (λ k. k) 0 ≡ none)
+    × (run (tableOf (replicate taskLimit (of 1 1 60 60))) (λ k. k) 0 ≡ none)
 unfolding given run owner ownerOf served choose count
 job-given = (refl, refl, refl, refl)
 
@@ -236,14 +259,14 @@ table-lamp = tableOf (of 0 4 6 6 ∷ of 3 1 3 3 ∷ [])
 
 shorter-period :
     map (λ order. map (owner table-lamp order) (0 ∷ 1 ∷ 2 ∷ 3 ∷ 4 ∷ 5 ∷ 6 ∷ 7 ∷ 8 ∷ 9 ∷ 10 ∷ 11 ∷ [])) (tieOrder table-lamp ∷ (λ k. k) ∷ [])
-    ≡ (0 ∷ 0 ∷ 0 ∷ 1 ∷ 0 ∷ 16 ∷ 1 ∷ 0 ∷ 0 ∷ 1 ∷ 0 ∷ 0 ∷ []) ∷ (0 ∷ 0 ∷ 0 ∷ 0 ∷ 1 ∷ 16 ∷ 1 ∷ 0 ∷ 0 ∷ 0 ∷ 0 ∷ 1 ∷ []) ∷ []
+    ≡ (0 ∷ 0 ∷ 0 ∷ 1 ∷ 0 ∷ taskLimit ∷ 1 ∷ 0 ∷ 0 ∷ 1 ∷ 0 ∷ 0 ∷ []) ∷ (0 ∷ 0 ∷ 0 ∷ 0 ∷ 1 ∷ taskLimit ∷ 1 ∷ 0 ∷ 0 ∷ 0 ∷ 0 ∷ 1 ∷ []) ∷ []
 unfolding owner ownerOf served choose
 shorter-period = refl
 
 -- It is the period and not D that decides, and of one period the lower number: at 2 both jobs are due by 6.
 periods-decide :
     map (λ t. map (owner t (tieOrder t)) (0 ∷ 1 ∷ 2 ∷ 3 ∷ 4 ∷ 5 ∷ [])) (tableOf (of 2 2 4 12 ∷ of 0 3 6 6 ∷ []) ∷ tableOf (of 0 3 6 6 ∷ of 2 2 4 6 ∷ []) ∷ [])
-    ≡ (1 ∷ 1 ∷ 1 ∷ 0 ∷ 0 ∷ 16 ∷ []) ∷ (0 ∷ 0 ∷ 0 ∷ 1 ∷ 1 ∷ 16 ∷ []) ∷ []
+    ≡ (1 ∷ 1 ∷ 1 ∷ 0 ∷ 0 ∷ taskLimit ∷ []) ∷ (0 ∷ 0 ∷ 0 ∷ 1 ∷ 1 ∷ taskLimit ∷ []) ∷ []
 unfolding owner ownerOf served choose
 periods-decide = refl
 
@@ -315,21 +338,19 @@ rowsOfOne : ℕ → List ℕ
 rowsOfOne zero = []
 rowsOfOne (suc n) = rowOf (of 0 1 1 1) ++ rowsOfOne n
 
--- A file is read; of one whose table is refused nothing is kept; the longest legal file has 282 bytes, and is read, the longest text 492. A
--- table holds 16 tasks, of zeros past its last one.
-abbrev file-of-16 : List ℕ
-file-of-16 = budgetOf 0 ++ rowsOfOne 16 ++ (3 ∷ [])
+-- A file is read; of one whose table is refused nothing is kept; the longest legal file is read. A table holds the most tasks, of zeros
+-- past its last one.
+abbrev longest : List ℕ
+longest = budgetOf 0 ++ rowsOfOne taskLimit ++ (3 ∷ [])
 
 files :
     (loadedFrom file-b ≡ record { admission = Admission.Admitted; budget = 1000; table = table-b })
     × (loadedFrom (budgetOf 1000 ++ (3 ∷ [])) ≡ record { admission = Admission.Refused (refusal 1 0); budget = 0; table = tableOf [] })
-    × (loadedFrom file-of-16 .admission ≡ Admission.Admitted)
-    × (length file-of-16 ≡ 282)
-    × (longestFile ≡ 282)
-    × (longestText ≡ 492)
-    × (tableOf (of 0 1 1 1 ∷ []) ≡ record { count = 1; tasks = of 0 1 1 1 ∷ replicate 15 (of 0 0 0 0) })
+    × (loadedFrom longest .admission ≡ Admission.Admitted)
+    × (length longest ≡ longestFile)
+    × (tableOf (of 0 1 1 1 ∷ []) ≡ record { count = 1; tasks = of 0 1 1 1 ∷ replicate (taskLimit - 1) (of 0 0 0 0) })
 unfolding loadedFrom formOf readFrom judged firstFaulty taskFault first round load horizon largest sum count rowsOfOne
-files = (refl, refl, refl, refl, refl, refl, refl)
+files = (refl, refl, refl, refl, refl)
 
 abbrev refusalOf : List ℕ → Admission
 refusalOf s = loadedFrom s .admission
@@ -344,17 +365,17 @@ file-refusals :
     ∷ (9 ∷ []) ∷ (2 ∷ []) ∷ (3 ∷ []) ∷ (1 ∷ 0 ∷ []) ∷ (1 ∷ replicate 7 0)
     ∷ budgetOf 0 ∷ (budgetOf 0 ++ (0 ∷ 1 ∷ [])) ∷ (budgetOf 0 ++ (1 ∷ [])) ∷ (budgetOf 0 ++ (2 ∷ 0 ∷ []))
     ∷ (budgetOf 0 ++ (3 ∷ 9 ∷ [])) ∷ (budgetOf 0 ++ rowOf (of 0 0 0 0) ++ (3 ∷ 3 ∷ [])) ∷ (budgetOf 0 ++ rowsOfOne 1 ++ rowOf (of 0 0 0 0) ++ (3 ∷ []))
-    ∷ (budgetOf 0 ++ (3 ∷ [])) ∷ (budgetOf 0 ++ rowsOfOne 16 ++ (2 ∷ [])) ∷ (budgetOf 0 ++ rowsOfOne 16)
+    ∷ (budgetOf 0 ++ (3 ∷ [])) ∷ (budgetOf 0 ++ rowsOfOne taskLimit ++ (2 ∷ [])) ∷ (budgetOf 0 ++ rowsOfOne taskLimit)
     ∷ (budgetOf 0 ++ rowsOfOne 1 ++ (9 ∷ [])) ∷ (budgetOf 0 ++ rowsOfOne 1 ++ (1 ∷ [])) ∷ (budgetOf 0 ++ rowsOfOne 1 ++ (2 ∷ replicate 15 0))
-    ∷ (budgetOf 0 ++ (3 ∷ 9 ∷ 9 ∷ [])) ∷ (budgetOf 0 ++ rowsOfOne 17 ++ (3 ∷ [])) ∷ []
+    ∷ (budgetOf 0 ++ (3 ∷ 9 ∷ 9 ∷ [])) ∷ (budgetOf 0 ++ rowsOfOne (taskLimit + 1) ++ (3 ∷ [])) ∷ []
     )
     ≡ at 22 0
     ∷ at 21 0 ∷ at 22 0 ∷ at 22 0 ∷ at 20 0 ∷ at 20 0
     ∷ at 26 9 ∷ at 21 9 ∷ at 23 9 ∷ at 20 9
     ∷ at 24 10 ∷ at 24 27 ∷ at 3 1
-    ∷ at 1 0 ∷ at 25 281 ∷ at 26 281
+    ∷ at 1 0 ∷ at 25 (longestFile - 1) ∷ at 26 (longestFile - 1)
     ∷ at 21 26 ∷ at 23 26 ∷ at 20 26
-    ∷ at 24 10 ∷ at 25 281 ∷ []
+    ∷ at 24 10 ∷ at 25 (longestFile - 1) ∷ []
 unfolding loadedFrom formOf readFrom judged firstFaulty taskFault first rowsOfOne
 file-refusals = refl
 
@@ -374,10 +395,10 @@ steps t d (done ∷ more) = turn t d done .owner ∷ steps t (after t d done) mo
 
 -- g with task 0 done after one slot; f, whose task 1 is closed late in the second step; the lamp, whose task 1 has the tie at slot 3, though task 0 ran last.
 dispatched :
-    (steps table-g (startOf table-g) (false ∷ true ∷ false ∷ false ∷ false ∷ []) ≡ 0 ∷ 1 ∷ 1 ∷ 16 ∷ 0 ∷ [])
-    × (steps table-f (startOf table-f) (false ∷ false ∷ []) ≡ 0 ∷ 16 ∷ [])
-    × (turn table-f (after table-f (startOf table-f) false) false ≡ record { owner = 16; late = 2; closed = 1; lowest = 1 })
-    × (steps table-lamp (startOf table-lamp) (replicate 6 false) ≡ 0 ∷ 0 ∷ 0 ∷ 1 ∷ 0 ∷ 16 ∷ [])
+    (steps table-g (startOf table-g) (false ∷ true ∷ false ∷ false ∷ false ∷ []) ≡ 0 ∷ 1 ∷ 1 ∷ taskLimit ∷ 0 ∷ [])
+    × (steps table-f (startOf table-f) (false ∷ false ∷ []) ≡ 0 ∷ taskLimit ∷ [])
+    × (turn table-f (after table-f (startOf table-f) false) false ≡ record { owner = taskLimit; late = 2; closed = 1; lowest = 1 })
+    × (steps table-lamp (startOf table-lamp) (replicate 6 false) ≡ 0 ∷ 0 ∷ 0 ∷ 1 ∷ 0 ∷ taskLimit ∷ [])
 unfolding steps startOf after turn ownerNow choose fill bits sum count first
 dispatched = (refl, refl, refl, refl)
 
@@ -388,26 +409,26 @@ hurried = tableOf (of 0 1 5 5 ∷ of 0 1 2 10 ∷ [])
 in-order :
     (steps hurried (startOf hurried) (false ∷ false ∷ []) ≡ 1 ∷ 0 ∷ [])
     × (steps table-l (startOf table-l) (replicate 7 false) ≡ 0 ∷ 0 ∷ 1 ∷ 1 ∷ 1 ∷ 0 ∷ 0 ∷ [])
-    × (turn table-g (record { wait = replicate 16 0; left = 1 ∷ replicate 15 0; last = 1 }) false ≡ record { owner = 0; late = 1; closed = 1; lowest = 0 })
+    × (turn table-g (record { wait = padded 0 []; left = padded 0 (1 ∷ []); last = 1 }) false ≡ record { owner = 0; late = 1; closed = 1; lowest = 0 })
 unfolding steps startOf after turn ownerNow choose fill bits sum count first
 in-order = (refl, refl, refl)
 
--- Two jobs closed at once, and sixteen; where none is closed the lowest number is 16.
+-- Two jobs closed at once, and the most; where none is closed the lowest number is none.
 abbrev both-late : State
-both-late = record { wait = 1 ∷ 1 ∷ replicate 14 0; left = 1 ∷ 1 ∷ replicate 14 0; last = 16 }
+both-late = record { wait = padded 0 (1 ∷ 1 ∷ []); left = padded 0 (1 ∷ 1 ∷ []); last = taskLimit }
 
 closings :
-    (turn table-f both-late false ≡ record { owner = 16; late = 3; closed = 2; lowest = 0 })
-    × (turn (tableOf (replicate 16 (of 0 1 1 2))) (record { wait = replicate 16 1; left = replicate 16 1; last = 16 }) false ≡ record { owner = 16; late = 65535; closed = 16; lowest = 0 })
-    × (turn table-g (startOf table-g) true ≡ record { owner = 0; late = 0; closed = 0; lowest = 16 })
+    (turn table-f both-late false ≡ record { owner = taskLimit; late = 3; closed = 2; lowest = 0 })
+    × (turn (tableOf (replicate taskLimit (of 0 1 1 2))) (record { wait = padded 1 []; left = padded 1 []; last = taskLimit }) false ≡ record { owner = taskLimit; late = 2 ^ taskLimit - 1; closed = taskLimit; lowest = 0 })
+    × (turn table-g (startOf table-g) true ≡ record { owner = 0; late = 0; closed = 0; lowest = taskLimit })
 unfolding turn startOf ownerNow choose fill bits sum count first
 closings = (refl, refl, refl)
 
 -- A start on a table: the waits are the offsets; a refused start; a step taken.
 starts :
-    (started table-b ≡ record { admission = Admission.Admitted; state = record { wait = 8 ∷ replicate 15 0; left = replicate 16 0; last = 16 } })
-    × (started (tableOf []) ≡ record { admission = at 1 0; state = record { wait = replicate 16 0; left = replicate 16 0; last = 0 } })
-    × (stepped table-g (startOf table-g) false .given ≡ Given.Slot (record { owner = 0; late = 0; closed = 0; lowest = 16 }))
+    (started table-b ≡ record { admission = Admission.Admitted; state = record { wait = padded 0 (8 ∷ []); left = padded 0 []; last = taskLimit } })
+    × (started (tableOf []) ≡ record { admission = at 1 0; state = record { wait = padded 0 []; left = padded 0 []; last = 0 } })
+    × (stepped table-g (startOf table-g) false .given ≡ Given.Slot (record { owner = 0; late = 0; closed = 0; lowest = taskLimit }))
 unfolding started startOf stepped turn ownerNow choose fill bits firstStrange judged firstFaulty taskFault first round load horizon largest sum count
 starts = (refl, refl, refl)
 
@@ -416,7 +437,7 @@ abbrev two : Table
 two = tableOf (of 0 2 3 4 ∷ of 9 1 4 4 ∷ [])
 
 state : ℕ → ℕ → ℕ → ℕ → ℕ → Given
-state w0 w1 l0 l1 last = stepped two (record { wait = w0 ∷ w1 ∷ replicate 14 7; left = l0 ∷ l1 ∷ replicate 14 7; last = last }) false .given
+state w0 w1 l0 l1 last = stepped two (record { wait = padded 7 (w0 ∷ w1 ∷ []); left = padded 7 (l0 ∷ l1 ∷ []); last = last }) false .given
 
 -- A refusal hands the state back; the table's number comes before 8.
 abbrev any-state : State
@@ -427,23 +448,23 @@ unfolding stepped firstStrange judged firstFaulty taskFault first round load hor
 handed-back = refl
 
 -- A closed job may wait for as long as the offset or the period is.
-no-strangers : state 4 9 0 0 16 ≡ Given.Slot (record { owner = 16; late = 0; closed = 0; lowest = 16 })
+no-strangers : state 4 9 0 0 taskLimit ≡ Given.Slot (record { owner = taskLimit; late = 0; closed = 0; lowest = taskLimit })
 unfolding state stepped turn ownerNow choose bits firstStrange judged firstFaulty taskFault first round load horizon largest sum count
 no-strangers = refl
 
 -- Refusal 8 and its places: a wait above O and T; too many slots left;
 -- an open job that waits less than T - D, or more than T - 1; a last-run number that is no task.
 strangers :
-    state 5 0 0 0 16 ∷ state 0 10 0 0 16 ∷ state 2 0 3 0 16 ∷ state 0 0 1 0 16 ∷ state 4 0 1 0 16 ∷ state 0 4 0 1 16 ∷ state 0 0 0 0 2 ∷ state 0 0 0 0 17 ∷ []
-    ≡ map (λ p. Given.Refused (refusal 8 p)) (0 ∷ 1 ∷ 0 ∷ 0 ∷ 0 ∷ 1 ∷ 16 ∷ 16 ∷ [])
+    state 5 0 0 0 taskLimit ∷ state 0 10 0 0 taskLimit ∷ state 2 0 3 0 taskLimit ∷ state 0 0 1 0 taskLimit ∷ state 4 0 1 0 taskLimit ∷ state 0 4 0 1 taskLimit ∷ state 0 0 0 0 2 ∷ state 0 0 0 0 (taskLimit + 1) ∷ []
+    ≡ map (λ p. Given.Refused (refusal 8 p)) (0 ∷ 1 ∷ 0 ∷ 0 ∷ 0 ∷ 1 ∷ taskLimit ∷ taskLimit ∷ [])
 unfolding state stepped firstStrange judged firstFaulty taskFault first round load horizon largest sum count
 strangers = refl
 
 -- At its deadline, with wait T - D, a job is no stranger: it is closed late, or by a done report before that. Entries past the table stay.
 at-deadline :
-    (stepped two (record { wait = 1 ∷ 9 ∷ replicate 14 7; left = 1 ∷ 0 ∷ replicate 14 7; last = 0 }) false
-    ≡ record { given = Given.Slot (record { owner = 16; late = 1; closed = 1; lowest = 0 }); state = record { wait = 0 ∷ 8 ∷ replicate 14 7; left = 0 ∷ 0 ∷ replicate 14 7; last = 16 } })
-    × (turn two (record { wait = 1 ∷ 9 ∷ replicate 14 0; left = 2 ∷ 0 ∷ replicate 14 7; last = 0 }) true .closed ≡ 0)
+    (stepped two (record { wait = padded 7 (1 ∷ 9 ∷ []); left = padded 7 (1 ∷ 0 ∷ []); last = 0 }) false
+    ≡ record { given = Given.Slot (record { owner = taskLimit; late = 1; closed = 1; lowest = 0 }); state = record { wait = padded 7 (0 ∷ 8 ∷ []); left = padded 7 (0 ∷ 0 ∷ []); last = taskLimit } })
+    × (turn two (record { wait = padded 0 (1 ∷ 9 ∷ []); left = padded 7 (2 ∷ 0 ∷ []); last = 0 }) true .closed ≡ 0)
 unfolding stepped turn after ownerNow choose fill bits firstStrange judged firstFaulty taskFault first round load horizon largest sum count
 at-deadline = (refl, refl)
 
@@ -455,7 +476,7 @@ once-done : ℕ → Bool
 once-done n = eqb n 1
 
 history :
-    (map (ownerAt table-g once-done) (0 ∷ 1 ∷ 2 ∷ 3 ∷ 4 ∷ []) ≡ 0 ∷ 1 ∷ 1 ∷ 16 ∷ 0 ∷ [])
+    (map (ownerAt table-g once-done) (0 ∷ 1 ∷ 2 ∷ 3 ∷ 4 ∷ []) ≡ 0 ∷ 1 ∷ 1 ∷ taskLimit ∷ 0 ∷ [])
     × (map (reported table-g once-done 0) (0 ∷ 1 ∷ 2 ∷ 5 ∷ []) ≡ false ∷ true ∷ false ∷ false ∷ [])
     × (reported table-g once-done 1 1 ≡ false)
     × (map (λ from. had table-g once-done 1 from 3) (0 ∷ 1 ∷ 2 ∷ []) ≡ 2 ∷ 2 ∷ 1 ∷ [])
@@ -472,7 +493,7 @@ finished = (inr (1, lit< tt, lit≤ tt, tt), inl refl, inl refl)
 
 -- The whole report on b, with its worst responses given (`promises/specs/Tables.antt` computes them); that on c, which is late.
 report-b :
-    reportOf (table-b .count) (quickPass table-b) (record { outcome = Outcome.Tested Verdict.Passes; measure = measure table-b; settled = settledBy table-b 1000; worst = 7 ∷ 2 ∷ replicate 14 0; idle = firstIdle table-b (tieOrder table-b) }) (verdict table-b 1000)
+    reportOf (table-b .count) (quickPass table-b) (record { outcome = Outcome.Tested Verdict.Passes; measure = measure table-b; settled = settledBy table-b 1000; worst = padded 0 (7 ∷ 2 ∷ []); idle = firstIdle table-b (tieOrder table-b) }) (verdict table-b 1000)
     ≡ text "tasks 2\nload 11/15\nquick none\nhorizon 38\nverdict passes\nsettled 38\nworst 0 7\nworst 1 2\nidle 2\n"
 unfolding reportOf worstLines text decimal digits settledBy verdict needed lateStart lateAt first last round load horizon largest sum count demand jobsIn firstIdle idleAt ownerOf served choose quickPass calm startingAt missedAt fill
 report-b = refl
@@ -497,7 +518,7 @@ unfolding reportOf text decimal digits
 report-undecided = refl
 
 report-a :
-    reportOf 1 true (record { outcome = Outcome.Tested Verdict.Passes; measure = record { round = 1; load = 1; horizon = 2 }; settled = 2; worst = 1 ∷ replicate 15 0; idle = 1 }) Verdict.Passes
+    reportOf 1 true (record { outcome = Outcome.Tested Verdict.Passes; measure = record { round = 1; load = 1; horizon = 2 }; settled = 2; worst = padded 0 (1 ∷ []); idle = 1 }) Verdict.Passes
     ≡ text "tasks 1\nload 1/1\nquick pass\nhorizon 2\nverdict passes\nsettled 2\nworst 0 1\nidle 1\n"
 unfolding reportOf worstLines text decimal digits
 report-a = refl
@@ -506,17 +527,17 @@ report-a = refl
 permitted :
     Permitted table-i 5 (brief (Outcome.Tested Verdict.Overload) (measured 5 6 12) 0)
     × Permitted table-c 15 (brief (Outcome.Tested (Verdict.Late 8 15 8)) (measured 15 12 38) 15)
-    × Permitted table-b 37 (record { outcome = Outcome.Tested Verdict.Undecided; measure = measured 15 11 38; settled = 37; worst = replicate 16 0; idle = 0 })
+    × Permitted table-b 37 (record { outcome = Outcome.Tested Verdict.Undecided; measure = measured 15 11 38; settled = 37; worst = padded 0 []; idle = 0 })
     × Permitted (tableOf []) 5 (brief (Outcome.Refused (refusal 1 0)) (measured 0 0 0) 0)
 unfolding Permitted judged firstFaulty taskFault settledBy verdict needed lateStart lateAt first last round load horizon largest sum count demand jobsIn
 permitted = (refl, refl, refl, refl)
 
--- The exported call: a short buffer is 30 at its length, and one of 512 bytes is not short; a refusal is 65,536 · number + place and writes
--- nowhere; bytes behind a report stay.
+-- The exported call: a short buffer is 30 at its length, and one that is just long enough is not short; a refusal is
+-- 65,536 · number + place and writes nowhere; bytes behind a report stay.
 exported :
     (Checked [] (7 ∷ []) (record { number = 1966081; buffer = 7 ∷ [] }))
-    × (Checked [] (replicate 511 7) (record { number = 1966591; buffer = replicate 511 7 }))
-    × (Checked (budgetOf 0 ++ (9 ∷ [])) (replicate 512 7) (record { number = 1376265; buffer = replicate 512 7 }))
+    × (Checked [] (replicate (reportBytes - 1) 7) (record { number = 1966080 + (reportBytes - 1); buffer = replicate (reportBytes - 1) 7 }))
+    × (Checked (budgetOf 0 ++ (9 ∷ [])) (replicate reportBytes 7) (record { number = 1376265; buffer = replicate reportBytes 7 }))
     × (refused (refusal 21 9) (7 ∷ []) ≡ record { number = 1376265; buffer = 7 ∷ [] })
     × (written (5 ∷ 6 ∷ []) (1 ∷ 2 ∷ 3 ∷ []) ≡ record { number = 2; buffer = 5 ∷ 6 ∷ 3 ∷ [] })
 unfolding loadedFrom formOf readFrom
@@ -529,7 +550,7 @@ report-short = text "tasks 2\nload 11/15\nquick none\nhorizon 38\nverdict undeci
 abbrev file-short : List ℕ
 file-short = budgetOf 37 ++ rowOf (of 8 5 7 15) ++ rowOf (of 0 2 2 5) ++ (3 ∷ [])
 
-told : Checked file-short (replicate 512 7) (record { number = 70; buffer = report-short ++ replicate 442 7 }) × Printed file-short report-short
+told : Checked file-short (replicate reportBytes 7) (record { number = 70; buffer = report-short ++ replicate (reportBytes - 70) 7 }) × Printed file-short report-short
 unfolding loadedFrom formOf readFrom Permitted judged firstFaulty taskFault settledBy verdict needed lateStart lateAt first last round load horizon largest sum count demand jobsIn reportOf text decimal digits quickPass calm startingAt fill firstIdle idleAt missedAt ownerOf served choose
 told =
     let a = brief (Outcome.Tested Verdict.Undecided) (measured 15 11 38) 37 in
@@ -545,20 +566,20 @@ distance-told : map distanceExported (file-short ∷ (budgetOf 0 ++ rowOf (of 8 
 unfolding formOf readFrom distanceAnswer judged firstFaulty taskFault horizon largest distancePass distance commonDivisor calm startingAt fill firstIdle idleAt missedAt first last round load sum count served ownerOf choose
 distance-told = refl
 
--- The line of a refusal; a number as long as the longest of a report, 16 times the limit of H.
-refusal-lines : Printed (budgetOf 0 ++ (9 ∷ [])) (text "refused 21 at 9\n") × Printed (budgetOf 0 ++ (3 ∷ 3 ∷ [])) (text "refused 24 at 10\n") × (decimal 16000000000 ≡ text "16000000000")
+-- The line of a refusal; a number as long as the longest of a report, `taskLimit` times the limit of H.
+refusal-lines : Printed (budgetOf 0 ++ (9 ∷ [])) (text "refused 21 at 9\n") × Printed (budgetOf 0 ++ (3 ∷ 3 ∷ [])) (text "refused 24 at 10\n") × (decimal 32000000000000 ≡ text "32000000000000")
 unfolding loadedFrom formOf readFrom text decimal digits
 refusal-lines = (refl, refl, refl)
 
 -- ---- the state buffer
 
--- The first wait stands at byte 0, the slots left from byte 64 on, the last-run task at 128, and behind it what the step told. A step reads
--- the same state from there.
+-- The first wait stands at byte 0, the slots left behind the last wait, then the last-run task, and behind it what the step told. A step
+-- reads the same state from there.
 abbrev kept : State
-kept = record { wait = 67305985 ∷ replicate 14 0 ++ (8 ∷ []); left = 3 ∷ replicate 14 0 ++ (9 ∷ []); last = 4 }
+kept = record { wait = 67305985 ∷ replicate (taskLimit - 2) 0 ++ (8 ∷ []); left = 3 ∷ replicate (taskLimit - 2) 0 ++ (9 ∷ []); last = 4 }
 
 abbrev kept-bytes : List ℕ
-kept-bytes = 1 ∷ 2 ∷ 3 ∷ 4 ∷ replicate 56 0 ++ word 8 ++ word 3 ++ replicate 56 0 ++ word 9 ++ word 4 ++ word 5 ++ word 6 ++ word 7
+kept-bytes = 1 ∷ 2 ∷ 3 ∷ 4 ∷ replicate (4 * (taskLimit - 2)) 0 ++ word 8 ++ word 3 ++ replicate (4 * (taskLimit - 2)) 0 ++ word 9 ++ word 4 ++ word 5 ++ word 6 ++ word 7
 
 layout : (bufferOf kept (record { owner = 0; late = 5; closed = 6; lowest = 7 }) ≡ kept-bytes) × (stateIn kept-bytes ≡ kept)
 unfolding bufferOf bytesOf stateIn fill
@@ -566,12 +587,12 @@ layout = (refl, refl)
 
 -- A start on b; a buffer of another length is 50 at its length, or at 65,535, also with a broken file; a damaged file and a table's refusal write nowhere.
 camera-starts :
-    (startExported file-b (replicate 144 9) ≡ record { number = 0; buffer = word 8 ++ replicate 124 0 ++ word 16 ++ word 0 ++ word 0 ++ word 16 })
+    (startExported file-b (replicate stateBytes 9) ≡ record { number = 0; buffer = word 8 ++ replicate (8 * taskLimit - 4) 0 ++ word taskLimit ++ word 0 ++ word 0 ++ word taskLimit })
     × (startExported (9 ∷ []) (7 ∷ []) ≡ record { number = 3276801; buffer = 7 ∷ [] })
-    × (startExported (9 ∷ []) (replicate 145 7) ≡ record { number = 3276945; buffer = replicate 145 7 })
+    × (startExported (9 ∷ []) (replicate (stateBytes + 1) 7) ≡ record { number = 3276800 + (stateBytes + 1); buffer = replicate (stateBytes + 1) 7 })
     × (startExported (9 ∷ []) (replicate 65536 7) .number ≡ 3342335)
-    × (startExported (9 ∷ []) (replicate 144 7) ≡ record { number = 1376256; buffer = replicate 144 7 })
-    × (startExported (budgetOf 0 ++ (3 ∷ [])) (replicate 144 7) ≡ record { number = 65536; buffer = replicate 144 7 })
+    × (startExported (9 ∷ []) (replicate stateBytes 7) ≡ record { number = 1376256; buffer = replicate stateBytes 7 })
+    × (startExported (budgetOf 0 ++ (3 ∷ [])) (replicate stateBytes 7) ≡ record { number = 65536; buffer = replicate stateBytes 7 })
 unfolding bufferOf bytesOf started startOf fill formOf readFrom judged firstFaulty taskFault first round load horizon largest sum count
 camera-starts = (refl, refl, refl, refl, refl, refl)
 
@@ -586,13 +607,13 @@ reports : ℕ → ℕ
 reports n = getD (0 ∷ 2 ∷ []) n 0
 
 camera-steps :
-    (map (λ n. stepExported file-g (handed file-g (replicate 144 9) reports n) (reports n) .number) (0 ∷ 1 ∷ 2 ∷ 3 ∷ 4 ∷ []) ≡ 0 ∷ 1 ∷ 1 ∷ 16 ∷ 0 ∷ [])
-    × (handed file-f (replicate 144 9) (λ n. 0) 2 ≡ replicate 128 0 ++ word 16 ++ word 2 ++ word 1 ++ word 1)
+    (map (λ n. stepExported file-g (handed file-g (replicate stateBytes 9) reports n) (reports n) .number) (0 ∷ 1 ∷ 2 ∷ 3 ∷ 4 ∷ []) ≡ 0 ∷ 1 ∷ 1 ∷ taskLimit ∷ 0 ∷ [])
+    × (handed file-f (replicate stateBytes 9) (λ n. 0) 2 ≡ replicate (8 * taskLimit) 0 ++ word taskLimit ++ word 2 ++ word 1 ++ word 1)
 unfolding reports handed stateIn bufferOf bytesOf started startOf stepped after turn ownerNow choose fill bits firstStrange formOf readFrom judged firstFaulty taskFault first round load horizon largest sum count
 camera-steps = (refl, refl)
 
 -- A state that is not g's is 8, and stays.
-camera-stranger : stepExported file-g (replicate 144 7) 0 ≡ record { number = 524288; buffer = replicate 144 7 }
+camera-stranger : stepExported file-g (replicate stateBytes 7) 0 ≡ record { number = 524288; buffer = replicate stateBytes 7 }
 unfolding stateIn stepped fill firstStrange formOf readFrom judged firstFaulty taskFault first round load horizon largest sum count
 camera-stranger = refl
 
@@ -657,7 +678,7 @@ tasksOfOne : ℕ → List ℕ
 tasksOfOne zero = []
 tasksOfOne (suc n) = text "task 0 1 1 1\n" ++ tasksOfOne n
 
--- A seventeenth task is 66, whatever follows it on its line.
-many-lines : (textLoaded (text "budget 0\n" ++ tasksOfOne 16) .admission ≡ Admission.Admitted) × (textLoaded (text "budget 0\n" ++ tasksOfOne 16 ++ text "task x") .admission ≡ at 66 18)
+-- A task too many is 66, whatever follows it on its line.
+many-lines : (textLoaded (text "budget 0\n" ++ tasksOfOne taskLimit) .admission ≡ Admission.Admitted) × (textLoaded (text "budget 0\n" ++ tasksOfOne taskLimit ++ text "task x") .admission ≡ at 66 (taskLimit + 2))
 unfolding tasksOfOne textLoaded textForm readLines lineOf budgetLine taskLine numbersFault valueAfter allDigits same filled split text judged firstFaulty taskFault first round load horizon largest sum count
 many-lines = (refl, refl)

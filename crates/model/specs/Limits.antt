@@ -1,9 +1,9 @@
--- The limits of document 01, each once.
+-- The limits of document 01 as request T-08 of document 02 raised them, each once.
 use Rattle.model.specs.Notation.{ℕ, _+_, _*_}
 
 -- Tasks in a table. The same number stands for no task.
 abbrev pub taskLimit : ℕ
-taskLimit = 16
+taskLimit = 32
 
 -- A period; an offset.
 abbrev pub slotLimit : ℕ
@@ -11,11 +11,11 @@ slotLimit = 60000
 
 -- H, the least common multiple of the periods.
 abbrev pub roundLimit : ℕ
-roundLimit = 1000000000
+roundLimit = 1000000000000
 
 -- The bytes of a report buffer.
 abbrev pub reportBytes : ℕ
-reportBytes = 512
+reportBytes = 1024
 
 -- A number of four bytes is below this, and a budget, of eight, below its square.
 abbrev pub wordLimit : ℕ

@@ -236,7 +236,7 @@ tasks-read b n ks (k ∷ more) fits room =
     rw (line-then (taskContent k) (taskTexts more) (task-clear k), task-said k (length ks) (omega arith) (fits 0 (omega arith)))
     (tasks-read b (suc n) (ks ++ (k ∷ [])) more (λ i l. fits (suc i) (omega arith)) (omega (arith, length-append ks (k ∷ []))) ∙ ap (admit b) (append-snoc ks k more))
 
--- The text of a budget below 2^64 and of at most 16 tasks, each number below 2^32, has a good form and holds these.
+-- The text of a budget below 2^64 and of at most `taskLimit` tasks, each number below 2^32, has a good form and holds these.
 pub text-read : (b : ℕ) (ks : List Task) → b < budgetLimit → AllFit ks → length ks ≤ taskLimit → textForm (textOf b ks) ≡ admit b ks
 unfolding textForm readLines
 text-read b ks limit fits few =

@@ -1,14 +1,15 @@
 // Tables in plain text, read where they lie and written into a lent buffer.
 ghost use mathlib.Core.Path.{_≡_};
 ghost use mathlib.Core.Bool.{true, cond};
-ghost use Prim.Native.Nat.{suc, _+_, _-_, _≤_, min};
+ghost use Prim.Native.Nat.{suc, _+_, _-_, _≤_, _<_, min};
 ghost use lib.ListN.{length, take};
-ghost use Rattle.model.specs.Limits.{longestText};
+ghost use Rattle.model.specs.Limits.{taskLimit, longestText};
 ghost use Rattle.model.specs.TableFile.{refuseFile};
 ghost use Rattle.model.specs.PlainText.{isGap, isDigit, withoutReturn, contentOf, wordsOf, allDigits, numbersFault, same, budgetLine, taskLine, lineOf, textForm, textLoaded, taskText, taskTexts, textOf, textWritten, fromText, toText};
 ghost use Rattle.model.specs.Writer.{tasksOf, fitted};
 ghost use Rattle.counting.specs.Put.{Put};
 ghost use Rattle.wellformed.specs.Ranges.{Ranged};
+ghost use Rattle.tablefile.specs.Built.{withTask};
 ghost use Rattle.writer.specs.Records.{filled};
 ghost use Rattle.plaintext.specs.Marks.{isMark, lengthTo};
 ghost use Rattle.plaintext.specs.Words.{NextWord};
@@ -36,8 +37,8 @@ const LARGEST_BUDGET: u64 = 18_446_744_073_709_551_615;
 
 const LAST_LINE: u32 = 65_535;
 
-// Room for the longest text, and for numbers of 64 bits in its last line.
-const ASIDE: usize = 552;
+// Room for the longest text, the lines of a budget and of every task, and for numbers of 64 bits in its last line.
+const ASIDE: usize = 28 + TASK_LIMIT * 29 + 60;
 
 const UNKNOWN_WORD: u32 = 60;
 
@@ -326,6 +327,17 @@ fn refused(number: u32, line: u32) -> Loaded
     })
 }
 
+fn with_task(table: Table, task: Task) -> Table
+    requires { ⌜ table .count < taskLimit ⌝ }
+    ensures { λ r. ⌜ r ≡ withTask table task ⌝ }
+{
+    let mut longer = table;
+    let count = table.count;
+    longer.tasks[count] = task;
+    longer.count = count + 1;
+    longer
+}
+
 // The text's form alone: its table is not judged.
 pub fn form_of(text: &[u8]) -> Loaded
     ensures { λ r. ⌜ r ≡ textForm (now (text .entry)) ⌝ }
@@ -345,7 +357,7 @@ pub fn form_of(text: &[u8]) -> Loaded
                 budget = slots;
             }
             Line::OneTask(task) => {
-                table = tablefile::with_task(table, task);
+                table = with_task(table, task);
             }
             Line::Fault(number) => {
                 return refused(number, line);

@@ -65,7 +65,7 @@ refused-camera-state file buffer done r size f g = rw (eq-eqb (length buffer) st
 pub taken-camera-state : (file buffer : List ℕ) (done : ℕ) (u : Turn) → length buffer ≡ stateBytes → formOf file .admission ≡ Admission.Admitted → let s = stepped (formOf file .table) (stateIn buffer) (not (eqb done 0)) in s .given ≡ Given.Slot u → stepExported file buffer done ≡ record { number = u .owner; buffer = bufferOf (s .state) u }
 taken-camera-state file buffer done u size f g = rw (eq-eqb (length buffer) stateBytes size, f, onFile, g)
 
--- A start returns 0 and a step a task of the table or 16, or it refuses by a number above 0 and a place below 65,536 and changes no byte. What
+-- A start returns 0 and a step a task of the table or none, or it refuses by a number above 0 and a place below 65,536 and changes no byte. What
 -- is returned then tells both (`told-from-number` of Demand1).
 pub start-or-refusal : (file buffer : List ℕ) → let e = startExported file buffer in (e .number ≡ 0) ⊎ ((r : Refusal) × (e ≡ refused r buffer) × ((0 < r .number) × (r .place < 65536)))
 start-or-refusal = start-apart

@@ -70,7 +70,7 @@ one-start t a b e f = one-started a b (e ∙ sym f)
 pub one-step : (t : Table) (d : Dispatcher) (done : Bool) (a b : Stepped) → steppedOf a ≡ stepped t (stateOf d) done → steppedOf b ≡ stepped t (stateOf d) done → a ≡ b
 one-step t d done a b e f = one-stepped a b (e ∙ sym f)
 
--- A table is well-formed exactly if it has 1 to 16 tasks, each of them keeps its ranges, and H keeps its limit.
+-- A table is well-formed exactly if it has 1 to `taskLimit` tasks, each of them keeps its ranges, and H keeps its limit.
 abbrev pub InRanges : Task → Type 0
 InRanges k = (1 ≤ k .period) × (k .period ≤ slotLimit) × (1 ≤ k .deadline) × (k .deadline ≤ k .period) × (1 ≤ k .cost) × (k .cost ≤ k .deadline) × (k .offset ≤ slotLimit)
 
@@ -142,7 +142,7 @@ told-apart : (buffer : List ℕ) (l : Loaded) (e : Exported) (a : Admission) →
 told-apart buffer l e (Admission.Refused r) h q = inr (r, q, h)
 told-apart buffer l e Admission.Admitted h (a, p, q) = rw q (outcome-apart l buffer a p (a .outcome) refl (permitted-fits (l .table) (l .budget) (quickPass (l .table)) a p))
 
--- The exported call writes the report on the permitted answer, of at most 512 bytes, and returns its length, or it refuses by a
+-- The exported call writes the report on the permitted answer, of at most `reportBytes`, and returns its length, or it refuses by a
 -- number above 0 and a place below 65,536 and changes no byte.
 pub report-or-refusal : (file buffer : List ℕ) (e : Exported) → Checked file buffer e → Reported (loadedFrom file) buffer e ⊎ ((r : Refusal) × (e ≡ refused r buffer) × ((0 < r .number) × (r .place < 65536)))
 report-or-refusal file buffer e = told-apart buffer (loadedFrom file) e (taken file buffer) (tellable (ltb (length buffer) reportBytes) refl)
@@ -205,7 +205,7 @@ pub started-said : (t : Table) (m : Measure) → judged t ≡ Judgement.WellForm
 unfolding started
 started-said t m well = rw well refl
 
--- The file of any budget of eight bytes and of at most 16 tasks, each number below 2^32, has a good form and holds these.
+-- The file of any budget of eight bytes and of at most `taskLimit` tasks, each number below 2^32, has a good form and holds these.
 pub written-is-read : (b : ℕ) (ks : List Task) → b < budgetLimit → AllFit ks → length ks ≤ taskLimit → formOf (fileOf b ks) ≡ admit b ks
 written-is-read = written-read
 
@@ -261,7 +261,7 @@ refused-answer t budget r a e p = rw e at p
 pub refused-answer-said : (t : Table) (budget : ℕ) (r : Refusal) (a : Answer) → judged t ≡ Judgement.Refused r → Permitted t budget a → outcomeSaid (a .outcome) ≡ refusalSaid r
 refused-answer-said t budget r a e p = ap (λ (x : Answer). outcomeSaid (x .outcome)) (refused-answer t budget r a e p)
 
--- A state that does not belong to the table is refused by 8 with the first such task, or with 16 for the last-run number.
+-- A state that does not belong to the table is refused by 8 with the first such task, or with `taskLimit` for the last-run number.
 pub strange-state : (t : Table) (m : Measure) (d : State) (done : Bool) → judged t ≡ Judgement.WellFormed m → firstStrange t d < t .count → givenSaid (stepped t d done .given) ≡ 8 ∷ firstStrange t d ∷ []
 unfolding stepped
 strange-state t m d done well h = rw (well, lt-ltb (firstStrange t d) (t .count) h) refl
@@ -275,13 +275,13 @@ pub taken-state : (t : Table) (m : Measure) (d : State) (done : Bool) → judged
 unfolding stepped
 taken-state t m d done well h last = rw (well, le-ltb (firstStrange t d) (t .count) h, last) refl
 
--- The answer is then 0 with the owner, the tasks closed late as a set of bits, how many, and the lowest of them or 16.
+-- The answer is then 0 with the owner, the tasks closed late as a set of bits, how many, and the lowest of them or none.
 pub taken-said : (t : Table) (m : Measure) (d : State) (done : Bool) → judged t ≡ Judgement.WellFormed m → t .count ≤ firstStrange t d → lastStrange t d ≡ false
     → givenSaid (stepped t d done .given) ≡ 0 ∷ ownerNow t d done ∷ bits (isLate t d done) taskLimit ∷ count (isLate t d done) taskLimit ∷ first (isLate t d done) 0 taskLimit ∷ []
 unfolding turn
 taken-said t m d done well h last = rw (taken-state t m d done well h last) refl
 
--- A state that is taken leads to one that is taken, whoever made it: once a step is not refused, none after it is. A state has 16 entries in each list.
+-- A state that is taken leads to one that is taken, whoever made it: once a step is not refused, none after it is. A state has `taskLimit` entries in each list.
 pub taken-next : (t : Table) (m : Measure) (d : State) (done : Bool) → judged t ≡ Judgement.WellFormed m
     → length (d .wait) ≡ taskLimit → length (d .left) ≡ taskLimit → t .count ≤ firstStrange t d → lastStrange t d ≡ false
     → let next = after t d done in (length (next .wait) ≡ taskLimit) × (length (next .left) ≡ taskLimit) × (t .count ≤ firstStrange t next) × (lastStrange t next ≡ false)

@@ -48,7 +48,7 @@ one-from-text-export s buffer a b e f = e ∙ sym f
 pub one-to-text-export : (file buffer : List ℕ) (a b : Exported) → a ≡ toTextExported file buffer → b ≡ toTextExported file buffer → a ≡ b
 one-to-text-export file buffer a b e f = e ∙ sym f
 
--- The text of any budget below 2^64 and of at most 16 tasks, each number below 2^32, has a good form and holds these.
+-- The text of any budget below 2^64 and of at most `taskLimit` tasks, each number below 2^32, has a good form and holds these.
 pub text-is-read : (b : ℕ) (ks : List Task) → b < budgetLimit → AllFit ks → length ks ≤ taskLimit → textForm (textOf b ks) ≡ admit b ks
 text-is-read = text-read
 
@@ -90,7 +90,7 @@ pub refused-to-text : (file buffer : List ℕ) (r : Refusal) → loadedFrom file
     → let f = toText file buffer in (writingSaid (f .said) ≡ refusalSaid r) × (f .buffer ≡ buffer)
 refused-to-text = told.refused-to-text
 
--- From text to file: the file, of at most 282 bytes, at the buffer's front and its length returned, or a refusal by a number above 0 and a place
+-- From text to file: the file, of at most `longestFile` bytes, at the buffer's front and its length returned, or a refusal by a number above 0 and a place
 -- below 65,536 that changes no byte.
 pub from-text-or-refusal : (s buffer : List ℕ)
     → let l = textForm s in
@@ -99,7 +99,7 @@ pub from-text-or-refusal : (s buffer : List ℕ)
     ⊎ ((r : Refusal) × (fromTextExported s buffer ≡ refused r buffer) × ((0 < r .number) × (r .place < 65536)))
 from-text-or-refusal = told.from-text-apart
 
--- From file to text: in the same way, of any list of bytes, and a text has at most 492 bytes.
+-- From file to text: in the same way, of any list of bytes, and a text has at most `longestText` bytes.
 pub to-text-or-refusal : (file buffer : List ℕ) → ((i : ℕ) → getD file i 0 < 256)
     → let l = formOf file in
     let text = textOf (l .budget) (tasksOf (l .table)) in

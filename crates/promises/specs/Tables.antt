@@ -2,7 +2,6 @@
 use mathlib.Core.Path.{_≡_, refl, subst}
 use mathlib.Core.List.{List, [], _∷_, map}
 use Prim.Native.Nat.{ℕ}
-use lib.ListN.{replicate}
 use Rattle.values.specs.declared.Table.{Table}
 use Rattle.values.specs.declared.Measure.{Measure}
 use Rattle.values.specs.declared.Verdict.{Verdict}
@@ -17,7 +16,7 @@ use Rattle.model.specs.Idle.{idleAt, firstIdle}
 use Rattle.model.specs.Verdict.{needed, lateStart, verdict, settledBy, brief, Permitted}
 use Rattle.model.specs.Dispatcher.{startOf, ownerNow, after}
 use Rattle.model.specs.History.{stateAt}
-use Rattle.model.specs.Examples.{table-a, table-b, table-c, table-d, table-e, table-f, table-g, table-h, table-i, table-j, table-lamp}
+use Rattle.model.specs.Examples.{padded, table-a, table-b, table-c, table-d, table-e, table-f, table-g, table-h, table-i, table-j, table-lamp}
 use Rattle.backlog.specs.WalkWorst.{worstBy}
 use Rattle.backlog.specs.Computed.{answerOf, computed}
 
@@ -41,21 +40,21 @@ row t budget a = record { table = t; budget = budget; answer = a }
 
 abbrev pub rows : List Row
 rows =
-    row table-a 1000 (passes (measured 1 1 2) (1 ∷ replicate 15 0) 1)
-    ∷ row table-b 1000 (passes (measured 15 11 38) (7 ∷ 2 ∷ replicate 14 0) 2)
+    row table-a 1000 (passes (measured 1 1 2) (padded 0 (1 ∷ [])) 1)
+    ∷ row table-b 1000 (passes (measured 15 11 38) (padded 0 (7 ∷ 2 ∷ [])) 2)
     ∷ row table-c 1000 (told (Verdict.Late 8 15 8) (measured 15 12 38) 15)
     ∷ row table-d 1000 (told (Verdict.Late 0 7 9) (measured 15 11 30) 7)
-    ∷ row table-e 1000 (passes (measured 2 2 5) (1 ∷ 1 ∷ replicate 14 0) 1)
+    ∷ row table-e 1000 (passes (measured 2 2 5) (padded 0 (1 ∷ 1 ∷ [])) 1)
     ∷ row table-f 1000 (told (Verdict.Late 0 1 2) (measured 2 2 4) 1)
-    ∷ row table-g 1000 (passes (measured 4 4 8) (2 ∷ 4 ∷ replicate 14 0) 4)
+    ∷ row table-g 1000 (passes (measured 4 4 8) (padded 0 (2 ∷ 4 ∷ [])) 4)
     ∷ row table-h 1000 (told (Verdict.Late 4 7 4) (measured 4 4 12) 7)
     ∷ row table-i 1000 (told Verdict.Overload (measured 5 6 12) 0)
-    ∷ row table-j 1000 (passes (measured 2 1 8) (1 ∷ replicate 15 0) 1)
+    ∷ row table-j 1000 (passes (measured 2 1 8) (padded 0 (1 ∷ [])) 1)
     ∷ row table-b 37 (told Verdict.Undecided (measured 15 11 38) 37)
-    ∷ row table-b 38 (passes (measured 15 11 38) (7 ∷ 2 ∷ replicate 14 0) 2)
+    ∷ row table-b 38 (passes (measured 15 11 38) (padded 0 (7 ∷ 2 ∷ [])) 2)
     ∷ row table-c 14 (told Verdict.Undecided (measured 15 12 38) 14)
     ∷ row table-c 15 (told (Verdict.Late 8 15 8) (measured 15 12 38) 15)
-    ∷ row table-lamp 1000 (passes (measured 6 6 15) (6 ∷ 1 ∷ replicate 14 0) 5)
+    ∷ row table-lamp 1000 (passes (measured 6 6 15) (padded 0 (6 ∷ 1 ∷ [])) 5)
     ∷ []
 
 -- Every row's answer is the one permitted.

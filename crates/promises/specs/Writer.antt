@@ -41,7 +41,7 @@ pub short-writing : (t : Table) (m : Measure) (budget : ℕ) (buffer : List ℕ)
     → let f = fileWritten t budget buffer in (writingSaid (f .said) ≡ 31 ∷ length buffer ∷ []) × (f .buffer ≡ buffer)
 short-writing t m budget buffer well h = rw (told.short-writing t m budget buffer well h) (refl, refl)
 
--- Any other gets the file at its front, of at most 282 bytes, and its length is told; the bytes behind it stay as they were.
+-- Any other gets the file at its front, of at most `longestFile` bytes, and its length is told; the bytes behind it stay as they were.
 pub long-writing : (t : Table) (m : Measure) (budget : ℕ) (buffer : List ℕ) → judged t ≡ Judgement.WellFormed m → length (fileOf budget (tasksOf t)) ≤ length buffer
     → let f = fileWritten t budget buffer in
     let file = fileOf budget (tasksOf t) in
@@ -73,12 +73,12 @@ module _ (words : List ℕ) (whole : eqb (length words % rowWords) 0 ≡ true) (
   pub rows-written : ((k : ℕ) → k < rows words → isTask words k ≡ true) → let f = fileWritten (tableIn words) budget buffer in writeExported words budget buffer ≡ fillTold (f .buffer) (f .said)
   rows-written = told.rows-written words whole budget buffer
 
--- That table has the tasks of the rows, in their order, and counts all rows: more than 16 of them are refused by 2.
+-- That table has the tasks of the rows, in their order, and counts all rows: more than `taskLimit` of them are refused by 2.
 pub rows-tasks : (words : List ℕ) → (tableIn words .count ≡ rows words) × ((i : ℕ) → i < rows words → i < taskLimit → task (tableIn words) i ≡ rowTask words i)
 unfolding tableIn
 rows-tasks words = (refl, told.rows-tasks words)
 
--- The exported call writes the file of the rows' table and returns its length, at most 282, or it refuses by a number above 0 and a place below
+-- The exported call writes the file of the rows' table and returns its length, at most `longestFile`, or it refuses by a number above 0 and a place below
 -- 65,536 and changes no byte.
 pub write-or-refusal : (words : List ℕ) (budget : ℕ) (buffer : List ℕ)
     → let file = fileOf budget (tasksOf (tableIn words)) in

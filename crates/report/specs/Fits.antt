@@ -11,7 +11,7 @@ use Rattle.model.specs.Notation.{text, decimal}
 use Rattle.model.specs.Report.{line, quickWord, verdictWord, worstLines, details, reportOf}
 use Rattle.text.specs.Decimal.{numberBytes, short, wide}
 
--- The lines `quick pass` or `quick none`, `verdict undecided`, `worst 15 ..` with a number of 32 bits, and `interval .. .. demand ..`.
+-- The lines `quick pass` or `quick none`, `verdict undecided`, `worst 31 ..` with a number of 32 bits, and `interval .. .. demand ..`.
 abbrev pub quickBytes : ℕ
 quickBytes = 11
 

@@ -31,7 +31,7 @@ Apart Taken buffer e = Taken e ⊎ ((r : Refusal) × (e ≡ refused r buffer) ×
 abbrev TakenStart : Exported → Type 0
 TakenStart e = e .number ≡ 0
 
--- A step that is taken returns a task of the table or 16.
+-- A step that is taken returns a task of the table or none.
 abbrev TakenStep : Table → Exported → Type 0
 TakenStep t e = (e .number ≤ taskLimit) × ((e .number ≡ taskLimit) ⊎ (e .number < t .count))
 

@@ -1,4 +1,4 @@
--- What a loaded file tells of its form and its table: an admitted one is as its form has it, with a well-formed table of at most 16
+-- What a loaded file tells of its form and its table: an admitted one is as its form has it, with a well-formed table of at most `taskLimit`
 -- tasks; a refused one is refused for its form or, if that is good, for its table.
 use mathlib.Core.Path.{_≡_, refl, ap, _∙_}
 use mathlib.Core.Logic.{_⊎_, inl, inr}

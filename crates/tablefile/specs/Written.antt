@@ -101,7 +101,7 @@ module _ (s : List ℕ) where
       go false false true kind = refusal-holds 22 0
       go false false false kind = refusal-holds 21 0
 
-  -- A file of good form has the bytes of a budget, of its tasks, at most 16, and of the end.
+  -- A file of good form has the bytes of a budget, of its tasks, at most `taskLimit`, and of the end.
   pub form-length : formOf s .admission ≡ Admission.Admitted
       → (formOf s .table .count ≤ taskLimit) × (length s ≡ budgetBytes + formOf s .table .count * taskBytes + 1)
   form-length h = let (kind, (ks, few, stand, same)) = form-holds h in rw same (few, stand-length budgetBytes ks stand)
@@ -198,7 +198,7 @@ module _ (s : List ℕ) (bytes : (i : ℕ) → getD s i 0 < 256) where
       let upper = word-here s bytes (1 + 4) budgetBytes refl (omega arith) in
       drop-cons s 0 0 (omega arith) ∙ rw (low, high, kind, lower, upper, stand-written budgetBytes ks stand)
 
-  -- A file of good form is what the writer writes of its budget and of the tasks of its table, at most 16.
+  -- A file of good form is what the writer writes of its budget and of the tasks of its table, at most `taskLimit`.
   pub read-written : formOf s .admission ≡ Admission.Admitted
       → (formOf s .budget < budgetLimit)
       × ((ks : List Task) × (length ks ≤ taskLimit) × AllFit ks × (s ≡ fileOf (formOf s .budget) ks) × (formOf s ≡ admit (formOf s .budget) ks))

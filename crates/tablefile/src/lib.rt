@@ -10,10 +10,9 @@ ghost use mathlib.Core.Path.{_≡_};
 ghost use mathlib.Core.List.{[]};
 ghost use Prim.Native.Nat.{_+_, _<_, _≤_};
 ghost use lib.ListN.{length};
-ghost use Rattle.model.specs.Limits.{taskLimit, longestFile};
+ghost use Rattle.model.specs.Limits.{longestFile};
 ghost use Rattle.model.specs.TableFile.{eight, taskIn, tableOf, refuseFile, formOf, loadedFrom};
 ghost use Rattle.tablefile.specs.Reading.{budgetBody, taskBody, refused, budgetReading, taskReading, endReading, readingAt};
-ghost use Rattle.tablefile.specs.Built.{withTask};
 
 pub const BUDGET: u8 = 1;
 
@@ -171,17 +170,6 @@ pub fn no_tasks() -> Table
     }
 }
 
-pub fn with_task(table: Table, task: Task) -> Table
-    requires { ⌜ table .count < taskLimit ⌝ }
-    ensures { λ r. ⌜ r ≡ withTask table task ⌝ }
-{
-    let mut longer = table;
-    let count = table.count;
-    longer.tasks[count] = task;
-    longer.count = count + 1;
-    longer
-}
-
 pub fn refused_file(why: Refusal) -> Loaded
     ensures { λ r. ⌜ r ≡ refuseFile (why .number) (why .place) ⌝ }
 {
@@ -209,8 +197,11 @@ pub fn form_of(file: &[u8]) -> Loaded
                     budget = slots;
                     at = at + BUDGET_BYTES;
                 }
+                // in place: a table handed over and back would be copied for every task
                 Record::OneTask(task) => {
-                    table = with_task(table, task);
+                    let count = table.count;
+                    table.tasks[count] = task;
+                    table.count = count + 1;
                     at = at + TASK_BYTES;
                 }
                 Record::End => {

@@ -1,10 +1,12 @@
 // The exported calls on lent buffers: numbers 30 and 50, a report's length, and what start and step leave in a state buffer.
-// Results and words are told as they are: no task is 16.
+// Results and words are told as they are.
 use crate::files;
 use crate::files::Draft;
 use crate::say;
 use crate::tables;
+use values::REPORT_BYTES;
 use values::STATE_BYTES;
+use values::TASK_LIMIT;
 
 // The longest buffer that is lent.
 const ROOM: usize = 65_536;
@@ -13,26 +15,29 @@ const ROOM: usize = 65_536;
 const REFUSALS: u64 = 65_536;
 
 // The words of a state buffer.
-const WORDS: usize = 36;
+const WORDS: usize = STATE_BYTES / 4;
+
+// The word of the task that ran last, behind those of the waits and of the slots left.
+const LAST: usize = 2 * TASK_LIMIT;
 
 type State = [u8; STATE_BYTES];
 
 pub fn checks() {
     let b = files::whole(tables::b());
-    check(b"b, 511 bytes", b, 511);
-    check(b"b, 512 bytes", b, 512);
-    check(b"kind 4 at 9, 511 bytes", damaged(), 511);
-    check(b"kind 4 at 9, 512 bytes", damaged(), 512);
+    check(b"b, a byte short", b, REPORT_BYTES - 1);
+    check(b"b, long enough", b, REPORT_BYTES);
+    check(b"kind 4 at 9, a byte short", damaged(), REPORT_BYTES - 1);
+    check(b"kind 4 at 9, long enough", damaged(), REPORT_BYTES);
 }
 
 pub fn lengths() {
     let g = files::whole(tables::g());
-    start_in(b"g, 143 bytes", g, 143);
-    start_in(b"g, 145 bytes", g, 145);
+    start_in(b"g, a byte short", g, STATE_BYTES - 1);
+    start_in(b"g, a byte long", g, STATE_BYTES + 1);
     start_in(b"g, 65536 bytes", g, 65_536);
-    start_in(b"kind 4 at 9, 143 bytes", damaged(), 143);
-    step_in(b"g, 143 bytes", g, 143);
-    step_in(b"g, 145 bytes", g, 145);
+    start_in(b"kind 4 at 9, a byte short", damaged(), STATE_BYTES - 1);
+    step_in(b"g, a byte short", g, STATE_BYTES - 1);
+    step_in(b"g, a byte long", g, STATE_BYTES + 1);
 }
 
 pub fn on_g() {
@@ -55,7 +60,7 @@ pub fn refusals() {
     let state = start(b"b", b);
     step(b"b, task 0 waits T + 1", b, with(state, 0, 16), 0);
     step(b"b, task 1 waits T + 1", b, with(state, 1, 6), 0);
-    step(b"b, last run 2", b, with(state, 32, 2), 1);
+    step(b"b, last run 2", b, with(state, LAST, 2), 1);
     step(b"kind 4 at 9", damaged(), state, 0);
     start(b"kind 4 at 9", damaged());
 }
@@ -174,17 +179,17 @@ fn say_words(state: State) {
     say::words(b" ");
     say_word(state, 1);
     say::words(b", left ");
-    say_word(state, 16);
+    say_word(state, TASK_LIMIT);
     say::words(b" ");
-    say_word(state, 17);
+    say_word(state, TASK_LIMIT + 1);
     say::words(b", last ");
-    say_word(state, 32);
+    say_word(state, LAST);
     say::words(b", late ");
-    say_word(state, 33);
+    say_word(state, LAST + 1);
     say::words(b", closed ");
-    say_word(state, 34);
+    say_word(state, LAST + 2);
     say::words(b", lowest ");
-    say_word(state, 35);
+    say_word(state, LAST + 3);
     say::words(b"\n");
 }
 

@@ -62,7 +62,10 @@ pub fn open_jobs() {
 pub fn last_runs() {
     step_b(b"b, last run 1", state(at(8, 0), at(5, 0), 1));
     step_b(b"b, last run 2", state(at(8, 0), at(5, 0), 2));
-    step_b(b"b, last run 17", state(at(8, 0), at(5, 0), 17));
+    step_b(
+        b"b, last run above none",
+        state(at(8, 0), at(5, 0), NO_TASK + 1),
+    );
     step_b(
         b"b, last run 2, task 1 waits T + 1",
         state(at(8, 0), at(6, 0), 2),
@@ -91,7 +94,10 @@ pub fn reports() {
 
 pub fn refused_tables() {
     start(b"no task", tables::alike(0, task(0, 1, 1, 1)));
-    start(b"17 tasks", tables::alike(17, task(0, 1, 1, 1)));
+    start(
+        b"a task too many",
+        tables::alike(TASK_LIMIT + 1, task(0, 1, 1, 1)),
+    );
     step(
         b"no task, done",
         state(at(1, 2), at(3, 4), 5),
@@ -181,7 +187,7 @@ fn say_turn(turn: Turn) {
     say::words(b", closed ");
     say::small(turn.closed);
     say::words(b", lowest ");
-    say::small(turn.lowest);
+    say_task(turn.lowest);
 }
 
 fn say_state(d: Dispatcher) {

@@ -1,9 +1,10 @@
 // Table files, byte by byte as document 01 lays them out.
+use values::LONGEST_FILE;
 use values::TASK_LIMIT;
 use values::Table;
 use values::Task;
 
-const SPACE: usize = 320;
+const SPACE: usize = LONGEST_FILE + 38;
 
 // A file in the making: the bytes below `length`.
 pub struct Draft {

@@ -3,13 +3,17 @@ use crate::say;
 use crate::tables;
 use crate::tables::task;
 use values::Judgement;
+use values::TASK_LIMIT;
 use values::Table;
 use values::Task;
 
 pub fn counts() {
     judge(b"no task", tables::alike(0, task(0, 1, 1, 1)));
-    judge(b"16 tasks", tables::alike(16, task(0, 1, 1, 1)));
-    judge(b"17 tasks", tables::alike(17, task(0, 1, 1, 1)));
+    judge(b"most tasks", tables::alike(TASK_LIMIT, task(0, 1, 1, 1)));
+    judge(
+        b"a task too many",
+        tables::alike(TASK_LIMIT + 1, task(0, 1, 1, 1)),
+    );
 }
 
 pub fn ranges() {
@@ -36,14 +40,30 @@ pub fn order() {
     );
     judge(
         b"O wrong in task 1, H too large",
-        tables::pair(task(0, 1, 1, 31_623), task(60_001, 1, 1, 31_624)),
+        tables::three(
+            task(0, 1, 1, 4_093),
+            task(60_001, 1, 1, 8_779),
+            task(0, 1, 1, 27_830),
+        ),
     );
 }
 
 pub fn rounds() {
     judge(b"periods 31622 and 31623", tables::periods(31_622, 31_623));
     judge(b"periods 31623 and 31624", tables::periods(31_623, 31_624));
-    judge(b"periods 59985 to 60000", tables::sixteen(59_985, 1));
+    judge(
+        b"periods 7777, 9901 and 12987",
+        tables::three(
+            task(0, 1, 1, 7_777),
+            task(0, 1, 1, 9_901),
+            task(0, 1, 1, 12_987),
+        ),
+    );
+    judge(b"periods 4093, 8779 and 27830", tables::too_long());
+    judge(
+        b"most tasks, periods from 59000 on",
+        tables::most(59_000, 1),
+    );
 }
 
 pub fn measures() {

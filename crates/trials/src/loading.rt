@@ -47,14 +47,14 @@ pub fn ends() {
 }
 
 pub fn many_tasks() {
-    let most = unended(tables::sixteen(16, 0));
-    load(b"16 tasks", most.end());
-    load(b"16 tasks, no end", most);
-    load(b"16 tasks, another budget", most.budget(1000));
-    load(b"16 tasks, kind 4", most.byte(4));
-    load(b"16 tasks, kind 4 after the end", most.end().byte(4));
-    load(b"17 tasks", most.task(task(0, 1, 16, 16)).end());
-    load(b"17 tasks, the last cut short", most.byte(2));
+    let most = unended(tables::most(16, 0));
+    load(b"most tasks", most.end());
+    load(b"most tasks, no end", most);
+    load(b"most tasks, another budget", most.budget(1000));
+    load(b"most tasks, kind 4", most.byte(4));
+    load(b"most tasks, kind 4 after the end", most.end().byte(4));
+    load(b"a task too many", most.task(task(0, 1, 16, 16)).end());
+    load(b"a task too many, the last cut short", most.byte(2));
 }
 
 pub fn refused_tables() {
@@ -63,7 +63,7 @@ pub fn refused_tables() {
     load_table(b"D above T in task 1", tables::second(task(0, 1, 6, 5)));
     load_table(b"C above D in task 1", tables::second(task(0, 4, 3, 5)));
     load_table(b"O 60001 in task 1", tables::second(task(60_001, 1, 1, 5)));
-    load_table(b"periods 31623 and 31624", tables::periods(31_623, 31_624));
+    load_table(b"periods 4093, 8779 and 27830", tables::too_long());
     load(b"no task, kind 4 after the end", budget().end().byte(4));
     load(
         b"T 60001 in task 1, no end",

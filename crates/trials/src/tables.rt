@@ -35,8 +35,8 @@ pub fn periods(first: u32, second: u32) -> Table {
     pair(task(0, 1, first, first), task(0, 1, second, second))
 }
 
-// Sixteen tasks, each released one slot after the one before, with a period that is longer by `more`.
-pub fn sixteen(shortest: u32, more: u32) -> Table {
+// As many tasks as a table can have, each released one slot after the one before, with a period that is longer by `more`.
+pub fn most(shortest: u32, more: u32) -> Table {
     let mut t = alike(TASK_LIMIT, task(0, 1, 16, shortest));
     let mut period = shortest;
     for i in 0..TASK_LIMIT {
@@ -44,6 +44,22 @@ pub fn sixteen(shortest: u32, more: u32) -> Table {
         period = wrapping_add_u32(period, more);
     }
     t
+}
+
+pub fn three(first: Task, second: Task, third: Task) -> Table {
+    let mut t = alike(3, first);
+    t.tasks[1] = second;
+    t.tasks[2] = third;
+    t
+}
+
+// Its H is the least that is above the limit.
+pub fn too_long() -> Table {
+    three(
+        task(0, 1, 1, 4_093),
+        task(0, 1, 1, 8_779),
+        task(0, 1, 1, 27_830),
+    )
 }
 
 pub fn a() -> Table {

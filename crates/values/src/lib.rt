@@ -1,17 +1,17 @@
 // The values that pass between the calls. What they mean stands in `model`.
 
 // The limits of the code, each once: they are those of `model`, or the proofs fail.
-pub const TASK_LIMIT: usize = 16;
+pub const TASK_LIMIT: usize = 32;
 
 pub const SLOT_LIMIT: u32 = 60_000;
 
-pub const ROUND_LIMIT: u64 = 1_000_000_000;
+pub const ROUND_LIMIT: u64 = 1_000_000_000_000;
 
-pub const LONGEST_FILE: usize = 282;
+pub const LONGEST_FILE: usize = 9 + TASK_LIMIT * 17 + 1;
 
-pub const REPORT_BYTES: usize = 512;
+pub const REPORT_BYTES: usize = 1024;
 
-pub const STATE_BYTES: usize = 144;
+pub const STATE_BYTES: usize = 4 * (TASK_LIMIT + TASK_LIMIT + 4);
 
 // A task: the first release, the slots of each job, the deadline after each release, and the period.
 pub struct Task {
@@ -111,8 +111,8 @@ pub enum Line {
     Fault(u32),
 }
 
-// What a step says: the task that owns the slot, or 16; the tasks closed late as a set of bits, how many they are, and
-// the lowest of them, or 16.
+// What a step says: the task that owns the slot; the tasks closed late as a set of bits, how many they are, and the lowest of
+// them. No task is `TASK_LIMIT`.
 pub struct Turn {
     pub owner: u32,
     pub late: u32,

@@ -1,6 +1,5 @@
 -- The four rules, one after the other.
 use borrow.Author.Needs.{needs}
-use Rattle.counting.specs.Bits.{bits-lt}
 use Rattle.dispatch.specs.State.{stateOf}
 use Rattle.dispatch.specs.Step.{Whole, taken-is}
 use Rattle.dispatch.proofs.step_taken.Statement.{statement}
@@ -36,7 +35,7 @@ serve-requires : tie.Need-serve-requires
 serve-requires c κs = search needs
 
 turn-of-requires : tie.Need-turn-of-requires
-turn-of-requires c κs = rw (late-from (c .before .before .before .before .before .before .before) .late-set .ensures) (bits-lt _ _)
+turn-of-requires c κs = search needs
 
 returns : tie.Need-returns
 returns c =

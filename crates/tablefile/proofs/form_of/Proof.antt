@@ -1,14 +1,15 @@
 -- The invariant is `Loading`: reading on from here makes the form of the file. The measure is what is left of the file.
 use mathlib.Core.Path.{_≡_, sym, ap, _∙_}
 use mathlib.Core.List.{List}
-use Prim.Native.Nat.{ℕ, _+_, _-_}
+use Prim.Native.Nat.{ℕ, _+_, _-_, _<_}
 use native.Mathlib.Omega.{arith}
 use borrow.Author.Needs.{needs}
 use lib.ListN.{length}
 use Rattle.tablefile.specs.declared.Record.{Record}
-use Rattle.model.specs.Limits.{budgetBytes, taskBytes}
+use Rattle.model.specs.Limits.{taskLimit, budgetBytes, taskBytes}
 use Rattle.tablefile.specs.declared.Reading.{Reading}
 use Rattle.tablefile.specs.Reading.{readingAt}
+use Rattle.tablefile.specs.Built.{withTask}
 use Rattle.tablefile.specs.Loading.{Loading, start, within, follows, after-budget, has-room, after-task, after-end}
 use Rattle.tablefile.proofs.form_of.Statement.{statement}
 use Rattle.tablefile.proofs.form_of.Tie as tie
@@ -78,15 +79,23 @@ task-found c =
     ∙ sym (c .before .before .before .before .record .given .1)
     ∙ c .before .before .before .before .before .before .reading-at .ensures
 
-with-task-requires : tie.Need-with-task-requires Inv-loop μ-loop
-with-task-requires c κs = has-room (c .before .before .before .before .before .before .before .loop .inv) (task-found c)
+task-has-room : (c : tie.After-known-told4 Inv-loop μ-loop)
+    → c .before .before .before .before .before .before .before .loop .table .count < taskLimit
+task-has-room c = has-room (c .before .before .before .before .before .before .before .loop .inv) (task-found c)
 
-task-read : (c : tie.After-with-task Inv-loop μ-loop)
-    → let t = c .before .before .before .before .before .before .before .before in
-    Loading (file-of t) (t .loop .budget) (c .with-task .result) (t .loop .at + taskBytes)
-task-read c =
-    rw (c .with-task .ensures)
-    (after-task (c .before .before .before .before .before .before .before .before .loop .inv) (task-found (c .before)))
+task-read : (c : tie.After-known-told4 Inv-loop μ-loop)
+    → let t = c .before .before .before .before .before .before .before in
+    Loading (file-of t) (t .loop .budget) (withTask (t .loop .table) (c .before .record3 .given .0 .0)) (t .loop .at + taskBytes)
+task-read c = after-task (c .before .before .before .before .before .before .before .loop .inv) (task-found c)
+
+mul-task : tie.Need-mul-task Inv-loop μ-loop
+mul-task c = omega (arith, task-has-room c)
+
+element-set-from-task : tie.Need-element-set-from-task Inv-loop μ-loop
+element-set-from-task c = task-has-room c
+
+add-table : tie.Need-add-table Inv-loop μ-loop
+add-table c = omega (arith, task-has-room c)
 
 add-at-2 : tie.Need-add-at-2 Inv-loop μ-loop
 add-at-2 c = omega (arith, within (task-read c))
@@ -125,7 +134,9 @@ form-of-spec =
     loop-less
     loop-again
     enum-known-record-3
-    with-task-requires
+    mul-task
+    element-set-from-task
+    add-table
     add-at-2
     loop-less-2
     loop-again-2

@@ -1,8 +1,8 @@
 use Prim.Native.Nat.{_≤_, _-_}
 use borrow.Author.Needs.{needs}
 use Rattle.model.specs.Limits.{taskLimit}
-use Rattle.trials.proofs.tables.sixteen.Statement.{statement}
-use Rattle.trials.proofs.tables.sixteen.Tie as tie
+use Rattle.trials.proofs.tables.most.Statement.{statement}
+use Rattle.trials.proofs.tables.most.Tie as tie
 
 abbrev Inv-loop : tie.InvT-loop
 Inv-loop shortest more t₀ period₀ i₀ t period i = i ≤ taskLimit
@@ -46,8 +46,8 @@ loop-again c = search needs
 returns : tie.Need-returns Inv-loop μ-loop
 returns c = search needs
 
-pub sixteen-spec : {M : Type 1} → statement M
-sixteen-spec =
+pub most-spec : {M : Type 1} → statement M
+most-spec =
     tie.close
     (tie.spec
     Inv-loop
