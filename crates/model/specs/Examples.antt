@@ -341,7 +341,7 @@ rowsOfOne (suc n) = rowOf (of 0 1 1 1) ++ rowsOfOne n
 -- A file is read; of one whose table is refused nothing is kept; the longest legal file is read. A table holds the most tasks, of zeros
 -- past its last one.
 abbrev longest : List ℕ
-longest = budgetOf 0 ++ rowsOfOne taskLimit ++ (3 ∷ [])
+longest = budgetOf 1 ++ rowsOfOne taskLimit ++ (3 ∷ [])
 
 files :
     (loadedFrom file-b ≡ record { admission = Admission.Admitted; budget = 1000; table = table-b })
@@ -363,11 +363,11 @@ file-refusals :
     map refusalOf (
     []
     ∷ (9 ∷ []) ∷ (2 ∷ []) ∷ (3 ∷ []) ∷ (1 ∷ 0 ∷ []) ∷ (1 ∷ replicate 7 0)
-    ∷ budgetOf 0 ∷ (budgetOf 0 ++ (0 ∷ 1 ∷ [])) ∷ (budgetOf 0 ++ (1 ∷ [])) ∷ (budgetOf 0 ++ (2 ∷ 0 ∷ []))
-    ∷ (budgetOf 0 ++ (3 ∷ 9 ∷ [])) ∷ (budgetOf 0 ++ rowOf (of 0 0 0 0) ++ (3 ∷ 3 ∷ [])) ∷ (budgetOf 0 ++ rowsOfOne 1 ++ rowOf (of 0 0 0 0) ++ (3 ∷ []))
-    ∷ (budgetOf 0 ++ (3 ∷ [])) ∷ (budgetOf 0 ++ rowsOfOne taskLimit ++ (2 ∷ [])) ∷ (budgetOf 0 ++ rowsOfOne taskLimit)
-    ∷ (budgetOf 0 ++ rowsOfOne 1 ++ (9 ∷ [])) ∷ (budgetOf 0 ++ rowsOfOne 1 ++ (1 ∷ [])) ∷ (budgetOf 0 ++ rowsOfOne 1 ++ (2 ∷ replicate 15 0))
-    ∷ (budgetOf 0 ++ (3 ∷ 9 ∷ 9 ∷ [])) ∷ (budgetOf 0 ++ rowsOfOne (taskLimit + 1) ++ (3 ∷ [])) ∷ []
+    ∷ budgetOf 1 ∷ (budgetOf 1 ++ (0 ∷ 1 ∷ [])) ∷ (budgetOf 1 ++ (1 ∷ [])) ∷ (budgetOf 1 ++ (2 ∷ 0 ∷ []))
+    ∷ (budgetOf 1 ++ (3 ∷ 9 ∷ [])) ∷ (budgetOf 1 ++ rowOf (of 0 0 0 0) ++ (3 ∷ 3 ∷ [])) ∷ (budgetOf 1 ++ rowsOfOne 1 ++ rowOf (of 0 0 0 0) ++ (3 ∷ []))
+    ∷ (budgetOf 1 ++ (3 ∷ [])) ∷ (budgetOf 1 ++ rowsOfOne taskLimit ++ (2 ∷ [])) ∷ (budgetOf 1 ++ rowsOfOne taskLimit)
+    ∷ (budgetOf 1 ++ rowsOfOne 1 ++ (9 ∷ [])) ∷ (budgetOf 1 ++ rowsOfOne 1 ++ (1 ∷ [])) ∷ (budgetOf 1 ++ rowsOfOne 1 ++ (2 ∷ replicate 15 0))
+    ∷ (budgetOf 1 ++ (3 ∷ 9 ∷ 9 ∷ [])) ∷ (budgetOf 1 ++ rowsOfOne (taskLimit + 1) ++ (3 ∷ [])) ∷ []
     )
     ≡ at 22 0
     ∷ at 21 0 ∷ at 22 0 ∷ at 22 0 ∷ at 20 0 ∷ at 20 0
@@ -378,6 +378,20 @@ file-refusals :
     ∷ at 24 10 ∷ at 25 (longestFile - 1) ∷ []
 unfolding loadedFrom formOf readFrom judged firstFaulty taskFault first rowsOfOne
 file-refusals = refl
+
+-- A whole budget of 0 is 27 at 0, before any later fault and before the table; cut short it is 20, and a second one 23. One of 1 is taken,
+-- and so is one whose lower half alone is 0.
+budgets-of-nothing :
+    map refusalOf (
+    budgetOf 0 ∷ (budgetOf 0 ++ (9 ∷ [])) ∷ (budgetOf 0 ++ (1 ∷ [])) ∷ (budgetOf 0 ++ (2 ∷ [])) ∷ (budgetOf 0 ++ (3 ∷ 3 ∷ [])) ∷ (budgetOf 0 ++ (3 ∷ []))
+    ∷ (budgetOf 0 ++ rowsOfOne 1 ++ (3 ∷ [])) ∷ (1 ∷ replicate 7 0) ∷ (budgetOf 1 ++ budgetOf 0)
+    ∷ (budgetOf 1 ++ rowsOfOne 1 ++ (3 ∷ [])) ∷ (1 ∷ word 0 ++ word 1 ++ rowsOfOne 1 ++ (3 ∷ [])) ∷ []
+    )
+    ≡ at 27 0 ∷ at 27 0 ∷ at 27 0 ∷ at 27 0 ∷ at 27 0 ∷ at 27 0
+    ∷ at 27 0 ∷ at 20 0 ∷ at 23 9
+    ∷ Admission.Admitted ∷ Admission.Admitted ∷ []
+unfolding loadedFrom formOf readFrom judged firstFaulty taskFault first round load horizon largest sum count rowsOfOne
+budgets-of-nothing = refl
 
 -- A budget of more than four bytes, and numbers of three and four.
 wide-numbers :
@@ -537,7 +551,7 @@ permitted = (refl, refl, refl, refl)
 exported :
     (Checked [] (7 ∷ []) (record { number = 1966081; buffer = 7 ∷ [] }))
     × (Checked [] (replicate (reportBytes - 1) 7) (record { number = 1966080 + (reportBytes - 1); buffer = replicate (reportBytes - 1) 7 }))
-    × (Checked (budgetOf 0 ++ (9 ∷ [])) (replicate reportBytes 7) (record { number = 1376265; buffer = replicate reportBytes 7 }))
+    × (Checked (budgetOf 1 ++ (9 ∷ [])) (replicate reportBytes 7) (record { number = 1376265; buffer = replicate reportBytes 7 }))
     × (refused (refusal 21 9) (7 ∷ []) ≡ record { number = 1376265; buffer = 7 ∷ [] })
     × (written (5 ∷ 6 ∷ []) (1 ∷ 2 ∷ 3 ∷ []) ≡ record { number = 2; buffer = 5 ∷ 6 ∷ 3 ∷ [] })
 unfolding loadedFrom formOf readFrom
@@ -557,17 +571,17 @@ told =
     ((a, refl, refl), (a, refl, refl))
 
 -- The exported quick test: no answer to b, pass for g; a file is refused by its form, and by its table.
-quick-told : map quickExported (file-short ∷ (budgetOf 0 ++ rowOf (of 0 2 4 4) ++ rowOf (of 0 2 4 4) ++ (3 ∷ [])) ∷ (9 ∷ []) ∷ (budgetOf 0 ++ (3 ∷ [])) ∷ []) ≡ 0 ∷ 1 ∷ 1376256 ∷ 65536 ∷ []
+quick-told : map quickExported (file-short ∷ (budgetOf 1 ++ rowOf (of 0 2 4 4) ++ rowOf (of 0 2 4 4) ++ (3 ∷ [])) ∷ (9 ∷ []) ∷ (budgetOf 1 ++ (3 ∷ [])) ∷ []) ≡ 0 ∷ 1 ∷ 1376256 ∷ 65536 ∷ []
 unfolding formOf readFrom quickAnswer judged firstFaulty taskFault horizon largest quickPass calm startingAt fill firstIdle idleAt missedAt first round load sum count served ownerOf choose
 quick-told = refl
 
 -- The exported distance test: pass for b, no answer to c, overload of i; a file is refused by its form, and by its table.
-distance-told : map distanceExported (file-short ∷ (budgetOf 0 ++ rowOf (of 8 6 7 15) ++ rowOf (of 0 2 2 5) ++ (3 ∷ [])) ∷ (budgetOf 0 ++ rowOf (of 0 3 5 5) ++ rowOf (of 2 3 5 5) ++ (3 ∷ [])) ∷ (9 ∷ []) ∷ (budgetOf 0 ++ (3 ∷ [])) ∷ []) ≡ 1 ∷ 0 ∷ 2 ∷ 1376256 ∷ 65536 ∷ []
+distance-told : map distanceExported (file-short ∷ (budgetOf 1 ++ rowOf (of 8 6 7 15) ++ rowOf (of 0 2 2 5) ++ (3 ∷ [])) ∷ (budgetOf 1 ++ rowOf (of 0 3 5 5) ++ rowOf (of 2 3 5 5) ++ (3 ∷ [])) ∷ (9 ∷ []) ∷ (budgetOf 1 ++ (3 ∷ [])) ∷ []) ≡ 1 ∷ 0 ∷ 2 ∷ 1376256 ∷ 65536 ∷ []
 unfolding formOf readFrom distanceAnswer judged firstFaulty taskFault horizon largest distancePass distance commonDivisor calm startingAt fill firstIdle idleAt missedAt first last round load sum count served ownerOf choose
 distance-told = refl
 
 -- The line of a refusal; a number as long as the longest of a report, `taskLimit` times the limit of H.
-refusal-lines : Printed (budgetOf 0 ++ (9 ∷ [])) (text "refused 21 at 9\n") × Printed (budgetOf 0 ++ (3 ∷ 3 ∷ [])) (text "refused 24 at 10\n") × (decimal 32000000000000 ≡ text "32000000000000")
+refusal-lines : Printed (budgetOf 1 ++ (9 ∷ [])) (text "refused 21 at 9\n") × Printed (budgetOf 1 ++ (3 ∷ 3 ∷ [])) (text "refused 24 at 10\n") × (decimal 32000000000000 ≡ text "32000000000000")
 unfolding loadedFrom formOf readFrom text decimal digits
 refusal-lines = (refl, refl, refl)
 
@@ -592,16 +606,16 @@ camera-starts :
     × (startExported (9 ∷ []) (replicate (stateBytes + 1) 7) ≡ record { number = 3276800 + (stateBytes + 1); buffer = replicate (stateBytes + 1) 7 })
     × (startExported (9 ∷ []) (replicate 65536 7) .number ≡ 3342335)
     × (startExported (9 ∷ []) (replicate stateBytes 7) ≡ record { number = 1376256; buffer = replicate stateBytes 7 })
-    × (startExported (budgetOf 0 ++ (3 ∷ [])) (replicate stateBytes 7) ≡ record { number = 65536; buffer = replicate stateBytes 7 })
+    × (startExported (budgetOf 1 ++ (3 ∷ [])) (replicate stateBytes 7) ≡ record { number = 65536; buffer = replicate stateBytes 7 })
 unfolding bufferOf bytesOf started startOf fill formOf readFrom judged firstFaulty taskFault first round load horizon largest sum count
 camera-starts = (refl, refl, refl, refl, refl, refl)
 
 -- The loop on g with task 0 done after one slot, as above: a done report is any number but 0. On f the second step leaves what it told.
 abbrev pub file-g : List ℕ
-file-g = budgetOf 0 ++ rowOf (of 0 2 4 4) ++ rowOf (of 0 2 4 4) ++ (3 ∷ [])
+file-g = budgetOf 1 ++ rowOf (of 0 2 4 4) ++ rowOf (of 0 2 4 4) ++ (3 ∷ [])
 
 abbrev file-f : List ℕ
-file-f = budgetOf 0 ++ rowOf (of 0 1 1 2) ++ rowOf (of 0 1 1 2) ++ (3 ∷ [])
+file-f = budgetOf 1 ++ rowOf (of 0 1 1 2) ++ rowOf (of 0 1 1 2) ++ (3 ∷ [])
 
 reports : ℕ → ℕ
 reports n = getD (0 ∷ 2 ∷ []) n 0
@@ -628,6 +642,15 @@ writes :
     × (fileOf 578437695752307201 [] ≡ 1 ∷ 1 ∷ 2 ∷ 3 ∷ 4 ∷ 5 ∷ 6 ∷ 7 ∷ 8 ∷ 3 ∷ [])
 unfolding fileWritten judged firstFaulty taskFault first round load horizon largest sum count bytesOf taskRecords
 writes = (refl, refl, refl, refl)
+
+-- A budget of 0 is 27 at 0 after the table's refusal and before the buffer's; one of 1 is not.
+writes-nothing :
+    (fileWritten table-b 0 (replicate 46 7) ≡ record { said = Writing.Refused (refusal 27 0); buffer = replicate 46 7 })
+    × (fileWritten table-b 0 [] .said ≡ Writing.Refused (refusal 27 0))
+    × (fileWritten table-b 1 [] .said ≡ Writing.Refused (refusal 31 0))
+    × (fileWritten (tableOf []) 0 [] .said ≡ Writing.Refused (refusal 1 0))
+unfolding fileWritten judged firstFaulty taskFault first round load horizon largest sum count bytesOf taskRecords
+writes-nothing = (refl, refl, refl, refl)
 
 -- The rows of table b, and what C is told: 51 at the number of words, 52 at the first row of another kind, then the table, then 31.
 abbrev rows-b : List ℕ
@@ -674,11 +697,18 @@ text-refusals :
 unfolding textLoaded textForm readLines lineOf budgetLine taskLine numbersFault valueAfter allDigits same filled split text judged firstFaulty taskFault first round load horizon largest sum count
 text-refusals = refl
 
+-- A budget of 0 is 27 at its line, once the line has no other fault, and before any later line.
+texts-of-nothing :
+    map (λ s. textLoaded s .admission) (text "budget 0\nx" ∷ text "# none\nbudget 000" ∷ text "budget 0 0" ∷ text "budget 0x" ∷ text "budget 5\nbudget 0" ∷ text "budget 1" ∷ [])
+    ≡ at 27 1 ∷ at 27 2 ∷ at 63 1 ∷ at 61 1 ∷ at 65 2 ∷ at 1 0 ∷ []
+unfolding textLoaded textForm readLines lineOf budgetLine taskLine numbersFault valueAfter allDigits same filled split text judged firstFaulty taskFault first round load horizon largest sum count
+texts-of-nothing = refl
+
 tasksOfOne : ℕ → List ℕ
 tasksOfOne zero = []
 tasksOfOne (suc n) = text "task 0 1 1 1\n" ++ tasksOfOne n
 
 -- A task too many is 66, whatever follows it on its line.
-many-lines : (textLoaded (text "budget 0\n" ++ tasksOfOne taskLimit) .admission ≡ Admission.Admitted) × (textLoaded (text "budget 0\n" ++ tasksOfOne taskLimit ++ text "task x") .admission ≡ at 66 (taskLimit + 2))
+many-lines : (textLoaded (text "budget 1\n" ++ tasksOfOne taskLimit) .admission ≡ Admission.Admitted) × (textLoaded (text "budget 1\n" ++ tasksOfOne taskLimit ++ text "task x") .admission ≡ at 66 (taskLimit + 2))
 unfolding tasksOfOne textLoaded textForm readLines lineOf budgetLine taskLine numbersFault valueAfter allDigits same filled split text judged firstFaulty taskFault first round load horizon largest sum count
 many-lines = (refl, refl)

@@ -95,9 +95,13 @@ abbrev pub unless : ℕ → Line → Line
 unless zero l = l
 unless (suc f) l = Line.Fault (suc f)
 
+-- A budget, once its line has no other fault: one of 0 is 27.
+abbrev pub budgetSaid : ℕ → Line
+budgetSaid b = cond (eqb b 0) (Line.Fault 27) (Line.Budget b)
+
 -- A budget stands first and once: a second one is 65.
 unfoldable pub budgetLine : Bool → List (List ℕ) → Line
-budgetLine given ws = cond given (Line.Fault 65) (unless (numbersFault budgetLimit 1 ws) (Line.Budget (number ws 0)))
+budgetLine given ws = cond given (Line.Fault 65) (unless (numbersFault budgetLimit 1 ws) (budgetSaid (number ws 0)))
 
 -- A task: one before the budget is 64, one more than a table may have 66.
 abbrev pub taskIn : List (List ℕ) → Task
@@ -154,7 +158,7 @@ textOf b ks = budgetText b ++ taskTexts ks
 
 -- The one permitted result of the writer of texts on any table, budget and buffer.
 unfoldable pub textWritten : Table → ℕ → List ℕ → Filled
-textWritten t budget buffer = writtenBy (textOf budget (tasksOf t)) buffer (judged t)
+textWritten t budget buffer = writtenBy budget (textOf budget (tasksOf t)) buffer (judged t)
 
 -- What is written of a form: its refusal, or `go`.
 abbrev pub formWritten : List ℕ → Filled → Admission → Filled

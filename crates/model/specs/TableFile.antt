@@ -54,11 +54,15 @@ readFrom s b ks zero at = readRecord s b ks at (refuseFile 25 at)
 readFrom s b ks (suc room) at =
     readRecord s b ks at (whole s at taskBytes (readFrom s b (ks ++ (taskIn s (at + 1) ∷ [])) room (at + taskBytes)))
 
+-- A file's budget is at least 1: one of 0 is refused by 27, when it is read, before anything behind it.
+abbrev pub worth : ℕ → Loaded → Loaded
+worth b go = cond (eqb b 0) (refuseFile 27 0) go
+
 -- The form of a file: the budget first, once; then the tasks; then the end, and nothing after it.
 unfoldable pub formOf : List ℕ → Loaded
 formOf s =
     cond (eqb (length s) 0) (refuseFile 22 0)
-    (cond (eqb (getD s 0 0) budgetKind) (whole s 0 budgetBytes (readFrom s (eight s 1) [] taskLimit budgetBytes))
+    (cond (eqb (getD s 0 0) budgetKind) (whole s 0 budgetBytes (worth (eight s 1) (readFrom s (eight s 1) [] taskLimit budgetBytes)))
     (cond (eqb (getD s 0 0) taskKind || eqb (getD s 0 0) endKind) (refuseFile 22 0) (refuseFile 21 0)))
 
 -- The table of a file is judged only after the file's form is good.

@@ -25,14 +25,18 @@ fitted bytes buffer =
 abbrev pub tasksOf : Table → List Task
 tasksOf t = take (t .count) (t .tasks)
 
--- The bytes of a table are written after the table's own refusals.
-abbrev pub writtenBy : List ℕ → List ℕ → Judgement → Filled
-writtenBy bytes buffer (Judgement.Refused r) = unwritten (r .number) (r .place) buffer
-writtenBy bytes buffer (Judgement.WellFormed m) = fitted bytes buffer
+-- A budget of 0 is refused by 27, before the buffer's length is looked at.
+abbrev pub budgeted : ℕ → List ℕ → List ℕ → Filled
+budgeted budget bytes buffer = cond (eqb budget 0) (unwritten 27 0 buffer) (fitted bytes buffer)
+
+-- The bytes of a table and a budget are written after the table's own refusals.
+abbrev pub writtenBy : ℕ → List ℕ → List ℕ → Judgement → Filled
+writtenBy budget bytes buffer (Judgement.Refused r) = unwritten (r .number) (r .place) buffer
+writtenBy budget bytes buffer (Judgement.WellFormed m) = budgeted budget bytes buffer
 
 -- The one permitted result of the writer on any table, budget and buffer.
 unfoldable pub fileWritten : Table → ℕ → List ℕ → Filled
-fileWritten t budget buffer = writtenBy (fileOf budget (tasksOf t)) buffer (judged t)
+fileWritten t budget buffer = writtenBy budget (fileOf budget (tasksOf t)) buffer (judged t)
 
 -- From C a table is handed over as words, five for each task: its kind, O, C, D, T.
 abbrev pub rowWords : ℕ

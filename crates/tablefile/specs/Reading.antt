@@ -24,7 +24,8 @@ refused n p = Reading.Refused (record { number = n; place = p })
 abbrev pub budgetReading : List ℕ → ℕ → Reading
 budgetReading rest at =
     cond (ltb 0 at) (refused 23 at)
-    (cond (ltb (length rest) budgetBody) (refused 20 at) (Reading.Whole (Record.Budget (eight rest 0))))
+    (cond (ltb (length rest) budgetBody) (refused 20 at)
+    (cond (eqb (eight rest 0) 0) (refused 27 at) (Reading.Whole (Record.Budget (eight rest 0)))))
 
 abbrev pub taskReading : List ℕ → ℕ → ℕ → Reading
 taskReading rest at n =

@@ -13,13 +13,20 @@ use Rattle.values.specs.declared.Admission.{Admission}
 use Rattle.values.specs.declared.Loaded.{Loaded}
 use Rattle.model.specs.Limits.{taskLimit, budgetBytes, taskBytes, longestFile}
 use Rattle.model.specs.Tasks.{judged}
-use Rattle.model.specs.TableFile.{eight, taskIn, refuseFile, admit, whole, readRecord, readFrom, formOf, judgedTable, judgedForm, loadedFrom}
+use Rattle.model.specs.TableFile.{eight, taskIn, refuseFile, admit, whole, worth, readRecord, readFrom, formOf, judgedTable, judgedForm, loadedFrom}
 use Rattle.wellformed.specs.Refused.{Tellable, JudgementTellable, judged-tellable}
 
 -- An admission that is tellable if it refuses.
 abbrev pub AdmissionTellable : Admission → Type 0
 AdmissionTellable (Admission.Refused r) = Tellable r
 AdmissionTellable Admission.Admitted = Unit
+
+worth-tellable : (b : ℕ) (l : Loaded) → AdmissionTellable (l .admission) → AdmissionTellable (worth b l .admission)
+worth-tellable b l h = go (eqb b 0)
+  where
+    go : (nothing : Bool) → AdmissionTellable (cond nothing (refuseFile 27 0) l .admission)
+    go true = (omega arith, omega arith)
+    go false = h
 
 module _ (s : List ℕ) where
   whole-tellable : (at bytes : ℕ) (l : Loaded) → at < longestFile → AdmissionTellable (l .admission) → AdmissionTellable (whole s at bytes l .admission)
@@ -51,9 +58,9 @@ module _ (s : List ℕ) where
   form-tellable = go (eqb (length s) 0) (eqb (getD s 0 0) 1) (eqb (getD s 0 0) 2 || eqb (getD s 0 0) 3)
     where
       go : (none budget other : Bool)
-          → AdmissionTellable (cond none (refuseFile 22 0) (cond budget (whole s 0 budgetBytes (readFrom s (eight s 1) [] taskLimit budgetBytes)) (cond other (refuseFile 22 0) (refuseFile 21 0))) .admission)
+          → AdmissionTellable (cond none (refuseFile 22 0) (cond budget (whole s 0 budgetBytes (worth (eight s 1) (readFrom s (eight s 1) [] taskLimit budgetBytes))) (cond other (refuseFile 22 0) (refuseFile 21 0))) .admission)
       go true budget other = (omega arith, omega arith)
-      go false true other = whole-tellable 0 budgetBytes _ (omega arith) (from-tellable (eight s 1) [] taskLimit budgetBytes (omega arith))
+      go false true other = whole-tellable 0 budgetBytes _ (omega arith) (worth-tellable (eight s 1) _ (from-tellable (eight s 1) [] taskLimit budgetBytes (omega arith)))
       go false false true = (omega arith, omega arith)
       go false false false = (omega arith, omega arith)
 

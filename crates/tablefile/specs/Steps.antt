@@ -11,7 +11,7 @@ use Rattle.values.specs.declared.Task.{Task}
 use Rattle.tablefile.specs.declared.Record.{Record}
 use Rattle.values.specs.declared.Loaded.{Loaded}
 use Rattle.model.specs.Limits.{taskLimit, budgetBytes, taskBytes, longestFile}
-use Rattle.model.specs.TableFile.{taskIn, refuseFile, admit, whole, readRecord, readFrom, formOf}
+use Rattle.model.specs.TableFile.{eight, taskIn, refuseFile, admit, whole, readRecord, readFrom, formOf}
 use Rattle.tablefile.specs.declared.Reading.{Reading}
 use Rattle.tablefile.specs.Reading.{budgetBody, taskBody, taskReading, readingAt, either}
 use Rattle.tablefile.specs.Part.{eight-part, task-part}
@@ -52,8 +52,11 @@ step-first s =
     (λ z. let e0 : eqb (length s) 0 ≡ false = ne-eqb (length s) 0 (λ q. omega (arith, leb-false (length s) 0 z)) in either (Follows s 0 [] 0) (eqb (getD s 0 0) 1) _ _
     (λ e1. either (Follows s 0 [] 0) (ltb (length (drop 1 s)) budgetBody) _ _
     (λ e. rw (e0, e1, lt-ltb (length s) budgetBytes (omega (arith, ltb-true, length-drop 1 s))))
-    (λ e. later taskLimit refl refl (omega (arith, ltb-false, length-drop 1 s))
-    (rw (e0, e1, le-ltb (length s) budgetBytes (omega (arith, ltb-false, length-drop 1 s)), eight-part))))
+    (λ e. let e2 : ltb (length s) budgetBytes ≡ false = le-ltb (length s) budgetBytes (omega (arith, ltb-false, length-drop 1 s)) in
+    either (Follows s 0 [] 0) (eqb (eight (drop 1 s) 0) 0) _ _
+    (λ e3. rw (e0, e1, e2, sym (ap (λ (b : ℕ). eqb b 0) (eight-part s 1)) ∙ e3))
+    (λ e3. later taskLimit refl refl (omega (arith, ltb-false, length-drop 1 s))
+    (rw (e0, e1, e2, sym (ap (λ (b : ℕ). eqb b 0) (eight-part s 1)) ∙ e3, eight-part)))))
     (λ e1. either (Follows s 0 [] 0) (eqb (getD s 0 0) 2) _ _ (λ e2. rw (e0, e1, e2))
     (λ e2. either (Follows s 0 [] 0) (eqb (getD s 0 0) 3) _ _ (λ e3. rw (e0, e1, e2, e3)) (λ e3. rw (e0, e1, e2, e3)))))
 

@@ -5,7 +5,7 @@ use mathlib.Core.List.{List, [], _∷_, _++_, append-nil}
 use Prim.Native.Nat.{ℕ, zero, suc, _+_, _*_, _/_, _%_, _≤_, _<_}
 use native.Mathlib.Nat.{add-zero}
 use native.Mathlib.Omega.{arith}
-use borrow.Author.Tests.{eqb-true, ne-eqb, le-ltb, lt-leb, leb-false, ltb-false}
+use borrow.Author.Tests.{eqb-true, eqb-false, eq-eqb, ne-eqb, le-ltb, lt-leb, leb-false, ltb-false}
 use lib.Dec.{leb, ltb, eqb}
 use lib.ListN.{length, getD, drop, length-drop, drop-of-length-le}
 use lib.Seq.{append-snoc, drop-cons, getD-drop, drop-drop}
@@ -14,7 +14,7 @@ use Rattle.values.specs.declared.Admission.{Admission}
 use Rattle.values.specs.declared.Loaded.{Loaded}
 use Rattle.model.specs.Limits.{taskLimit, wordLimit, budgetLimit, budgetBytes, taskBytes}
 use Rattle.model.specs.Tasks.{noTask}
-use Rattle.model.specs.TableFile.{endKind, four, eight, taskIn, refuseFile, admit, whole, readRecord, readFrom, formOf, bytesOf, taskRecord, taskRecords, fileOf}
+use Rattle.model.specs.TableFile.{budgetKind, endKind, four, eight, taskIn, refuseFile, admit, whole, worth, readRecord, readFrom, formOf, bytesOf, taskRecord, taskRecords, fileOf}
 use Rattle.tablefile.specs.Part.{task-part}
 use Rattle.words.specs.Word.{word-back, word-fits, word-here}
 
@@ -83,28 +83,37 @@ module _ (s : List ℕ) where
 
   -- If the file is taken, it holds a budget and tasks, and these were read.
   abbrev Holds : Loaded → Type 0
-  Holds l = l .admission ≡ Admission.Admitted → (getD s 0 0 ≡ 1) × ((ks : List Task) × (length ks ≤ taskLimit) × Stand budgetBytes ks × (l ≡ admit (eight s 1) ks))
+  Holds l = l .admission ≡ Admission.Admitted → (getD s 0 0 ≡ 1) × (0 < eight s 1) × ((ks : List Task) × (length ks ≤ taskLimit) × Stand budgetBytes ks × (l ≡ admit (eight s 1) ks))
 
   refusal-holds : (n p : ℕ) → Holds (refuseFile n p)
   refusal-holds n p h = let z : _≡_ {A = ℕ} 0 1 = cc in absurd (omega arith)
 
   form-holds : Holds (formOf s)
   unfolding formOf
-  form-holds = go (eqb (length s) 0) (eqb (getD s 0 0) 1) (eqb (getD s 0 0) 2 || eqb (getD s 0 0) 3) (eqb-true (getD s 0 0) 1)
+  form-holds =
+      go (eqb (length s) 0) (eqb (getD s 0 0) 1) (ltb (length s) budgetBytes) (eqb (eight s 1) 0) (eqb (getD s 0 0) 2 || eqb (getD s 0 0) 3)
+      (eqb-true (getD s 0 0) 1) (λ e. omega (arith, eqb-false (eight s 1) 0 e))
     where
-      go : (none budget other : Bool) → (budget ≡ true → getD s 0 0 ≡ 1)
-          → let good = whole s 0 budgetBytes (readFrom s (eight s 1) [] taskLimit budgetBytes) in
+      go : (none budget short nothing other : Bool) → (budget ≡ true → getD s 0 0 ≡ 1) → (nothing ≡ false → 0 < eight s 1)
+          → let good = cond short (refuseFile 20 0) (cond nothing (refuseFile 27 0) (readFrom s (eight s 1) [] taskLimit budgetBytes)) in
           Holds (cond none (refuseFile 22 0) (cond budget good (cond other (refuseFile 22 0) (refuseFile 21 0))))
-      go true budget other kind = refusal-holds 22 0
-      go false true other kind =
-          λ h. (kind refl, whole-takes (eight s 1) [] taskLimit budgetBytes 0 budgetBytes _ (from-takes (eight s 1) [] taskLimit budgetBytes) h)
-      go false false true kind = refusal-holds 22 0
-      go false false false kind = refusal-holds 21 0
+      go true budget short nothing other kind some = refusal-holds 22 0
+      go false true true nothing other kind some = refusal-holds 20 0
+      go false true false true other kind some = refusal-holds 27 0
+      go false true false false other kind some = λ h. (kind refl, some refl, from-takes (eight s 1) [] taskLimit budgetBytes h)
+      go false false short nothing true kind some = refusal-holds 22 0
+      go false false short nothing false kind some = refusal-holds 21 0
 
   -- A file of good form has the bytes of a budget, of its tasks, at most `taskLimit`, and of the end.
   pub form-length : formOf s .admission ≡ Admission.Admitted
       → (formOf s .table .count ≤ taskLimit) × (length s ≡ budgetBytes + formOf s .table .count * taskBytes + 1)
-  form-length h = let (kind, (ks, few, stand, same)) = form-holds h in rw same (few, stand-length budgetBytes ks stand)
+  form-length h = let (kind, some, (ks, few, stand, same)) = form-holds h in rw same (few, stand-length budgetBytes ks stand)
+
+  -- A whole budget of 0 is refused, whatever follows it.
+  pub nothing-read : getD s 0 0 ≡ budgetKind → budgetBytes ≤ length s → eight s 1 ≡ 0 → formOf s ≡ refuseFile 27 0
+  unfolding formOf
+  nothing-read kind long none =
+      rw (ne-eqb (length s) 0 (omega arith), kind, le-ltb (length s) (0 + budgetBytes) long, eq-eqb (eight s 1) 0 none)
 
   -- ---- What stands in the file is read
 
@@ -121,11 +130,11 @@ module _ (s : List ℕ) where
       rw (lt-leb (length s) at (omega arith), kind, le-ltb (length s) (at + taskBytes) (omega arith), body)
       (stand-read b (ks ++ (k ∷ [])) room (at + taskBytes) more rest (omega arith) ∙ ap (admit b) (append-snoc ks k more))
 
-  form-read : (ks : List Task) → length ks ≤ taskLimit → getD s 0 0 ≡ 1 → Stand budgetBytes ks → formOf s ≡ admit (eight s 1) ks
+  form-read : (ks : List Task) → length ks ≤ taskLimit → getD s 0 0 ≡ 1 → 0 < eight s 1 → Stand budgetBytes ks → formOf s ≡ admit (eight s 1) ks
   unfolding formOf
-  form-read ks few kind stand =
+  form-read ks few kind some stand =
       let size = stand-length budgetBytes ks stand in
-      rw (ne-eqb (length s) 0 (omega arith), kind, le-ltb (length s) (0 + budgetBytes) (omega arith))
+      rw (ne-eqb (length s) 0 (omega arith), kind, le-ltb (length s) (0 + budgetBytes) (omega arith), ne-eqb (eight s 1) 0 (omega arith))
       (stand-read (eight s 1) [] taskLimit budgetBytes ks stand few)
 
 -- ---- What is written is read
@@ -149,13 +158,13 @@ written-stands s at (k ∷ ks) fits e =
     let task : taskIn s (at + 1) ≡ k = body ∙ task-back k (taskRecords ks ++ (endKind ∷ [])) (fits 0 (omega arith)) in
     (kind-at s at e, task, written-stands s (at + taskBytes) ks (λ i l. fits (suc i) (omega arith)) (behind s at taskBytes e))
 
-pub written-read : (b : ℕ) (ks : List Task) → b < budgetLimit → AllFit ks → length ks ≤ taskLimit → formOf (fileOf b ks) ≡ admit b ks
+pub written-read : (b : ℕ) (ks : List Task) → 0 < b → b < budgetLimit → AllFit ks → length ks ≤ taskLimit → formOf (fileOf b ks) ≡ admit b ks
 unfolding bytesOf
-written-read b ks limit fits few =
+written-read b ks some limit fits few =
     let low = word-back (b % wordLimit) (omega arith) in
     let high = word-back (b / wordLimit) (omega arith) in
     let budget : eight (fileOf b ks) 1 ≡ b = omega arith in
-    form-read (fileOf b ks) ks few refl (written-stands (fileOf b ks) budgetBytes ks fits refl) ∙ ap (λ (n : ℕ). admit n ks) budget
+    form-read (fileOf b ks) ks few refl (omega arith) (written-stands (fileOf b ks) budgetBytes ks fits refl) ∙ ap (λ (n : ℕ). admit n ks) budget
 
 -- ---- What is read was written
 
@@ -200,9 +209,10 @@ module _ (s : List ℕ) (bytes : (i : ℕ) → getD s i 0 < 256) where
 
   -- A file of good form is what the writer writes of its budget and of the tasks of its table, at most `taskLimit`.
   pub read-written : formOf s .admission ≡ Admission.Admitted
-      → (formOf s .budget < budgetLimit)
+      → (0 < formOf s .budget)
+      × (formOf s .budget < budgetLimit)
       × ((ks : List Task) × (length ks ≤ taskLimit) × AllFit ks × (s ≡ fileOf (formOf s .budget) ks) × (formOf s ≡ admit (formOf s .budget) ks))
   read-written h =
-      let (kind, (ks, few, stand, same)) = form-holds s h in
+      let (kind, some, (ks, few, stand, same)) = form-holds s h in
       let limit : eight s 1 < budgetLimit = omega (arith, word-fits s bytes 1, word-fits s bytes (1 + 4)) in
-      rw same (limit, (ks, few, stand-fits budgetBytes ks stand, file-written ks kind stand, refl))
+      rw same (some, limit, (ks, few, stand-fits budgetBytes ks stand, file-written ks kind stand, refl))

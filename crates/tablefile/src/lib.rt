@@ -42,6 +42,8 @@ const ONE_TASK_TOO_MANY: u32 = 25;
 
 const NO_END: u32 = 26;
 
+const NOTHING: u32 = 27;
+
 // A record is a budget, a task or the end, with its numbers.
 pub enum Record {
     Budget(u64),
@@ -102,7 +104,11 @@ fn budget_reading(rest: &[u8], at: usize) -> Reading
     if rest.len() < BUDGET_BODY {
         return refusal(CUT_SHORT, at);
     }
-    Reading::Whole(Record::Budget(budget_in(rest)))
+    let budget = budget_in(rest);
+    if budget == 0 {
+        return refusal(NOTHING, at);
+    }
+    Reading::Whole(Record::Budget(budget))
 }
 
 fn task_reading(rest: &[u8], at: usize, count: usize) -> Reading

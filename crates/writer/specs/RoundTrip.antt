@@ -1,10 +1,12 @@
 -- What is written is loaded, with the same budget and tasks; what was loaded is written, with the same bytes.
 use mathlib.Core.Path.{_≡_, refl, sym, ap, _∙_}
+use mathlib.Core.Logic.{_≢_}
 use mathlib.Core.List.{List, _++_}
 use mathlib.Core.Bool.{Bool, true, false, cond}
 use Prim.Native.Nat.{ℕ, _≤_, _<_}
 use native.Mathlib.Omega.{arith}
-use lib.Dec.{ltb}
+use borrow.Author.Tests.{eqb-false, ne-eqb}
+use lib.Dec.{ltb, eqb}
 use lib.ListN.{length, getD, take, drop, List·getD-append}
 use lib.Seq.{length-take-le, take-at, getD-take}
 use Rattle.values.specs.declared.Task.{Task}
@@ -17,7 +19,7 @@ use Rattle.values.specs.declared.Writing.{Writing}
 use Rattle.model.specs.Limits.{taskLimit, budgetLimit}
 use Rattle.model.specs.Tasks.{noTask, task, measure, judged}
 use Rattle.model.specs.TableFile.{tableOf, admit, fileOf, judgedForm, formOf, loadedFrom}
-use Rattle.model.specs.Writer.{unwritten, fitted, tasksOf, fileWritten, writtenBy}
+use Rattle.model.specs.Writer.{Filled, unwritten, fitted, budgeted, tasksOf, fileWritten, writtenBy}
 use Rattle.wellformed.specs.Ranges.{Ranged, holds-all}
 use Rattle.wellformed.specs.WellFormed.{well-formed, same-well-formed}
 use Rattle.tablefile.specs.Admitted.{admitted}
@@ -56,9 +58,9 @@ module _ (t : Table) (m : Measure) (b : ℕ) (well : judged t ≡ Judgement.Well
   formed-loads e = rw (e, tasks-well-formed)
 
   -- The file of a well-formed table and a budget is loaded as this budget and these tasks.
-  pub file-loads : b < budgetLimit → loadedFrom (fileOf b (tasksOf t)) ≡ admit b (tasksOf t)
+  pub file-loads : 0 < b → b < budgetLimit → loadedFrom (fileOf b (tasksOf t)) ≡ admit b (tasksOf t)
   unfolding loadedFrom
-  file-loads limit = formed-loads (written-read b (tasksOf t) limit (few-and-fit .1) (few-and-fit .0))
+  file-loads some limit = formed-loads (written-read b (tasksOf t) some limit (few-and-fit .1) (few-and-fit .0))
 
 -- What a writer says it wrote stands at the front of the buffer.
 pub fitted-front : (bytes buffer : List ℕ) (n : ℕ) → fitted bytes buffer .said ≡ Writing.Bytes n → take n (fitted bytes buffer .buffer) ≡ bytes
@@ -68,29 +70,37 @@ fitted-front bytes buffer n = go (ltb (length buffer) (length bytes))
     go true e = let z : _≡_ {A = ℕ} 0 1 = cc in absurd (omega arith)
     go false e = let size : length bytes ≡ n = cc in take-at bytes _ n size
 
+-- What a writer says it wrote holds a budget above 0, and is there.
+pub budgeted-front : (b : ℕ) (bytes buffer : List ℕ) (n : ℕ) → budgeted b bytes buffer .said ≡ Writing.Bytes n → (0 < b) × (take n (budgeted b bytes buffer .buffer) ≡ bytes)
+budgeted-front b bytes buffer n = go (eqb b 0) (eqb-false b 0)
+  where
+    go : (nothing : Bool) → (nothing ≡ false → b ≢ 0) → let f = cond nothing (unwritten 27 0 buffer) (fitted bytes buffer) in f .said ≡ Writing.Bytes n → (0 < b) × (take n (f .buffer) ≡ bytes)
+    go true some e = let z : _≡_ {A = ℕ} 0 1 = cc in absurd (omega arith)
+    go false some e = (omega (arith, some refl), fitted-front bytes buffer n e)
+
 -- What was written is loaded: the same budget and the same tasks.
 pub written-loads : (t : Table) (b : ℕ) (buffer : List ℕ) (n : ℕ) → b < budgetLimit → fileWritten t b buffer .said ≡ Writing.Bytes n
     → loadedFrom (take n (fileWritten t b buffer .buffer)) ≡ admit b (tasksOf t)
 unfolding fileWritten
 written-loads t b buffer n limit = go (judged t) refl
   where
-    go : (j : Judgement) → judged t ≡ j → writtenBy (fileOf b (tasksOf t)) buffer j .said ≡ Writing.Bytes n → loadedFrom (take n (writtenBy (fileOf b (tasksOf t)) buffer j .buffer)) ≡ admit b (tasksOf t)
+    go : (j : Judgement) → judged t ≡ j → writtenBy b (fileOf b (tasksOf t)) buffer j .said ≡ Writing.Bytes n → loadedFrom (take n (writtenBy b (fileOf b (tasksOf t)) buffer j .buffer)) ≡ admit b (tasksOf t)
     go (Judgement.Refused r) well e = let z : _≡_ {A = ℕ} 0 1 = cc in absurd (omega arith)
-    go (Judgement.WellFormed m) well e = rw (fitted-front (fileOf b (tasksOf t)) buffer n e) (file-loads t m b well limit)
+    go (Judgement.WellFormed m) well e = let (some, front) = budgeted-front b (fileOf b (tasksOf t)) buffer n e in rw front (file-loads t m b well some limit)
 
 -- A file that is loaded is the file of its budget and tasks, and its table is well-formed.
 pub loaded-file : (file : List ℕ) → ((i : ℕ) → getD file i 0 < 256) → loadedFrom file .admission ≡ Admission.Admitted
-    → let l = loadedFrom file in (l .budget < budgetLimit) × (fileOf (l .budget) (tasksOf (l .table)) ≡ file) × ((m : Measure) × (judged (l .table) ≡ Judgement.WellFormed m))
+    → let l = loadedFrom file in (0 < l .budget) × (l .budget < budgetLimit) × (fileOf (l .budget) (tasksOf (l .table)) ≡ file) × ((m : Measure) × (judged (l .table) ≡ Judgement.WellFormed m))
 loaded-file file bytes h =
     let (same, well) = admitted file h in
-    let (limit, (ks, few, fit, whole, held)) = read-written file bytes (ap (λ (l : Loaded). l .admission) (sym same) ∙ h) in
+    let (some, limit, (ks, few, fit, whole, held)) = read-written file bytes (ap (λ (l : Loaded). l .admission) (sym same) ∙ h) in
     let tasks : tasksOf (formOf file .table) ≡ ks = ap (λ (l : Loaded). tasksOf (l .table)) held ∙ tasks-back ks in
-    rw same (limit, ap (λ (l : List Task). fileOf (formOf file .budget) l) tasks ∙ sym whole, well)
+    rw same (some, limit, ap (λ (l : List Task). fileOf (formOf file .budget) l) tasks ∙ sym whole, well)
 
 -- What was loaded is written: the same bytes.
 pub loaded-writes : (file buffer : List ℕ) → ((i : ℕ) → getD file i 0 < 256) → loadedFrom file .admission ≡ Admission.Admitted
     → fileWritten (loadedFrom file .table) (loadedFrom file .budget) buffer ≡ fitted file buffer
 unfolding fileWritten
 loaded-writes file buffer bytes h =
-    let (limit, same, (m, well)) = loaded-file file bytes h in
-    rw well (ap (λ (bytes : List ℕ). fitted bytes buffer) same)
+    let (some, limit, same, (m, well)) = loaded-file file bytes h in
+    rw (well, ne-eqb (loadedFrom file .budget) 0 (omega arith)) (ap (λ (bytes : List ℕ). fitted bytes buffer) same)

@@ -6,7 +6,7 @@ use mathlib.Core.List.{List, _++_}
 use Prim.Native.Nat.{ℕ, min, _%_, _≤_, _<_}
 use native.Mathlib.Nat.{le-refl}
 use native.Mathlib.Omega.{arith}
-use borrow.Author.Tests.{lt-ltb, le-ltb, ltb-true}
+use borrow.Author.Tests.{eq-eqb, ne-eqb, lt-ltb, le-ltb, ltb-true}
 use lib.Dec.{ltb, eqb, lit<}
 use lib.ListN.{length, getD, drop, replicate, length-replicate}
 use Rattle.values.specs.declared.Table.{Table}
@@ -20,7 +20,7 @@ use Rattle.model.specs.Tasks.{noTask, task, judged}
 use Rattle.model.specs.TableFile.{fileOf, loadedFrom}
 use Rattle.model.specs.Report.{Exported, refused}
 use Rattle.model.specs.Values.{refusal}
-use Rattle.model.specs.Writer.{unwritten, fitted, tasksOf, fileWritten, writtenBy, rowWords, rows, rowTask, isTask, firstStranger, tableIn, fillTold, writeExported}
+use Rattle.model.specs.Writer.{unwritten, fitted, budgeted, tasksOf, fileWritten, writtenBy, rowWords, rows, rowTask, isTask, firstStranger, tableIn, fillTold, writeExported}
 use Rattle.counting.specs.Search.{first-is, first-none}
 use Rattle.counting.specs.Fill.{fill-passed}
 use Rattle.wellformed.specs.Ranges.{Ranged, holds-all}
@@ -33,16 +33,20 @@ use Rattle.writer.specs.RoundTrip as round
 short-file : (t : Table) (b : ℕ) → Ranged t → length (fileOf b (tasksOf t)) ≤ longestFile
 short-file t b r = omega (arith, table-length b t (holds-all t r), r .few)
 
-pub short-writing : (t : Table) (m : Measure) (b : ℕ) (buffer : List ℕ) → judged t ≡ Judgement.WellFormed m → length buffer < length (fileOf b (tasksOf t))
+pub no-budget-writing : (t : Table) (m : Measure) (buffer : List ℕ) → judged t ≡ Judgement.WellFormed m → fileWritten t 0 buffer ≡ unwritten 27 0 buffer
+unfolding fileWritten
+no-budget-writing t m buffer well = rw well
+
+pub short-writing : (t : Table) (m : Measure) (b : ℕ) (buffer : List ℕ) → judged t ≡ Judgement.WellFormed m → 0 < b → length buffer < length (fileOf b (tasksOf t))
     → fileWritten t b buffer ≡ unwritten 31 (length buffer) buffer
 unfolding fileWritten
-short-writing t m b buffer well h = rw (well, lt-ltb (length buffer) (length (fileOf b (tasksOf t))) h)
+short-writing t m b buffer well some h = rw (well, ne-eqb b 0 (omega arith), lt-ltb (length buffer) (length (fileOf b (tasksOf t))) h)
 
-pub long-writing : (t : Table) (m : Measure) (b : ℕ) (buffer : List ℕ) → judged t ≡ Judgement.WellFormed m → length (fileOf b (tasksOf t)) ≤ length buffer
+pub long-writing : (t : Table) (m : Measure) (b : ℕ) (buffer : List ℕ) → judged t ≡ Judgement.WellFormed m → 0 < b → length (fileOf b (tasksOf t)) ≤ length buffer
     → let file = fileOf b (tasksOf t) in
     (fileWritten t b buffer ≡ record { said = Writing.Bytes (length file); buffer = file ++ drop (length file) buffer }) × (length file ≤ longestFile)
 unfolding fileWritten
-long-writing t m b buffer well h = (rw (well, le-ltb (length buffer) (length (fileOf b (tasksOf t))) h), short-file t b (well-formed t m well .ranged))
+long-writing t m b buffer well some h = (rw (well, ne-eqb b 0 (omega arith), le-ltb (length buffer) (length (fileOf b (tasksOf t))) h), short-file t b (well-formed t m well .ranged))
 
 pub loaded-writes : (file buffer : List ℕ) → ((i : ℕ) → getD file i 0 < 256) → loadedFrom file .admission ≡ Admission.Admitted → length file ≤ length buffer
     → fileWritten (loadedFrom file .table) (loadedFrom file .budget) buffer ≡ record { said = Writing.Bytes (length file); buffer = file ++ drop (length file) buffer }
@@ -64,18 +68,25 @@ module _ (most : ℕ) (small : most < 65536) (buffer : List ℕ) where
       go true h = inr (refusal 31 (length buffer), refl, (omega arith, omega (arith, h refl)))
       go false h = inl (refl, few)
 
-  -- The bytes of a table, if those of a well-formed one are not too many.
-  pub table-apart : (t : Table) (bytes : List ℕ) → (Ranged t → length bytes ≤ most) → let f = writtenBy bytes buffer (judged t) in Apart most buffer bytes (fillTold (f .buffer) (f .said))
-  table-apart t bytes few = go (judged t) refl (judged-tellable t)
+  budgeted-apart : (b : ℕ) (bytes : List ℕ) → length bytes ≤ most → let f = budgeted b bytes buffer in Apart most buffer bytes (fillTold (f .buffer) (f .said))
+  budgeted-apart b bytes few = go (eqb b 0)
     where
-      go : (j : Judgement) → judged t ≡ j → JudgementTellable j → let f = writtenBy bytes buffer j in Apart most buffer bytes (fillTold (f .buffer) (f .said))
+      go : (nothing : Bool) → let f = cond nothing (unwritten 27 0 buffer) (fitted bytes buffer) in Apart most buffer bytes (fillTold (f .buffer) (f .said))
+      go true = inr (refusal 27 0, refl, (omega arith, omega arith))
+      go false = fitted-apart bytes few
+
+  -- The bytes of a table and a budget, if those of a well-formed one are not too many.
+  pub table-apart : (t : Table) (b : ℕ) (bytes : List ℕ) → (Ranged t → length bytes ≤ most) → let f = writtenBy b bytes buffer (judged t) in Apart most buffer bytes (fillTold (f .buffer) (f .said))
+  table-apart t b bytes few = go (judged t) refl (judged-tellable t)
+    where
+      go : (j : Judgement) → judged t ≡ j → JudgementTellable j → let f = writtenBy b bytes buffer j in Apart most buffer bytes (fillTold (f .buffer) (f .said))
       go (Judgement.Refused r) e n = inr (r, refl, n)
-      go (Judgement.WellFormed m) e n = fitted-apart bytes (few (well-formed t m e .ranged))
+      go (Judgement.WellFormed m) e n = budgeted-apart b bytes (few (well-formed t m e .ranged))
 
 module _ (buffer : List ℕ) where
   pub file-apart : (t : Table) (b : ℕ) → let f = fileWritten t b buffer in Apart longestFile buffer (fileOf b (tasksOf t)) (fillTold (f .buffer) (f .said))
   unfolding fileWritten
-  file-apart t b = table-apart longestFile (lit< tt) buffer t (fileOf b (tasksOf t)) (short-file t b)
+  file-apart t b = table-apart longestFile (lit< tt) buffer t b (fileOf b (tasksOf t)) (short-file t b)
 
   pub write-apart : (words : List ℕ) (b : ℕ) → Apart longestFile buffer (fileOf b (tasksOf (tableIn words))) (writeExported words b buffer)
   write-apart words b = go (not (eqb (length words % rowWords) 0)) (ltb (firstStranger words) (rows words))

@@ -5,7 +5,7 @@ ghost use Prim.Native.Nat.{_+_, _*_, _/_, _%_, _≤_, _<_};
 ghost use lib.ListN.{length};
 ghost use Rattle.model.specs.Limits.{taskLimit, wordLimit, budgetBytes, taskBytes};
 ghost use Rattle.model.specs.TableFile.{budgetRecord, taskRecord, taskRecords, fileOf};
-ghost use Rattle.model.specs.Writer.{tasksOf, fitted, fileWritten};
+ghost use Rattle.model.specs.Writer.{tasksOf, fitted, budgeted, fileWritten};
 ghost use Rattle.counting.specs.Put.{Put};
 ghost use Rattle.writer.specs.Records.{filled, fileBytes};
 use tablefile::BUDGET;
@@ -19,9 +19,11 @@ use values::Table;
 use values::Task;
 use values::Writing;
 
+const NOTHING: u32 = 27;
+
 const SHORT_BUFFER: u32 = 31;
 
-// Any table, budget and buffer: the table is judged first, then the buffer's length.
+// Any table, budget and buffer: the table is judged first, then the budget, then the buffer's length.
 pub fn write(table: Table, budget: u64, buffer: &mut [u8]) -> Writing
     ensures { λ r. ⌜ filled r (now (buffer .exit)) ≡ fileWritten table budget (now (buffer .entry)) ⌝ }
 {
@@ -34,8 +36,11 @@ pub fn write(table: Table, budget: u64, buffer: &mut [u8]) -> Writing
 fn write_file(table: Table, budget: u64, buffer: &mut [u8]) -> Writing
     requires { ⌜ table .count ≤ taskLimit ⌝ }
     requires { ⌜ table .count ≤ length (table .tasks) ⌝ }
-    ensures { λ r. ⌜ filled r (now (buffer .exit)) ≡ fitted (fileOf budget (tasksOf table)) (now (buffer .entry)) ⌝ }
+    ensures { λ r. ⌜ filled r (now (buffer .exit)) ≡ budgeted budget (fileOf budget (tasksOf table)) (now (buffer .entry)) ⌝ }
 {
+    if budget == 0 {
+        return no_budget();
+    }
     if buffer.len() < file_bytes(table.count) {
         return short_buffer(buffer.len());
     }
@@ -47,6 +52,16 @@ fn file_bytes(tasks: usize) -> usize
     ensures { λ r. ⌜ r ≡ fileBytes tasks ⌝ }
 {
     BUDGET_BYTES + tasks * TASK_BYTES + 1
+}
+
+// A budget of 0 tests nothing.
+pub fn no_budget() -> Writing
+    ensures { λ r. ⌜ r ≡ Writing.Refused (record { number = 27; place = 0 }) ⌝ }
+{
+    Writing::Refused(Refusal {
+        number: NOTHING,
+        place: 0,
+    })
 }
 
 // What is too long for a buffer has fewer than 65,536 bytes, and so has the buffer.

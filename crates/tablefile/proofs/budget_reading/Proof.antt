@@ -1,5 +1,5 @@
 use borrow.Author.Needs.{needs}
-use borrow.Author.Tests.{lt-ltb, le-ltb}
+use borrow.Author.Tests.{eq-eqb, ne-eqb, lt-ltb, le-ltb}
 use Rattle.tablefile.proofs.budget_reading.Statement.{statement}
 use Rattle.tablefile.proofs.budget_reading.Tie as tie
 
@@ -18,10 +18,26 @@ returns-2 c = simp (le-ltb _ _ (c .before .before .if1 .left), lt-ltb _ _ (c .be
 budget-in-requires : tie.Need-budget-in-requires
 budget-in-requires c κs = search needs
 
+refusal-requires-3 : tie.Need-refusal-requires-3
+refusal-requires-3 c κs = search needs
+
 returns-3 : tie.Need-returns-3
-returns-3 c = simp (le-ltb _ _ (c .before .before .if1 .left), le-ltb _ _ (c .before .if2 .left)) (cc)
+returns-3 c =
+    let read = c .before .before in
+    let room = read .before in
+    simp
+    (le-ltb _ _ (room .before .if1 .left), le-ltb _ _ (room .if2 .left), ← read .budget-in .ensures, eq-eqb _ _ (c .before .if3 .taken))
+    (c .refusal3 .ensures)
+
+returns-4 : tie.Need-returns-4
+returns-4 c =
+    let read = c .before in
+    let room = read .before in
+    simp
+    (le-ltb _ _ (room .before .if1 .left), le-ltb _ _ (room .if2 .left), ← read .budget-in .ensures, ne-eqb _ _ (c .if3 .left))
+    (cc)
 
 pub budget-reading-spec : {M : Type 1} → statement M
 budget-reading-spec =
     tie.close
-    (tie.spec refusal-requires returns refusal-requires-2 returns-2 budget-in-requires returns-3)
+    (tie.spec refusal-requires returns refusal-requires-2 returns-2 budget-in-requires refusal-requires-3 returns-3 returns-4)

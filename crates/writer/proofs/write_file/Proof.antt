@@ -1,11 +1,11 @@
--- The length of the file decides.
+-- The budget decides first, then the length of the file.
 use borrow.Author.Needs.{needs}
 use mathlib.Core.Path.{_≡_}
 use native.Mathlib.Omega.{arith}
 use lib.ListN.{length}
 use Rattle.model.specs.TableFile.{fileOf}
 use Rattle.model.specs.Writer.{tasksOf}
-use Rattle.writer.specs.Records.{fileBytes, table-length, short, fits}
+use Rattle.writer.specs.Records.{fileBytes, table-length, nothing, something, short, fits}
 use Rattle.writer.proofs.write_file.Statement.{statement}
 use Rattle.writer.proofs.write_file.Tie as tie
 
@@ -13,16 +13,27 @@ use Rattle.writer.proofs.write_file.Tie as tie
 size : (c : tie.Start) → length (fileOf (c .args .budget) (tasksOf (c .args .table))) ≡ fileBytes (c .args .table .count)
 size c = table-length _ _ (c .pre .1)
 
+no-budget-requires : tie.Need-no-budget-requires
+no-budget-requires c κs = search needs
+
+returns : tie.Need-returns
+returns c =
+    let start = c .before .before in
+    nothing (start .args .budget) (fileOf (start .args .budget) (tasksOf (start .args .table))) (start .args .buffer .now) (c .before .if1 .taken) (c .no-budget .ensures)
+
 file-bytes-requires : tie.Need-file-bytes-requires
 file-bytes-requires c κs = search needs
 
 short-buffer-requires : tie.Need-short-buffer-requires
 short-buffer-requires c κs = search needs
 
-returns : tie.Need-returns
-returns c =
-    let start = c .before .before .before .before in
-    short (fileOf (start .args .budget) (tasksOf (start .args .table))) (start .args .buffer .now) (omega (arith, size start)) (c .short-buffer .ensures)
+returns-2 : tie.Need-returns-2
+returns-2 c =
+    let some = c .before .before .before .before in
+    let start = some .before in
+    let file = fileOf (start .args .budget) (tasksOf (start .args .table)) in
+    something (start .args .budget) file (start .args .buffer .now) (some .if1 .left)
+    (short file (start .args .buffer .now) (omega (arith, size start)) (c .short-buffer .ensures))
 
 put-file-requires : tie.Need-put-file-requires
 put-file-requires c κs = search needs
@@ -30,19 +41,23 @@ put-file-requires c κs = search needs
 same-length : tie.Need-same-length
 same-length c = search needs
 
-returns-2 : tie.Need-returns-2
-returns-2 c =
+returns-3 : tie.Need-returns-3
+returns-3 c =
     let put = c .before .before in
-    let start = put .before .before .before .before .before in
-    fits (put .put-file .ensures) (omega (arith, size start))
+    let some = put .before .before .before .before .before in
+    let start = some .before in
+    something (start .args .budget) (fileOf (start .args .budget) (tasksOf (start .args .table))) (start .args .buffer .now) (some .if1 .left)
+    (fits (put .put-file .ensures) (omega (arith, size start)))
 
 pub write-file-spec : {M : Type 1} → statement M
 write-file-spec =
     tie.close
     (tie.spec
+    no-budget-requires
+    returns
     file-bytes-requires
     short-buffer-requires
-    returns
+    returns-2
     put-file-requires
     same-length
-    returns-2)
+    returns-3)
