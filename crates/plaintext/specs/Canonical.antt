@@ -184,9 +184,9 @@ module _ (b : ℕ) where
       word-then (text "budget") (decimal b) budget-name (lit< tt)
       ∙ ap (λ (ws : List (List ℕ)). text "budget" ∷ ws) (last-word (decimal b) (number-in-word b) (means b .some))
 
-  budget-said : (count : ℕ) → b < budgetLimit → lineOf false count (wordsOf (contentOf budgetContent)) ≡ Line.Budget b
+  budget-said : (count : ℕ) → 0 < b → b < budgetLimit → lineOf false count (wordsOf (contentOf budgetContent)) ≡ Line.Budget b
   unfolding lineOf budgetLine numbersFault same text
-  budget-said count h = rw (content-whole budgetContent budget-clear, budget-words, no-fault budgetLimit b h, means b .back)
+  budget-said count some h = rw (content-whole budgetContent budget-clear, budget-words, no-fault budgetLimit b h, means b .back, ne-eqb b 0 (omega arith))
 
 -- The words of a task's line, and what they say.
 module _ (k : Task) where
@@ -236,8 +236,8 @@ tasks-read b n ks (k ∷ more) fits room =
     rw (line-then (taskContent k) (taskTexts more) (task-clear k), task-said k (length ks) (omega arith) (fits 0 (omega arith)))
     (tasks-read b (suc n) (ks ++ (k ∷ [])) more (λ i l. fits (suc i) (omega arith)) (omega (arith, length-append ks (k ∷ []))) ∙ ap (admit b) (append-snoc ks k more))
 
--- The text of a budget below 2^64 and of at most `taskLimit` tasks, each number below 2^32, has a good form and holds these.
-pub text-read : (b : ℕ) (ks : List Task) → b < budgetLimit → AllFit ks → length ks ≤ taskLimit → textForm (textOf b ks) ≡ admit b ks
+-- The text of a budget above 0 and below 2^64 and of at most `taskLimit` tasks, each number below 2^32, has a good form and holds these.
+pub text-read : (b : ℕ) (ks : List Task) → 0 < b → b < budgetLimit → AllFit ks → length ks ≤ taskLimit → textForm (textOf b ks) ≡ admit b ks
 unfolding textForm readLines
-text-read b ks limit fits few =
-    rw (line-then (budgetContent b) (taskTexts ks) (budget-clear b), budget-said b 0 limit) (tasks-read b 1 [] ks fits (omega arith))
+text-read b ks some limit fits few =
+    rw (line-then (budgetContent b) (taskTexts ks) (budget-clear b), budget-said b 0 some limit) (tasks-read b 1 [] ks fits (omega arith))

@@ -6,8 +6,8 @@ use mathlib.Core.List.{List, [], _∷_, _++_}
 use Prim.Native.Nat.{ℕ, zero, suc, _+_, _-_, min, _≤_, _<_}
 use native.Mathlib.Decide.{decLt}
 use native.Mathlib.Omega.{arith}
-use borrow.Author.Tests.{lt-leb, leb-false}
-use lib.Dec.{leb}
+use borrow.Author.Tests.{eq-eqb, ne-eqb, lt-leb, leb-false}
+use lib.Dec.{leb, eqb}
 use lib.ListN.{length, getD, take, drop}
 use lib.Seq.{length-take-le, take-take, take-all}
 use Rattle.values.specs.declared.Task.{Task}
@@ -49,9 +49,13 @@ module _ {ws : List (List ℕ)} {f : ℕ} {vs : List ℕ} (r : NumbersRead budge
   unfolding budgetLine
   budget-fault h = rw (← r .fault-is) (sym (said-fault f _ h))
 
-  pub budget-good : f ≡ 0 → Line.Budget (getD vs 0 0) ≡ budgetLine false ws
+  pub budget-nothing : f ≡ 0 → getD vs 0 0 ≡ 0 → Line.Fault 27 ≡ budgetLine false ws
   unfolding budgetLine
-  budget-good z = rw (← r .fault-is, z, r .values z 0 (omega arith))
+  budget-nothing z none = rw (← r .fault-is, z, ← r .values z 0 (omega arith), eq-eqb (getD vs 0 0) 0 none)
+
+  pub budget-good : f ≡ 0 → getD vs 0 0 ≢ 0 → Line.Budget (getD vs 0 0) ≡ budgetLine false ws
+  unfolding budgetLine
+  budget-good z some = rw (← r .fault-is, z, ← r .values z 0 (omega arith), ne-eqb (getD vs 0 0) 0 some)
 
 pub second-budget : (ws : List (List ℕ)) → Line.Fault 65 ≡ budgetLine true ws
 unfolding budgetLine
@@ -71,19 +75,20 @@ room-for-task : (given : Bool) (count : ℕ) (ws : List (List ℕ)) (k : Task) �
 unfolding lineOf budgetLine taskLine
 room-for-task given count [] k e = let z : _≡_ {A = ℕ} 0 1 = cc in absurd (omega arith)
 room-for-task given count (w ∷ ws) k e =
-    go (same w (text "budget")) (same w (text "task")) given (leb taskLimit count) (numbersFault budgetLimit 1 ws) (numbersFault wordLimit 4 ws) refl e
+    go (same w (text "budget")) (same w (text "task")) given (leb taskLimit count) (eqb (number ws 0) 0) (numbersFault budgetLimit 1 ws) (numbersFault wordLimit 4 ws) refl e
   where
-    go : (budget task g full : Bool) (f h : ℕ) → leb taskLimit count ≡ full
-        → cond budget (cond g (Line.Fault 65) (unless f (Line.Budget (number ws 0))))
+    go : (budget task g full nothing : Bool) (f h : ℕ) → leb taskLimit count ≡ full
+        → cond budget (cond g (Line.Fault 65) (unless f (cond nothing (Line.Fault 27) (Line.Budget (number ws 0)))))
         (cond task (cond (not g) (Line.Fault 64) (cond full (Line.Fault 66) (unless h (Line.OneTask (taskIn ws))))) (Line.Fault 60)) ≡ Line.OneTask k
         → count < taskLimit
-    go true task true full f h q e = let z : _≡_ {A = ℕ} 0 1 = cc in absurd (omega arith)
-    go true task false full zero h q e = let z : _≡_ {A = ℕ} 0 1 = cc in absurd (omega arith)
-    go true task false full (suc f) h q e = let z : _≡_ {A = ℕ} 0 1 = cc in absurd (omega arith)
-    go false true false full f h q e = let z : _≡_ {A = ℕ} 0 1 = cc in absurd (omega arith)
-    go false true true true f h q e = let z : _≡_ {A = ℕ} 0 1 = cc in absurd (omega arith)
-    go false true true false f h q e = leb-false taskLimit count q
-    go false false g full f h q e = let z : _≡_ {A = ℕ} 0 1 = cc in absurd (omega arith)
+    go true task true full nothing f h q e = let z : _≡_ {A = ℕ} 0 1 = cc in absurd (omega arith)
+    go true task false full true zero h q e = let z : _≡_ {A = ℕ} 0 1 = cc in absurd (omega arith)
+    go true task false full false zero h q e = let z : _≡_ {A = ℕ} 0 1 = cc in absurd (omega arith)
+    go true task false full nothing (suc f) h q e = let z : _≡_ {A = ℕ} 0 1 = cc in absurd (omega arith)
+    go false true false full nothing f h q e = let z : _≡_ {A = ℕ} 0 1 = cc in absurd (omega arith)
+    go false true true true nothing f h q e = let z : _≡_ {A = ℕ} 0 1 = cc in absurd (omega arith)
+    go false true true false nothing f h q e = leb-false taskLimit count q
+    go false false g full nothing f h q e = let z : _≡_ {A = ℕ} 0 1 = cc in absurd (omega arith)
 
 -- Up to the lines that are left, reading on makes the form of the text; `line` counts the lines before them, or is 65,535.
 pub record Reached (s : List ℕ) (given : Bool) (b : ℕ) (t : Table) (line : ℕ) (ls : List (List ℕ)) : Type 0 where

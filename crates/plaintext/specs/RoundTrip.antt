@@ -3,6 +3,7 @@ use mathlib.Core.Path.{_≡_, refl, sym, ap, _∙_}
 use mathlib.Core.List.{List}
 use Prim.Native.Nat.{ℕ, _<_}
 use native.Mathlib.Omega.{arith}
+use borrow.Author.Tests.{ne-eqb}
 use lib.ListN.{getD, take}
 use Rattle.values.specs.declared.Task.{Task}
 use Rattle.values.specs.declared.Table.{Table}
@@ -16,15 +17,15 @@ use Rattle.model.specs.TableFile.{admit, fileOf, loadedFrom}
 use Rattle.model.specs.Writer.{Filled, fitted, tasksOf, writtenBy, fileWritten}
 use Rattle.model.specs.PlainText.{textLoaded, textOf, textWritten, fromText, toText}
 use Rattle.tablefile.specs.Written.{written-read}
-use Rattle.writer.specs.RoundTrip.{tasks-back, few-and-fit, tasks-well-formed, formed-loads, fitted-front, loaded-file}
+use Rattle.writer.specs.RoundTrip.{tasks-back, few-and-fit, tasks-well-formed, formed-loads, fitted-front, budgeted-front, loaded-file}
 use Rattle.plaintext.specs.Canonical.{text-read}
 
 -- The text of a well-formed table and a budget is loaded as this budget and these tasks.
-pub text-loads : (t : Table) (m : Measure) (b : ℕ) → b < budgetLimit → judged t ≡ Judgement.WellFormed m → textLoaded (textOf b (tasksOf t)) ≡ admit b (tasksOf t)
+pub text-loads : (t : Table) (m : Measure) (b : ℕ) → 0 < b → b < budgetLimit → judged t ≡ Judgement.WellFormed m → textLoaded (textOf b (tasksOf t)) ≡ admit b (tasksOf t)
 unfolding textLoaded
-text-loads t m b limit well =
+text-loads t m b some limit well =
     let (few, fit) = few-and-fit t m b well in
-    formed-loads t m b well (text-read b (tasksOf t) limit fit few)
+    formed-loads t m b well (text-read b (tasksOf t) some limit fit few)
 
 -- What was written is loaded: the same budget and the same tasks.
 pub written-text-loads : (t : Table) (b : ℕ) (buffer : List ℕ) (n : ℕ) → b < budgetLimit → textWritten t b buffer .said ≡ Writing.Bytes n
@@ -32,31 +33,31 @@ pub written-text-loads : (t : Table) (b : ℕ) (buffer : List ℕ) (n : ℕ) →
 unfolding textWritten
 written-text-loads t b buffer n limit = go (judged t) refl
   where
-    go : (j : Judgement) → judged t ≡ j → writtenBy (textOf b (tasksOf t)) buffer j .said ≡ Writing.Bytes n → textLoaded (take n (writtenBy (textOf b (tasksOf t)) buffer j .buffer)) ≡ admit b (tasksOf t)
+    go : (j : Judgement) → judged t ≡ j → writtenBy b (textOf b (tasksOf t)) buffer j .said ≡ Writing.Bytes n → textLoaded (take n (writtenBy b (textOf b (tasksOf t)) buffer j .buffer)) ≡ admit b (tasksOf t)
     go (Judgement.Refused r) well e = let z : _≡_ {A = ℕ} 0 1 = cc in absurd (omega arith)
-    go (Judgement.WellFormed m) well e = rw (fitted-front (textOf b (tasksOf t)) buffer n e) (text-loads t m b limit well)
+    go (Judgement.WellFormed m) well e = let (some, front) = budgeted-front b (textOf b (tasksOf t)) buffer n e in rw front (text-loads t m b some limit well)
 
-module _ (t : Table) (m : Measure) (b : ℕ) (buffer : List ℕ) (limit : b < budgetLimit) (well : judged t ≡ Judgement.WellFormed m) where
+module _ (t : Table) (m : Measure) (b : ℕ) (buffer : List ℕ) (some : 0 < b) (limit : b < budgetLimit) (well : judged t ≡ Judgement.WellFormed m) where
   -- From the text of a table to its file, and from its file to its text.
   pub text-to-file : fromText (textOf b (tasksOf t)) buffer ≡ fitted (fileOf b (tasksOf t)) buffer
   unfolding fileWritten
   text-to-file =
       let (few, fit) = few-and-fit t m b well in
-      rw (text-read b (tasksOf t) limit fit few, tasks-well-formed t m b well) (ap (λ (ks : List Task). fitted (fileOf b ks) buffer) (tasks-back (tasksOf t)))
+      rw (text-read b (tasksOf t) some limit fit few, tasks-well-formed t m b well, ne-eqb b 0 (omega arith)) (ap (λ (ks : List Task). fitted (fileOf b ks) buffer) (tasks-back (tasksOf t)))
 
   pub file-to-text : toText (fileOf b (tasksOf t)) buffer ≡ fitted (textOf b (tasksOf t)) buffer
   unfolding textWritten
   file-to-text =
       let (few, fit) = few-and-fit t m b well in
-      rw (written-read b (tasksOf t) limit fit few, tasks-well-formed t m b well) (ap (λ (ks : List Task). fitted (textOf b ks) buffer) (tasks-back (tasksOf t)))
+      rw (written-read b (tasksOf t) some limit fit few, tasks-well-formed t m b well, ne-eqb b 0 (omega arith)) (ap (λ (ks : List Task). fitted (textOf b ks) buffer) (tasks-back (tasksOf t)))
 
 -- The file of the text that was written of a file that is not refused is that file.
 pub back-to-file : (file lent buffer : List ℕ) (n : ℕ) → ((i : ℕ) → getD file i 0 < 256) → loadedFrom file .admission ≡ Admission.Admitted → toText file lent .said ≡ Writing.Bytes n
     → fromText (take n (toText file lent .buffer)) buffer ≡ fitted file buffer
 back-to-file file lent buffer n bytes h said =
-    let (limit, same, (m, well)) = loaded-file file bytes h in
+    let (some, limit, same, (m, well)) = loaded-file file bytes h in
     let t = loadedFrom file .table in
     let b = loadedFrom file .budget in
-    let made : toText file lent ≡ fitted (textOf b (tasksOf t)) lent = ap (λ (s : List ℕ). toText s lent) (sym same) ∙ file-to-text t m b lent limit well in
+    let made : toText file lent ≡ fitted (textOf b (tasksOf t)) lent = ap (λ (s : List ℕ). toText s lent) (sym same) ∙ file-to-text t m b lent some limit well in
     rw (made, fitted-front (textOf b (tasksOf t)) lent n (ap (λ (f : Filled). f .said) (sym made) ∙ said))
-    (text-to-file t m b buffer limit well ∙ ap (λ (s : List ℕ). fitted s buffer) same)
+    (text-to-file t m b buffer some limit well ∙ ap (λ (s : List ℕ). fitted s buffer) same)

@@ -5,7 +5,7 @@ use mathlib.Core.Bool.{Bool, true, false, cond, not}
 use mathlib.Core.List.{List, [], _∷_, _++_}
 use Prim.Native.Nat.{ℕ, zero, suc, _+_, _*_, _≤_, _<_}
 use native.Mathlib.Omega.{arith}
-use lib.Dec.{leb, lit<}
+use lib.Dec.{leb, eqb, lit<}
 use lib.ListN.{length, getD, length-append}
 use lib.Seq.{length-take-le, getD-take}
 use Rattle.values.specs.declared.Task.{Task}
@@ -22,7 +22,7 @@ use Rattle.model.specs.Values.{refusalSaid, writingSaid, admissionSaid}
 use Rattle.model.specs.Tasks.{noTask, judged}
 use Rattle.model.specs.TableFile.{fileOf, judgedTable, judgedForm, formOf, loadedFrom}
 use Rattle.model.specs.Writer.{Filled, tasksOf, writtenBy, fileWritten, fillTold}
-use Rattle.model.specs.PlainText.{same, numbersFault, number, unless, budgetLine, taskIn, taskLine, lineOf, afterLine, readLines, linesOf, contentOf, wordsOf, textForm, formWritten, taskText, taskTexts, textOf, textWritten, toText, fromTextExported, toTextExported}
+use Rattle.model.specs.PlainText.{same, numbersFault, number, unless, budgetSaid, budgetLine, taskIn, taskLine, lineOf, afterLine, readLines, linesOf, contentOf, wordsOf, textForm, formWritten, taskText, taskTexts, textOf, textWritten, toText, fromTextExported, toTextExported}
 use Rattle.wellformed.specs.Ranges.{InRange, Ranged, holds-all}
 use Rattle.tablefile.specs.Refused.{AdmissionTellable, form-tellable}
 use Rattle.tablefile.specs.Written.{read-written}
@@ -51,7 +51,7 @@ line-faulty : (given : Bool) (count : ℕ) (ws : List (List ℕ)) → Faulty (li
 unfolding lineOf budgetLine taskLine
 line-faulty given count [] = tt
 line-faulty given count (w ∷ ws) =
-    let budget = unless-faulty (numbersFault budgetLimit 1 ws) (Line.Budget (number ws 0)) tt in
+    let budget = unless-faulty (numbersFault budgetLimit 1 ws) (budgetSaid (number ws 0)) (either (eqb (number ws 0) 0) _ _ (lit< tt) tt) in
     let task = unless-faulty (numbersFault wordLimit 4 ws) (Line.OneTask (taskIn ws)) tt in
     either (same w (text "budget")) _ _ (either given _ _ (lit< tt) budget)
     (either (same w (text "task")) _ _ (either (not given) _ _ (lit< tt) (either (leb taskLimit count) _ _ (lit< tt) task)) (lit< tt))
@@ -110,7 +110,7 @@ unfolding textWritten
 to-text-apart file buffer bytes =
     let l = formOf file in
     form-apart longestText buffer (textOf (l .budget) (tasksOf (l .table))) (textWritten (l .table) (l .budget) buffer) (l .admission) (form-tellable file)
-    (λ good. table-apart longestText (lit< tt) buffer (l .table) (textOf (l .budget) (tasksOf (l .table))) (text-short (l .table) (l .budget) (read-written file bytes good .0)))
+    (λ good. table-apart longestText (lit< tt) buffer (l .table) (l .budget) (textOf (l .budget) (tasksOf (l .table))) (text-short (l .table) (l .budget) (read-written file bytes good .1)))
 
 -- A file that is refused when it is loaded is refused in the same way when its text is to be written.
 pub refused-to-text : (file buffer : List ℕ) (r : Refusal) → loadedFrom file .admission ≡ Admission.Refused r
@@ -123,6 +123,6 @@ refused-to-text file buffer r = go (formOf file) (formOf file .admission) refl
     go l (Admission.Refused q) e h = (ap admissionSaid (sym e ∙ h), refl)
     go l Admission.Admitted e h = by-table (judged (l .table)) h
       where
-        by-table : (j : Judgement) → judgedTable l j .admission ≡ Admission.Refused r → let f = writtenBy (textOf (l .budget) (tasksOf (l .table))) buffer j in (writingSaid (f .said) ≡ refusalSaid r) × (f .buffer ≡ buffer)
+        by-table : (j : Judgement) → judgedTable l j .admission ≡ Admission.Refused r → let f = writtenBy (l .budget) (textOf (l .budget) (tasksOf (l .table))) buffer j in (writingSaid (f .said) ≡ refusalSaid r) × (f .buffer ≡ buffer)
         by-table (Judgement.Refused q) h = (ap admissionSaid h, refl)
         by-table (Judgement.WellFormed m) h = let z : _≡_ {A = ℕ} 0 1 = cc in absurd (omega arith)

@@ -6,7 +6,7 @@ ghost use lib.ListN.{length, take};
 ghost use Rattle.model.specs.Limits.{taskLimit, longestText};
 ghost use Rattle.model.specs.TableFile.{refuseFile};
 ghost use Rattle.model.specs.PlainText.{isGap, isDigit, withoutReturn, contentOf, wordsOf, allDigits, numbersFault, same, budgetLine, taskLine, lineOf, textForm, textLoaded, taskText, taskTexts, textOf, textWritten, fromText, toText};
-ghost use Rattle.model.specs.Writer.{tasksOf, fitted};
+ghost use Rattle.model.specs.Writer.{tasksOf, fitted, budgeted};
 ghost use Rattle.counting.specs.Put.{Put};
 ghost use Rattle.wellformed.specs.Ranges.{Ranged};
 ghost use Rattle.tablefile.specs.Built.{withTask};
@@ -39,6 +39,8 @@ const LAST_LINE: u32 = 65_535;
 
 // Room for the longest text, the lines of a budget and of every task, and for numbers of 64 bits in its last line.
 const ASIDE: usize = 28 + TASK_LIMIT * 29 + 60;
+
+const NOTHING: u32 = 27;
 
 const UNKNOWN_WORD: u32 = 60;
 
@@ -236,7 +238,11 @@ fn budget_line(rest: &[u8], given: bool) -> Line
         return Line::Fault(read.fault);
     }
     let values = read.values;
-    Line::Budget(values[0])
+    let budget = values[0];
+    if budget == 0 {
+        return Line::Fault(NOTHING);
+    }
+    Line::Budget(budget)
 }
 
 fn task_line(rest: &[u8], given: bool, count: usize) -> Line
@@ -397,7 +403,7 @@ pub fn load(text: &[u8]) -> Loaded
     }
 }
 
-// Any table, budget and buffer: the table is judged first, then the buffer's length.
+// Any table, budget and buffer: the table is judged first, then the budget, then the buffer's length.
 pub fn write(table: Table, budget: u64, buffer: &mut [u8]) -> Writing
     ensures { λ r. ⌜ filled r (now (buffer .exit)) ≡ textWritten table budget (now (buffer .entry)) ⌝ }
 {
@@ -410,8 +416,11 @@ pub fn write(table: Table, budget: u64, buffer: &mut [u8]) -> Writing
 // The text is made aside, where there is room for every one, so that a short buffer stays as it is.
 fn write_text(table: Table, budget: u64, buffer: &mut [u8]) -> Writing
     requires { ⌜ Ranged table ⌝ }
-    ensures { λ r. ⌜ filled r (now (buffer .exit)) ≡ fitted (textOf budget (tasksOf table)) (now (buffer .entry)) ⌝ }
+    ensures { λ r. ⌜ filled r (now (buffer .exit)) ≡ budgeted budget (textOf budget (tasksOf table)) (now (buffer .entry)) ⌝ }
 {
+    if budget == 0 {
+        return writer::no_budget();
+    }
     let mut aside = [0u8; ASIDE];
     let bytes = put_text(&mut aside, budget, table);
     copy_text(buffer, &aside[0..bytes])

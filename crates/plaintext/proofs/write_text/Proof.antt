@@ -1,14 +1,24 @@
--- What was made aside is the text.
+-- The budget decides first; what was made aside is the text.
 use mathlib.Core.Path.{ap, _∙_}
 use mathlib.Core.List.{List}
 use Prim.Native.Nat.{ℕ}
 use native.Mathlib.Omega.{arith}
 use borrow.Author.Needs.{needs}
-use Rattle.model.specs.Writer.{fitted}
+use Rattle.model.specs.Writer.{fitted, tasksOf}
+use Rattle.model.specs.PlainText.{textOf}
+use Rattle.writer.specs.Records.{nothing, something}
 use Rattle.plaintext.specs.Texts.{front}
 use Rattle.plaintext.specs.Lines.{from-front}
 use Rattle.plaintext.proofs.write_text.Statement.{statement}
 use Rattle.plaintext.proofs.write_text.Tie as tie
+
+no-budget-requires : tie.Need-no-budget-requires
+no-budget-requires c κs = search needs
+
+returns : tie.Need-returns
+returns c =
+    let start = c .before .before .before in
+    nothing (start .args .budget) (textOf (start .args .budget) (tasksOf (start .args .table))) (start .args .buffer .now) (c .before .if1 .taken) (c .no-budget .ensures)
 
 slice-aggregate-put-text : tie.Need-slice-aggregate-put-text
 slice-aggregate-put-text c = search needs
@@ -31,18 +41,22 @@ copy-text-requires c κs = search needs
 same-length : tie.Need-same-length
 same-length c = search needs
 
-returns : tie.Need-returns
-returns c =
+returns-2 : tie.Need-returns-2
+returns-2 c =
     let copied = c .before .before in
     let made = copied .before .before .before .before .before in
-    let start = made .before .before .before in
-    copied .copy-text .ensures
-    ∙ ap (λ (bytes : List ℕ). fitted bytes (start .args .buffer .now)) (from-front (made .put-text .last .0) (made .put-text .result) ∙ front (made .put-text .ensures .0) (omega (arith, made .put-text .ensures .1)))
+    let some = made .before .before in
+    let start = some .before .before in
+    something (start .args .budget) (textOf (start .args .budget) (tasksOf (start .args .table))) (start .args .buffer .now) (some .if1 .left)
+    (copied .copy-text .ensures
+    ∙ ap (λ (bytes : List ℕ). fitted bytes (start .args .buffer .now)) (from-front (made .put-text .last .0) (made .put-text .result) ∙ front (made .put-text .ensures .0) (omega (arith, made .put-text .ensures .1))))
 
 pub write-text-spec : {M : Type 1} → statement M
 write-text-spec =
     tie.close
     (tie.spec
+    no-budget-requires
+    returns
     slice-aggregate-put-text
     put-text-requires
     sub-copy-text
@@ -50,4 +64,4 @@ write-text-spec =
     part-copy-text-end
     copy-text-requires
     same-length
-    returns)
+    returns-2)

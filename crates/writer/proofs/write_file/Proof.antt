@@ -18,7 +18,7 @@ no-budget-requires c κs = search needs
 
 returns : tie.Need-returns
 returns c =
-    let start = c .before .before in
+    let start = c .before .before .before in
     nothing (start .args .budget) (fileOf (start .args .budget) (tasksOf (start .args .table))) (start .args .buffer .now) (c .before .if1 .taken) (c .no-budget .ensures)
 
 file-bytes-requires : tie.Need-file-bytes-requires
@@ -29,8 +29,8 @@ short-buffer-requires c κs = search needs
 
 returns-2 : tie.Need-returns-2
 returns-2 c =
-    let some = c .before .before .before .before in
-    let start = some .before in
+    let some = c .before .before .before in
+    let start = some .before .before in
     let file = fileOf (start .args .budget) (tasksOf (start .args .table)) in
     something (start .args .budget) file (start .args .buffer .now) (some .if1 .left)
     (short file (start .args .buffer .now) (omega (arith, size start)) (c .short-buffer .ensures))
@@ -44,8 +44,8 @@ same-length c = search needs
 returns-3 : tie.Need-returns-3
 returns-3 c =
     let put = c .before .before in
-    let some = put .before .before .before .before .before in
-    let start = some .before in
+    let some = put .before .before .before .before in
+    let start = some .before .before in
     something (start .args .budget) (fileOf (start .args .budget) (tasksOf (start .args .table))) (start .args .buffer .now) (some .if1 .left)
     (fits (put .put-file .ensures) (omega (arith, size start)))
 
