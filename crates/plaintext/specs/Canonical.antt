@@ -14,8 +14,8 @@ use Rattle.values.specs.declared.Task.{Task}
 use Rattle.values.specs.declared.Line.{Line}
 use Rattle.model.specs.Notation.{text, decimal}
 use Rattle.model.specs.Limits.{taskLimit, wordLimit, budgetLimit}
-use Rattle.model.specs.TableFile.{admit}
-use Rattle.model.specs.PlainText.{isLineFeed, isHash, isGap, isDigit, split, filled, linesOf, contentOf, wordsOf, allDigits, valueAfter, value, numberFault, numbersFault, same, budgetLine, taskLine, lineOf, readLines, textForm, taskTexts, textOf}
+use Rattle.model.specs.TableFile.{refuseFile, admit}
+use Rattle.model.specs.PlainText.{isLineFeed, isHash, isGap, isDigit, split, filled, linesOf, contentOf, wordsOf, allDigits, valueAfter, value, numberFault, numbersFault, same, budgetSaid, budgetLine, taskLine, lineOf, readLines, textForm, taskTexts, textOf}
 use Rattle.tablefile.specs.Written.{AllFit, Fits32}
 use Rattle.text.specs.Decimal.{one-digit, last-digit}
 use Rattle.plaintext.specs.Words.{kept}
@@ -184,9 +184,9 @@ module _ (b : ℕ) where
       word-then (text "budget") (decimal b) budget-name (lit< tt)
       ∙ ap (λ (ws : List (List ℕ)). text "budget" ∷ ws) (last-word (decimal b) (number-in-word b) (means b .some))
 
-  budget-said : (count : ℕ) → 0 < b → b < budgetLimit → lineOf false count (wordsOf (contentOf budgetContent)) ≡ Line.Budget b
+  budget-said : (count : ℕ) → b < budgetLimit → lineOf false count (wordsOf (contentOf budgetContent)) ≡ budgetSaid b
   unfolding lineOf budgetLine numbersFault same text
-  budget-said count some h = rw (content-whole budgetContent budget-clear, budget-words, no-fault budgetLimit b h, means b .back, ne-eqb b 0 (omega arith))
+  budget-said count h = rw (content-whole budgetContent budget-clear, budget-words, no-fault budgetLimit b h, means b .back)
 
 -- The words of a task's line, and what they say.
 module _ (k : Task) where
@@ -240,4 +240,9 @@ tasks-read b n ks (k ∷ more) fits room =
 pub text-read : (b : ℕ) (ks : List Task) → 0 < b → b < budgetLimit → AllFit ks → length ks ≤ taskLimit → textForm (textOf b ks) ≡ admit b ks
 unfolding textForm readLines
 text-read b ks some limit fits few =
-    rw (line-then (budgetContent b) (taskTexts ks) (budget-clear b), budget-said b 0 some limit) (tasks-read b 1 [] ks fits (omega arith))
+    rw (line-then (budgetContent b) (taskTexts ks) (budget-clear b), budget-said b 0 limit, ne-eqb b 0 (omega arith)) (tasks-read b 1 [] ks fits (omega arith))
+
+-- That of a budget of 0 is refused at its first line.
+pub text-nothing : (ks : List Task) → textForm (textOf 0 ks) ≡ refuseFile 27 1
+unfolding textForm readLines
+text-nothing ks = rw (line-then (budgetContent 0) (taskTexts ks) (budget-clear 0), budget-said 0 0 (omega arith))

@@ -26,7 +26,7 @@ use Rattle.model.specs.Limits.{taskLimit, slotLimit, roundLimit, reportBytes, b
 use Rattle.model.specs.Values.{refusal, refusalSaid, judgementSaid, admissionSaid, givenSaid, outcomeSaid}
 use Rattle.model.specs.Tasks.{task, round, measure, judged, load, horizon}
 use Rattle.model.specs.Verdict.{verdict, brief, Permitted}
-use Rattle.model.specs.TableFile.{admit, fileOf, formOf, loadedFrom}
+use Rattle.model.specs.TableFile.{budgetKind, eight, admit, fileOf, formOf, loadedFrom}
 use Rattle.model.specs.Dispatcher as model
 use Rattle.model.specs.Dispatcher.{State, firstStrange, lastStrange, turn, after, stepJudged, started, stepped, isLate, ownerNow}
 use Rattle.dispatch.specs.declared.Dispatcher.{Dispatcher}
@@ -49,6 +49,7 @@ use Rattle.tablefile.specs.Said.{recordSaid, numbersAt, Has, record-said}
 use Rattle.tablefile.specs.Admitted.{admitted}
 use Rattle.tablefile.specs.Longer.{first-form, first-bytes}
 use Rattle.tablefile.specs.Refused.{AdmissionTellable, load-tellable}
+use Rattle.tablefile.specs.Written as tablefile
 use Rattle.tablefile.specs.Written.{AllFit, form-length, written-read, read-written}
 use Rattle.report.specs.Permitted.{Fitting, permitted-fits}
 use Rattle.statebuffer.specs.Told.{Apart}
@@ -205,15 +206,22 @@ pub started-said : (t : Table) (m : Measure) → judged t ≡ Judgement.WellForm
 unfolding started
 started-said t m well = rw well refl
 
--- The file of any budget of eight bytes and of at most `taskLimit` tasks, each number below 2^32, has a good form and holds these.
-pub written-is-read : (b : ℕ) (ks : List Task) → b < budgetLimit → AllFit ks → length ks ≤ taskLimit → formOf (fileOf b ks) ≡ admit b ks
+-- The file of any budget of eight bytes above 0 and of at most `taskLimit` tasks, each number below 2^32, has a good form and holds these.
+pub written-is-read : (b : ℕ) (ks : List Task) → 0 < b → b < budgetLimit → AllFit ks → length ks ≤ taskLimit → formOf (fileOf b ks) ≡ admit b ks
 written-is-read = written-read
 
 -- A list of bytes whose form is good is the file of its budget and of the tasks of its table: there is no other good form.
 pub read-was-written : (file : List ℕ) → ((i : ℕ) → getD file i 0 < 256) → formOf file .admission ≡ Admission.Admitted
-    → (formOf file .budget < budgetLimit)
+    → (0 < formOf file .budget)
+    × (formOf file .budget < budgetLimit)
     × ((ks : List Task) × (length ks ≤ taskLimit) × AllFit ks × (file ≡ fileOf (formOf file .budget) ks) × (formOf file ≡ admit (formOf file .budget) ks))
 read-was-written = read-written
+
+-- A file that begins with a whole budget of 0 is refused by 27 at 0, whatever follows.
+pub nothing-read : (file : List ℕ) → getD file 0 0 ≡ budgetKind → budgetBytes ≤ length file → eight file 1 ≡ 0
+    → (admissionSaid (formOf file .admission) ≡ 27 ∷ 0 ∷ []) × (admissionSaid (loadedFrom file .admission) ≡ 27 ∷ 0 ∷ [])
+unfolding loadedFrom
+nothing-read file kind long none = rw (tablefile.nothing-read file kind long none) (refl, refl)
 
 -- A file whose form is good has the bytes of a budget, of each task and of the end, and so no more than the longest legal file.
 pub legal-length : (file : List ℕ) → formOf file .admission ≡ Admission.Admitted

@@ -2,7 +2,7 @@
 -- these; from a file to its text and back the bytes are the same.
 use mathlib.Core.Path.{_≡_, refl, sym, ap, _∙_}
 use mathlib.Core.Logic.{_⊎_}
-use mathlib.Core.List.{List, _++_}
+use mathlib.Core.List.{List, [], _∷_, _++_}
 use Prim.Native.Nat.{ℕ, _≤_, _<_}
 use lib.ListN.{length, getD, take, drop}
 use Rattle.values.specs.declared.Task.{Task}
@@ -22,7 +22,7 @@ use Rattle.model.specs.Writer.{Filled, fitted, tasksOf, fileWritten}
 use Rattle.model.specs.PlainText.{textForm, textLoaded, textOf, textWritten, fromText, toText, fromTextExported, toTextExported}
 use Rattle.tablefile.specs.Written.{AllFit}
 use Rattle.writer.specs.RoundTrip.{tasks-back}
-use Rattle.plaintext.specs.Canonical.{text-read}
+use Rattle.plaintext.specs.Canonical.{text-read, text-nothing}
 use Rattle.plaintext.specs.RoundTrip as round
 use Rattle.plaintext.specs.Told as told
 
@@ -48,9 +48,18 @@ one-from-text-export s buffer a b e f = e ∙ sym f
 pub one-to-text-export : (file buffer : List ℕ) (a b : Exported) → a ≡ toTextExported file buffer → b ≡ toTextExported file buffer → a ≡ b
 one-to-text-export file buffer a b e f = e ∙ sym f
 
--- The text of any budget below 2^64 and of at most `taskLimit` tasks, each number below 2^32, has a good form and holds these.
-pub text-is-read : (b : ℕ) (ks : List Task) → b < budgetLimit → AllFit ks → length ks ≤ taskLimit → textForm (textOf b ks) ≡ admit b ks
+-- The text of any budget above 0 and below 2^64 and of at most `taskLimit` tasks, each number below 2^32, has a good form and holds these.
+pub text-is-read : (b : ℕ) (ks : List Task) → 0 < b → b < budgetLimit → AllFit ks → length ks ≤ taskLimit → textForm (textOf b ks) ≡ admit b ks
 text-is-read = text-read
+
+-- That of a budget of 0 is refused by 27 at its first line, whatever follows; nobody writes it: that is 27 at 0, and the buffer stays as it was.
+pub text-of-nothing : (ks : List Task) → admissionSaid (textForm (textOf 0 ks) .admission) ≡ 27 ∷ 1 ∷ []
+text-of-nothing ks = rw (text-nothing ks) refl
+
+pub nothing-text-writing : (t : Table) (m : Measure) (buffer : List ℕ) → judged t ≡ Judgement.WellFormed m
+    → let f = textWritten t 0 buffer in (writingSaid (f .said) ≡ 27 ∷ 0 ∷ []) × (f .buffer ≡ buffer)
+unfolding textWritten
+nothing-text-writing t m buffer well = rw well (refl, refl)
 
 -- What was written as a text is loaded: it is not refused, and has the same budget and the same tasks in their order.
 pub written-text-loads : (t : Table) (budget : ℕ) (buffer : List ℕ) (n : ℕ) → budget < budgetLimit → textWritten t budget buffer .said ≡ Writing.Bytes n
@@ -59,12 +68,12 @@ written-text-loads t budget buffer n limit e =
     let same = round.written-text-loads t budget buffer n limit e in
     (ap (λ (l : Loaded). l .admission) same, ap (λ (l : Loaded). l .budget) same, ap (λ (l : Loaded). tasksOf (l .table)) same ∙ tasks-back (tasksOf t))
 
--- The text of a well-formed table is made its file, and its file its text.
-pub text-to-file : (t : Table) (m : Measure) (budget : ℕ) (buffer : List ℕ) → budget < budgetLimit → judged t ≡ Judgement.WellFormed m
+-- The text of a well-formed table and a budget above 0 is made its file, and its file its text.
+pub text-to-file : (t : Table) (m : Measure) (budget : ℕ) (buffer : List ℕ) → 0 < budget → budget < budgetLimit → judged t ≡ Judgement.WellFormed m
     → fromText (textOf budget (tasksOf t)) buffer ≡ fitted (fileOf budget (tasksOf t)) buffer
 text-to-file = round.text-to-file
 
-pub file-to-text : (t : Table) (m : Measure) (budget : ℕ) (buffer : List ℕ) → budget < budgetLimit → judged t ≡ Judgement.WellFormed m
+pub file-to-text : (t : Table) (m : Measure) (budget : ℕ) (buffer : List ℕ) → 0 < budget → budget < budgetLimit → judged t ≡ Judgement.WellFormed m
     → toText (fileOf budget (tasksOf t)) buffer ≡ fitted (textOf budget (tasksOf t)) buffer
 file-to-text = round.file-to-text
 

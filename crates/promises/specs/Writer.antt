@@ -36,17 +36,23 @@ pub refused-writing : (t : Table) (budget : ℕ) (buffer : List ℕ) (r : Refusa
 unfolding fileWritten
 refused-writing t budget buffer r e = rw e (refl, refl)
 
--- A buffer that is shorter than the file of a well-formed table is refused by 31 at its length, and stays as it was.
-pub short-writing : (t : Table) (m : Measure) (budget : ℕ) (buffer : List ℕ) → judged t ≡ Judgement.WellFormed m → length buffer < length (fileOf budget (tasksOf t))
+-- Then a budget of 0 is refused by 27 at 0, whatever the buffer, and the buffer stays as it was.
+pub nothing-writing : (t : Table) (m : Measure) (buffer : List ℕ) → judged t ≡ Judgement.WellFormed m
+    → let f = fileWritten t 0 buffer in (writingSaid (f .said) ≡ 27 ∷ 0 ∷ []) × (f .buffer ≡ buffer)
+unfolding fileWritten
+nothing-writing t m buffer well = rw well (refl, refl)
+
+-- Then a buffer that is shorter than the file is refused by 31 at its length, and stays as it was.
+pub short-writing : (t : Table) (m : Measure) (budget : ℕ) (buffer : List ℕ) → judged t ≡ Judgement.WellFormed m → 0 < budget → length buffer < length (fileOf budget (tasksOf t))
     → let f = fileWritten t budget buffer in (writingSaid (f .said) ≡ 31 ∷ length buffer ∷ []) × (f .buffer ≡ buffer)
-short-writing t m budget buffer well h = rw (told.short-writing t m budget buffer well h) (refl, refl)
+short-writing t m budget buffer well some h = rw (told.short-writing t m budget buffer well some h) (refl, refl)
 
 -- Any other gets the file at its front, of at most `longestFile` bytes, and its length is told; the bytes behind it stay as they were.
-pub long-writing : (t : Table) (m : Measure) (budget : ℕ) (buffer : List ℕ) → judged t ≡ Judgement.WellFormed m → length (fileOf budget (tasksOf t)) ≤ length buffer
+pub long-writing : (t : Table) (m : Measure) (budget : ℕ) (buffer : List ℕ) → judged t ≡ Judgement.WellFormed m → 0 < budget → length (fileOf budget (tasksOf t)) ≤ length buffer
     → let f = fileWritten t budget buffer in
     let file = fileOf budget (tasksOf t) in
     (writingSaid (f .said) ≡ 0 ∷ length file ∷ []) × (f .buffer ≡ file ++ drop (length file) buffer) × (length file ≤ longestFile)
-long-writing t m budget buffer well h = let (e, few) = told.long-writing t m budget buffer well h in rw e (refl, refl, few)
+long-writing t m budget buffer well some h = let (e, few) = told.long-writing t m budget buffer well some h in rw e (refl, refl, few)
 
 -- What was written is loaded: it is not refused, and has the same budget and the same tasks in their order.
 pub written-loads : (t : Table) (budget : ℕ) (buffer : List ℕ) (n : ℕ) → budget < budgetLimit → fileWritten t budget buffer .said ≡ Writing.Bytes n

@@ -6,7 +6,7 @@ use mathlib.Core.List.{List, _++_}
 use Prim.Native.Nat.{ℕ, min, _%_, _≤_, _<_}
 use native.Mathlib.Nat.{le-refl}
 use native.Mathlib.Omega.{arith}
-use borrow.Author.Tests.{eq-eqb, ne-eqb, lt-ltb, le-ltb, ltb-true}
+use borrow.Author.Tests.{ne-eqb, lt-ltb, le-ltb, ltb-true}
 use lib.Dec.{ltb, eqb, lit<}
 use lib.ListN.{length, getD, drop, replicate, length-replicate}
 use Rattle.values.specs.declared.Table.{Table}
@@ -32,10 +32,6 @@ use Rattle.writer.specs.RoundTrip as round
 -- The file of a table that keeps its ranges is no longer than the longest legal file.
 short-file : (t : Table) (b : ℕ) → Ranged t → length (fileOf b (tasksOf t)) ≤ longestFile
 short-file t b r = omega (arith, table-length b t (holds-all t r), r .few)
-
-pub no-budget-writing : (t : Table) (m : Measure) (buffer : List ℕ) → judged t ≡ Judgement.WellFormed m → fileWritten t 0 buffer ≡ unwritten 27 0 buffer
-unfolding fileWritten
-no-budget-writing t m buffer well = rw well
 
 pub short-writing : (t : Table) (m : Measure) (b : ℕ) (buffer : List ℕ) → judged t ≡ Judgement.WellFormed m → 0 < b → length buffer < length (fileOf b (tasksOf t))
     → fileWritten t b buffer ≡ unwritten 31 (length buffer) buffer
