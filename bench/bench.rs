@@ -19,7 +19,7 @@ fn slow_to_judge() -> [(&'static str, Vec<Task>); 2] {
     let good: Vec<Task> = (0..16).map(|i| task(60000 - i, 3000, near[i as usize % 5], near[i as usize % 5])).collect();
     let mut bad = good.clone();
     bad[15] = task(0, 3000, 59999, 59999);
-    [("check, 16 tasks, budget 0", good), ("check, 16 tasks, H refused", bad)]
+    [("check, 16 tasks, budget 1", good), ("check, 16 tasks, H refused", bad)]
 }
 
 fn walks() -> bool {
@@ -92,7 +92,7 @@ fn single_calls() {
     println!("{:<34} {:>8} {:>7}", "one call, microseconds", "", "noise %");
     let print = |name: &str, best: &Best| println!("{name:<34} {:>8.2} {:>7.1}", best.best / 1e3, best.noise());
     for (name, tasks) in slow_to_judge() {
-        let file = table_file(&tasks, 0);
+        let file = table_file(&tasks, 1);
         let mut report = [0u8; REPORT_BYTES];
         let all = turn_about(&mut [&mut || {
             black_box(check(black_box(&file), &mut report));
@@ -109,7 +109,7 @@ fn single_calls() {
         });
     }
     for (name, tasks) in tables().into_iter().filter(|(_, tasks)| tasks.len() >= 16) {
-        let file = table_file(&tasks, 0);
+        let file = table_file(&tasks, 1);
         let mut state = [0u8; STATE_BYTES];
         assert_eq!(start(&file, &mut state), 0);
         let all = turn_about(&mut [&mut || {

@@ -50,7 +50,7 @@ fn slots_of(name: &str, tasks: &[Task]) -> u64 {
         End::Reached(at) => at,
     };
     if slots <= LONGEST_WALK {
-        for budget in [0, 1, slots / 3, slots - 1, slots] {
+        for budget in [1, 2, slots / 3, slots - 1, slots] {
             agreed(name, tasks, budget);
         }
     }

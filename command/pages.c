@@ -120,7 +120,7 @@ static const char page_text[] =
     "  deadline   1 to the period\n"
     "  cost       1 to the deadline\n"
     "  offset     0 to 60,000\n"
-    "  budget     the horizon is enough; 2,000,000,060,000 is for every table\n";
+    "  budget     from 1; the horizon is enough; 2,000,000,060,000 is for every table\n";
 
 static const struct page pages[] = {
     {"judge", page_judge}, {"quick", page_quick}, {"distance", page_distance}, {"run", page_run},

@@ -25,6 +25,7 @@ static const struct meaning meanings[] = {
     {YOLIZADWA_BYTES_AFTER_END, "the file goes on at byte ", ", after its end"},
     {YOLIZADWA_EXTRA_TASK, "a thirty-third task begins at byte ", ""},
     {YOLIZADWA_NO_END, "the file stops at byte ", " without an end"},
+    {YOLIZADWA_ZERO_BUDGET, "a budget of 0 tests nothing; the least is 1", NULL},
     {YOLIZADWA_UNKNOWN_WORD, "line ", " begins with a word that is neither budget nor task"},
     {YOLIZADWA_NO_NUMBER, "line ", " has a word that is no decimal number"},
     {YOLIZADWA_LARGE_NUMBER, "line ", " has a number that is too large to be read"},
@@ -120,7 +121,8 @@ static int has_a_line(uint64_t result)
     if (number == YOLIZADWA_NO_BUDGET && yolizadwa_place(result) == LAST_LINE_TOLD) {
         return 0;
     }
-    return (number >= YOLIZADWA_BAD_PERIOD && number <= YOLIZADWA_BAD_OFFSET) || number >= YOLIZADWA_UNKNOWN_WORD;
+    return (number >= YOLIZADWA_BAD_PERIOD && number <= YOLIZADWA_BAD_OFFSET) || number == YOLIZADWA_ZERO_BUDGET ||
+           number >= YOLIZADWA_UNKNOWN_WORD;
 }
 
 /* Some editors put one in front: a text of theirs cannot be read, and nothing is to be seen. */

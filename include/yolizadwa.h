@@ -41,7 +41,7 @@ extern "C" {
 /*
  * A table file is a row of records; a record is one byte of kind and a body. Numbers are little-endian.
  *
- *   kind 1, budget   8 bytes: how many slots the test may look at. First in the file, once.
+ *   kind 1, budget   8 bytes: how many slots the test may look at, 1 or more. First in the file, once.
  *   kind 2, task    16 bytes: offset, cost, deadline, period, four bytes each. 0 to 32 times; numbered from 0.
  *   kind 3, end      0 bytes. Nothing comes after it.
  */
@@ -53,9 +53,9 @@ enum yolizadwa_kind {
 
 /*
  * What a refusal's number says, and what its place is. If several hold, the first of this order is told: the length of a
- * report or state buffer (30, 50); the first fault of what is read (20 to 26 of a file, 51 then 52 of words, 60 to 66 of a
- * text); the number of tasks (1, 2); then task by task 3, 4, 5, 6; then 7; then the state (8) or the length of the buffer that
- * is written (31).
+ * report or state buffer (30, 50); the first fault of what is read (20 to 27 of a file, 51 then 52 of words, 60 to 66 or 27 of
+ * a text); the number of tasks (1, 2); then task by task 3, 4, 5, 6; then 7; then the state (8), or the budget that is written
+ * (27) and the length of the buffer for it (31).
  */
 enum yolizadwa_refusal {
     YOLIZADWA_NO_TASK = 1,          /* the table has no task; place 0 */
@@ -73,6 +73,7 @@ enum yolizadwa_refusal {
     YOLIZADWA_BYTES_AFTER_END = 24, /* bytes after the end record; place: the first of them */
     YOLIZADWA_EXTRA_TASK = 25,      /* a thirty-third task; place: where it begins */
     YOLIZADWA_NO_END = 26,          /* the file ends after a whole record, without an end record; place: its length */
+    YOLIZADWA_ZERO_BUDGET = 27,     /* the budget is 0, and nothing would be looked at; place 0, in a text its line */
     YOLIZADWA_SHORT_REPORT = 30,    /* the report buffer has fewer than 1,024 bytes; place: its length */
     YOLIZADWA_SHORT_BUFFER = 31,    /* the buffer is shorter than what is to be written; place: its length */
     YOLIZADWA_STATE_LENGTH = 50,    /* the state buffer has not 272 bytes; place: its length, 65,535 if it is longer */
@@ -107,7 +108,7 @@ static inline uint32_t yolizadwa_place(uint64_t result) { return (uint32_t)(resu
  * writes the 44 bytes of a file with budget 1,000. What was written is read as the same budget and tasks, and what was
  * read from a file that is not refused is written as the same bytes.
  *
- * Refusals, in this order: 51; 52; 1 to 7; 31.
+ * Refusals, in this order: 51; 52; 1 to 7; 27 for a budget of 0; 31.
  */
 #define YOLIZADWA_ROW_WORDS 5
 uint64_t yolizadwa_write(const uint32_t *words, size_t count, uint64_t budget, uint8_t *file, size_t file_len);
@@ -125,11 +126,11 @@ uint64_t yolizadwa_write(const uint32_t *words, size_t count, uint64_t budget, u
  * are decimal. Any bytes of any length may be handed over: (const uint8_t *)text, strlen(text) for a string of C.
  *
  * yolizadwa_from_text writes the table file of a text at the beginning of a buffer; the result is the file's length, at most
- * YOLIZADWA_LONGEST_FILE. Refusals: the text's first fault (60 to 66; in a line from left to right), then 1 and 3 to
- * 7, then 31.
+ * YOLIZADWA_LONGEST_FILE. Refusals: the text's first fault (60 to 66; in a line from left to right; 27 for a budget of 0 in a
+ * line that has no other fault), then 1 and 3 to 7, then 31.
  *
  * yolizadwa_to_text writes the text of a table file, without comments and with one blank between words; the result is the
- * text's length, at most YOLIZADWA_LONGEST_TEXT, with no zero byte at its end. Refusals: 20 to 26; 1 and 3 to 7; 31.
+ * text's length, at most YOLIZADWA_LONGEST_TEXT, with no zero byte at its end. Refusals: 20 to 27; 1 and 3 to 7; 31.
  * The file of that text is the same file, byte for byte.
  *
  * Bytes behind what is written stay as they were.
@@ -165,7 +166,7 @@ uint64_t yolizadwa_to_text(const uint8_t *file, size_t file_len, uint8_t *text, 
  * to its deadline, and a step 0.6 microseconds; two tasks with periods of 60,000 and 59,996 were checked in 0.4 ms, and
  * tables/slow.txt, with a release every fourth slot of 1,799,880,002, with a large budget in 2.9 seconds.
  *
- * Refusals: 30; 20 to 26; 1 and 3 to 7.
+ * Refusals: 30; 20 to 27; 1 and 3 to 7.
  */
 uint64_t yolizadwa_check(const uint8_t *file, size_t file_len, uint8_t *report, size_t report_len);
 
@@ -188,7 +189,7 @@ uint64_t yolizadwa_check_plainly(const uint8_t *file, size_t file_len, uint8_t *
  * check whatever its budget. It leaps as a check does; the longest that was measured, of 16 tasks with periods from 54,000 on,
  * took 5 ms (docs/PERFORMANCE.md). No call can stop it.
  *
- * Refusals: 20 to 26; 1 and 3 to 7.
+ * Refusals: 20 to 27; 1 and 3 to 7.
  */
 uint64_t yolizadwa_quick(const uint8_t *file, size_t file_len);
 
@@ -204,7 +205,7 @@ uint64_t yolizadwa_quick(const uint8_t *file, size_t file_len);
  * No budget bounds the slots looked at: there is a walk for each task, mostly short, but with a load near 1 as long as the
  * quick test's may be, up to 32 times 1,000,000,000,000 slots in all. No call can stop it.
  *
- * Refusals: 20 to 26; 1 and 3 to 7.
+ * Refusals: 20 to 27; 1 and 3 to 7.
  */
 uint64_t yolizadwa_distance(const uint8_t *file, size_t file_len);
 
@@ -226,7 +227,7 @@ struct yolizadwa_state {
  * may be started, also one that does not pass: its jobs may be closed late. The budget must stand in the file and plays
  * no part.
  *
- * The result is 0. Refusals: 50; 20 to 26; 1 and 3 to 7.
+ * The result is 0. Refusals: 50; 20 to 27; 1 and 3 to 7.
  */
 uint64_t yolizadwa_start(const uint8_t *file, size_t file_len, uint8_t *state, size_t state_len);
 
@@ -249,7 +250,7 @@ uint64_t yolizadwa_start(const uint8_t *file, size_t file_len, uint8_t *state, s
  * A step reads wait and left of the table's tasks, and last. It does not read late, closed and lowest. What stands in
  * wait and left behind the last task of the table stays.
  *
- * Hand over the file that the state was started with. Refusals: 50; 20 to 26; 1 and 3 to 7; 8 for a wait above both
+ * Hand over the file that the state was started with. Refusals: 50; 20 to 27; 1 and 3 to 7; 8 for a wait above both
  * offset and period, for an open job with more slots left than its cost, or with a wait below period - deadline or above
  * period - 1, for a last that is neither 32 nor a task, and for nothing else.
  */

@@ -3,7 +3,7 @@
 use crate::bench::Bench;
 use crate::calls::Request;
 use crate::files::ask_all;
-use crate::inputs::{file_of, rows_of, table_of};
+use crate::inputs::{budget_record, file_of, rows_of, table_of};
 use crate::reference::{self, State, Task, LONGEST_FILE, NONE, REPORT_BYTES, STATE_BYTES, TASKS};
 
 type Rows = &'static [(u32, u32, u32, u32)];
@@ -32,6 +32,7 @@ const REPORTS: &[(Rows, u64, &str)] = &[
     (A, 1_000, "tasks 1\nload 1/1\nquick pass\nhorizon 2\nverdict passes\nsettled 2\nworst 0 1\nidle 1\n"),
     (B, 1_000, "tasks 2\nload 11/15\nquick none\nhorizon 38\nverdict passes\nsettled 38\nworst 0 7\nworst 1 2\nidle 2\n"),
     (B, 38, "tasks 2\nload 11/15\nquick none\nhorizon 38\nverdict passes\nsettled 38\nworst 0 7\nworst 1 2\nidle 2\n"),
+    (B, 1, "tasks 2\nload 11/15\nquick none\nhorizon 38\nverdict undecided\nsettled 1\n"),
     (B, 37, "tasks 2\nload 11/15\nquick none\nhorizon 38\nverdict undecided\nsettled 37\n"),
     (C, 1_000, "tasks 2\nload 12/15\nquick none\nhorizon 38\nverdict late\nsettled 15\ninterval 8 15 demand 8\n"),
     (C, 15, "tasks 2\nload 12/15\nquick none\nhorizon 38\nverdict late\nsettled 15\ninterval 8 15 demand 8\n"),
@@ -42,7 +43,7 @@ const REPORTS: &[(Rows, u64, &str)] = &[
     (G, 1_000, "tasks 2\nload 4/4\nquick pass\nhorizon 8\nverdict passes\nsettled 8\nworst 0 2\nworst 1 4\nidle 4\n"),
     (H, 1_000, "tasks 2\nload 4/4\nquick none\nhorizon 12\nverdict late\nsettled 7\ninterval 4 7 demand 4\n"),
     (I, 1_000, "tasks 2\nload 6/5\nquick none\nhorizon 12\nverdict overload\nsettled 0\n"),
-    (I, 0, "tasks 2\nload 6/5\nquick none\nhorizon 12\nverdict overload\nsettled 0\n"),
+    (I, 1, "tasks 2\nload 6/5\nquick none\nhorizon 12\nverdict overload\nsettled 0\n"),
     (J, 1_000, "tasks 1\nload 1/2\nquick pass\nhorizon 8\nverdict passes\nsettled 8\nworst 0 1\nidle 1\n"),
     (J, u64::MAX, "tasks 1\nload 1/2\nquick pass\nhorizon 8\nverdict passes\nsettled 8\nworst 0 1\nidle 1\n"),
     (LAMP, 15, "tasks 2\nload 6/6\nquick pass\nhorizon 15\nverdict passes\nsettled 15\nworst 0 6\nworst 1 1\nidle 5\n"),
@@ -100,8 +101,8 @@ pub fn tables(bench: &mut Bench) {
         bench.count(report.contains("\nverdict passes\n"), || format!("{rows:?} does not pass: {report}"));
     }
     for &(rows, quick, distance) in ANSWERS {
-        bench.ask_knowing(Request::quick(file_of(0, &table_of(rows))), (quick, Vec::new()));
-        bench.ask_knowing(Request::distance(file_of(0, &table_of(rows))), (distance, Vec::new()));
+        bench.ask_knowing(Request::quick(file_of(1, &table_of(rows))), (quick, Vec::new()));
+        bench.ask_knowing(Request::distance(file_of(1, &table_of(rows))), (distance, Vec::new()));
     }
     let tasks = table_of(REQUESTED);
     for (first, second, distance) in [(0, 1, 0), (0, 2, 2), (1, 0, 0), (1, 2, 1), (2, 0, 1), (2, 1, 1)] {
@@ -113,7 +114,7 @@ pub fn tables(bench: &mut Bench) {
 
 /// A row of steps from the start, each with its done report and what it must give: owner; late, closed, lowest.
 fn steps_are(bench: &mut Bench, rows: Rows, steps: &[(u32, u32, [u32; 3])]) {
-    let file = file_of(0, &table_of(rows));
+    let file = file_of(1, &table_of(rows));
     let mut buffer = bench.answer(&[Request::start(file.clone())])[0].buffer.clone();
     for &(done, owner, late) in steps {
         let reply = bench.answer(&[Request::step(file.clone(), buffer, done)]).remove(0);
@@ -168,6 +169,19 @@ fn refused_files() -> Vec<(Vec<u8>, u64, u64)> {
     ]
 }
 
+/// T-10: a whole budget of 0 before anything behind it, cut short, and as a second one.
+fn files_of_nothing() -> Vec<(Vec<u8>, u64, u64)> {
+    let (nothing, b) = (budget_record(0), file_of(38, &table_of(B)));
+    let behind: [&[u8]; 7] = [&[], &[9], &[1], &[2], &[3], &[3, 3], &b[9..]];
+    let mut files: Vec<_> = behind.iter().map(|rest| ([&nothing[..], rest].concat(), 27, 0)).collect();
+    files.push((file_of(0, &[Task { offset: 0, cost: 1, deadline: 17, period: 17 }; 17]), 27, 0));
+    files.push((file_of(0, &table_of(TOO_LONG)), 27, 0));
+    files.extend((1..9).map(|length| (nothing[..length].to_vec(), 20, 0)));
+    files.push(([&b[..9], &nothing].concat(), 23, 9));
+    files.push(([&b[..43], &nothing].concat(), 23, 43));
+    files
+}
+
 /// States that are one beyond a border of rule 8 for table b, (8,5,7,15) and (0,2,2,5), with the place.
 fn strange_states() -> Vec<(State, u64)> {
     let changes: [(&dyn Fn(&mut State), u64); 9] = [
@@ -191,10 +205,11 @@ fn strange_states() -> Vec<(State, u64)> {
 
 pub fn refusals(bench: &mut Bench) {
     let b = file_of(38, &table_of(B));
-    for (file, number, place) in refused_files() {
+    for (file, number, place) in refused_files().into_iter().chain(files_of_nothing()) {
         refused_with(bench, Request::check(file.clone()), number, place);
         refused_with(bench, Request::quick(file.clone()), number, place);
         refused_with(bench, Request::distance(file.clone()), number, place);
+        refused_with(bench, Request::to_text(file.clone()), number, place);
         refused_with(bench, Request::start(file.clone()), number, place);
         refused_with(bench, Request::step(file, vec![0xE7; STATE_BYTES], 0), number, place);
     }
@@ -243,6 +258,10 @@ pub fn written(bench: &mut Bench) {
         let request = Request { buffer: vec![0xE7; file.len()], ..Request::write(&rows_of(&table_of(rows)), 1_000) };
         for length in 0..file.len() {
             refused_with(bench, Request { buffer: vec![0xE7; length], ..request.clone() }, 31, length as u64);
+        }
+        for length in [0, file.len() - 1, file.len()] {
+            let buffer = vec![0xE7; length];
+            refused_with(bench, Request { buffer, ..Request::write(&rows_of(&table_of(rows)), 0) }, 27, 0);
         }
         bench.ask_filled(request, &file);
     }

@@ -287,23 +287,29 @@ pub fn spoil(rng: &mut Rng, tasks: &mut [Task]) {
     }
 }
 
-/// A budget around the count of slots that the table needs.
+/// A budget around the count of slots that the table needs; one of 0 no file can have.
 pub fn budget_about(rng: &mut Rng, tasks: &[Task]) -> u64 {
     let needed = reference::decide(tasks, u64::MAX).settled;
-    match rng.below(10) {
+    let about = match rng.below(10) {
         0..=2 => needed,
         3 => needed.saturating_sub(1),
         4 => needed + 1,
-        5 => rng.pick(&[0, 1]),
+        5 => rng.pick(&[1, 2]),
         6 => rng.below(2 * needed + 1),
         7 => rng.next() | 1 << 63,
         _ => u64::MAX,
-    }
+    };
+    about.max(1)
 }
 
 pub fn any_budget(rng: &mut Rng) -> u64 {
     let (small, large) = (rng.below(1_000), rng.next());
     rng.pick(&[0, 1, u64::from(u32::MAX), 1 << 32, u64::MAX, small, large, large])
+}
+
+/// One that a file can have.
+pub fn good_budget(rng: &mut Rng) -> u64 {
+    any_budget(rng).max(1)
 }
 
 /// Some bytes of a good file changed, taken out or put in.

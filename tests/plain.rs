@@ -38,7 +38,10 @@ fn take_line(words: &[&[u8]], budget: &mut Option<u64>, tasks: &mut Vec<Task>) -
         b"task" if budget.is_none() => return Err(64),
         b"budget" if budget.is_some() => return Err(65),
         b"task" if tasks.len() == TASKS => return Err(66),
-        b"budget" => *budget = Some(numbers::<1>(rest, 1 << 64)?[0]),
+        b"budget" => match numbers(rest, 1 << 64)? {
+            [0] => return Err(27),
+            [slots] => *budget = Some(slots),
+        },
         b"task" => {
             let [offset, cost, deadline, period] = numbers(rest, 1 << 32)?.map(|number| number as u32);
             tasks.push(Task { offset, cost, deadline, period });

@@ -78,6 +78,7 @@ pub fn read_file(file: &[u8]) -> Result<(u64, Vec<Task>), Refusal> {
         let body = body_at(file, place, tasks.len())?;
         place += 1 + body.len();
         match kind {
+            1 if body == [0; 8] => return refuse(27, 0),
             1 => budget = u64::from_le_bytes(body.try_into().unwrap()),
             2 => tasks.push(task_from(body)),
             _ if place < file.len() => return refuse(24, place),
@@ -648,6 +649,9 @@ fn answered(request: &Request) -> Result<(u64, Vec<u8>), Refusal> {
         Call::Write => {
             let tasks = table_from(&request.file)?;
             judge(&tasks)?;
+            if request.number == 0 {
+                return refuse(27, 0);
+            }
             fitting(request, file_of(request.number, &tasks))
         }
         Call::FromText => {

@@ -62,6 +62,17 @@ const REFUSED: &[(&str, u64, u64)] = &[
     ("budget 18446744073709551616\n", 62, 1),
     ("budget 18446744073709551616x\n", 61, 1),
     ("budget 18446744073709551616 x\n", 62, 1),
+    ("budget 0\n", 27, 1),
+    ("# none\n\tbudget 000 # slots\r\ntask x\n", 27, 2),
+    ("budget 0\nbudget 0\n", 27, 1),
+    ("budget 0\ntask 0 1 1 0\n", 27, 1),
+    ("budget 0 0\n", 63, 1),
+    ("budget 0 x\n", 63, 1),
+    ("budget 0x\n", 61, 1),
+    ("budget -0\n", 61, 1),
+    ("task 0 1 1 1\nbudget 0\n", 64, 1),
+    ("budget 5\nbudget 0\n", 65, 2),
+    ("budget 1\n", 1, 0),
     ("budget 5\ntask 0 1 1\n", 63, 2),
     ("budget 5\ntask 0 1 1 1 1\n", 63, 2),
     ("budget 5\ntask 0 1 1 1 x\n", 63, 2),
@@ -162,7 +173,7 @@ fn long_texts(bench: &mut Bench) {
     for lines in [65_532, 65_533, 65_534, 65_535, 65_536, 70_000] {
         for empty in ["\n", "#\r\n"] {
             let empty = empty.repeat(lines);
-            for end in ["", "budget", "budget 1\ntask 0 1 1 1", "budget 1\ntask", "task", "#"] {
+            for end in ["", "budget", "budget 0", "budget 1\ntask 0 1 1 1", "budget 1\ntask", "task", "#"] {
                 ask(bench, format!("{empty}{end}"));
             }
             ask(bench, format!("budget 1\n{empty}task 0 1 1 1"));
@@ -200,7 +211,7 @@ fn longest(bench: &mut Bench) {
 
 pub fn buffers(bench: &mut Bench, rng: &mut Rng) {
     for tasks in [0, 1, 2, TASKS - 1, TASKS, TASKS + 1] {
-        let (budget, table) = (any_budget(rng), sized(rng, tasks));
+        let (budget, table) = (good_budget(rng), sized(rng, tasks));
         let (file, text) = (file_of(budget, &table), plain::text_of(budget, &table));
         for length in (0..=text.len() + 5).chain([4_096, 65_535, 65_536, 70_000]) {
             let buffer: Vec<u8> = (0..length).map(|_| rng.next() as u8).collect();
@@ -295,7 +306,7 @@ const TEXTS_PER_ANSWER: u64 = 5_000;
 /// A generator that no longer reaches one of the answers fails. 0: a file is written; 2 is never told of a text, 1 seldom.
 fn hold_answers(bench: &mut Bench, told: &[u64]) {
     let count: u64 = told.iter().sum();
-    for number in [0, 3, 4, 5, 6, 7].into_iter().chain(60..=66) {
+    for number in [0, 3, 4, 5, 6, 7, 27].into_iter().chain(60..=66) {
         let answers = told[number];
         bench.count(answers >= count / TEXTS_PER_ANSWER, || format!("{number} only {answers} times in {count} texts"));
     }
@@ -358,7 +369,7 @@ fn trip(bench: &mut Bench, rng: &mut Rng, tables: &[(u64, Vec<Task>)]) {
 pub fn round_trips(bench: &mut Bench, rng: &mut Rng, count: u64) {
     let mut left = count as usize;
     while left > 0 {
-        let tables: Vec<(u64, Vec<Task>)> = (0..left.min(BATCH)).map(|_| (any_budget(rng), any_tasks(rng))).collect();
+        let tables: Vec<(u64, Vec<Task>)> = (0..left.min(BATCH)).map(|_| (good_budget(rng), any_tasks(rng))).collect();
         trip(bench, rng, &tables);
         left -= tables.len();
     }

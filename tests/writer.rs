@@ -87,7 +87,7 @@ pub fn round_trips(bench: &mut Bench, rng: &mut Rng, count: u64) {
     let mut tables = Vec::new();
     for turn in 0..count as usize {
         let tasks = if turn % 5 == 0 { near_border(rng) } else { sized(rng, 1 + turn % TASKS) };
-        tables.push((tasks, any_budget(rng)));
+        tables.push((tasks, good_budget(rng)));
         if tables.len() == BATCH {
             trip(bench, &std::mem::take(&mut tables));
         }
