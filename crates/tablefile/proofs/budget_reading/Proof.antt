@@ -1,3 +1,4 @@
+use native.Mathlib.Omega.{arith}
 use borrow.Author.Needs.{needs}
 use borrow.Author.Tests.{eq-eqb, ne-eqb, lt-ltb, le-ltb}
 use Rattle.tablefile.proofs.budget_reading.Statement.{statement}
@@ -25,17 +26,15 @@ returns-3 : tie.Need-returns-3
 returns-3 c =
     let read = c .before .before in
     let room = read .before in
-    simp
-    (le-ltb _ _ (room .before .if1 .left), le-ltb _ _ (room .if2 .left), ← read .budget-in .ensures, eq-eqb _ _ (c .before .if3 .taken))
-    (c .refusal3 .ensures)
+    let none = eq-eqb (read .budget-in .result) 0 (omega (arith, room .if2 .left, c .before .if3 .taken)) in
+    simp (le-ltb _ _ (room .before .if1 .left), le-ltb _ _ (room .if2 .left), ← read .budget-in .ensures, none) (c .refusal3 .ensures)
 
 returns-4 : tie.Need-returns-4
 returns-4 c =
     let read = c .before in
     let room = read .before in
-    simp
-    (le-ltb _ _ (room .before .if1 .left), le-ltb _ _ (room .if2 .left), ← read .budget-in .ensures, ne-eqb _ _ (c .if3 .left))
-    (cc)
+    let some = ne-eqb (read .budget-in .result) 0 (omega (arith, room .if2 .left, c .if3 .left)) in
+    simp (le-ltb _ _ (room .before .if1 .left), le-ltb _ _ (room .if2 .left), ← read .budget-in .ensures, some) (cc)
 
 pub budget-reading-spec : {M : Type 1} → statement M
 budget-reading-spec =
