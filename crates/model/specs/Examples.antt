@@ -379,15 +379,17 @@ file-refusals :
 unfolding loadedFrom formOf readFrom judged firstFaulty taskFault first rowsOfOne
 file-refusals = refl
 
--- A whole budget of 0 is 27 at 0, before any later fault and before the table; cut short it is 20, and a second one 23. One of 1 is taken,
--- and so is one whose lower half alone is 0.
+-- A whole budget of 0 is 27 at 0, before any later fault and before the table; cut short it is 20, and a second one 23.
+-- One of 1 is taken, and so is one whose lower half alone is 0.
 budgets-of-nothing :
     map refusalOf (
-    budgetOf 0 ∷ (budgetOf 0 ++ (9 ∷ [])) ∷ (budgetOf 0 ++ (1 ∷ [])) ∷ (budgetOf 0 ++ (2 ∷ [])) ∷ (budgetOf 0 ++ (3 ∷ 3 ∷ [])) ∷ (budgetOf 0 ++ (3 ∷ []))
+    budgetOf 0 ∷ (budgetOf 0 ++ (9 ∷ [])) ∷ (budgetOf 0 ++ (1 ∷ [])) ∷ (budgetOf 0 ++ (2 ∷ []))
+    ∷ (budgetOf 0 ++ (3 ∷ 3 ∷ [])) ∷ (budgetOf 0 ++ (3 ∷ []))
     ∷ (budgetOf 0 ++ rowsOfOne 1 ++ (3 ∷ [])) ∷ (1 ∷ replicate 7 0) ∷ (budgetOf 1 ++ budgetOf 0)
     ∷ (budgetOf 1 ++ rowsOfOne 1 ++ (3 ∷ [])) ∷ (1 ∷ word 0 ++ word 1 ++ rowsOfOne 1 ++ (3 ∷ [])) ∷ []
     )
-    ≡ at 27 0 ∷ at 27 0 ∷ at 27 0 ∷ at 27 0 ∷ at 27 0 ∷ at 27 0
+    ≡ at 27 0 ∷ at 27 0 ∷ at 27 0 ∷ at 27 0
+    ∷ at 27 0 ∷ at 27 0
     ∷ at 27 0 ∷ at 20 0 ∷ at 23 9
     ∷ Admission.Admitted ∷ Admission.Admitted ∷ []
 unfolding loadedFrom formOf readFrom judged firstFaulty taskFault first round load horizon largest sum count rowsOfOne
@@ -699,7 +701,9 @@ text-refusals = refl
 
 -- A budget of 0 is 27 at its line, once the line has no other fault, and before any later line.
 texts-of-nothing :
-    map (λ s. textLoaded s .admission) (text "budget 0\nx" ∷ text "# none\nbudget 000" ∷ text "budget 0 0" ∷ text "budget 0x" ∷ text "budget 5\nbudget 0" ∷ text "budget 1" ∷ [])
+    map (λ s. textLoaded s .admission) (
+    text "budget 0\nx" ∷ text "# none\nbudget 000" ∷ text "budget 0 0" ∷ text "budget 0x" ∷ text "budget 5\nbudget 0" ∷ text "budget 1" ∷ []
+    )
     ≡ at 27 1 ∷ at 27 2 ∷ at 63 1 ∷ at 61 1 ∷ at 65 2 ∷ at 1 0 ∷ []
 unfolding textLoaded textForm readLines lineOf budgetLine taskLine numbersFault valueAfter allDigits same filled split text judged firstFaulty taskFault first round load horizon largest sum count
 texts-of-nothing = refl

@@ -237,10 +237,12 @@ tasks-read b n ks (k ∷ more) fits room =
     (tasks-read b (suc n) (ks ++ (k ∷ [])) more (λ i l. fits (suc i) (omega arith)) (omega (arith, length-append ks (k ∷ []))) ∙ ap (admit b) (append-snoc ks k more))
 
 -- The text of a budget above 0 and below 2^64 and of at most `taskLimit` tasks, each number below 2^32, has a good form and holds these.
-pub text-read : (b : ℕ) (ks : List Task) → 0 < b → b < budgetLimit → AllFit ks → length ks ≤ taskLimit → textForm (textOf b ks) ≡ admit b ks
+pub text-read : (b : ℕ) (ks : List Task) → 0 < b → b < budgetLimit → AllFit ks → length ks ≤ taskLimit
+    → textForm (textOf b ks) ≡ admit b ks
 unfolding textForm readLines
 text-read b ks some limit fits few =
-    rw (line-then (budgetContent b) (taskTexts ks) (budget-clear b), budget-said b 0 limit, ne-eqb b 0 (omega arith)) (tasks-read b 1 [] ks fits (omega arith))
+    rw (line-then (budgetContent b) (taskTexts ks) (budget-clear b), budget-said b 0 limit, ne-eqb b 0 (omega arith))
+    (tasks-read b 1 [] ks fits (omega arith))
 
 -- That of a budget of 0 is refused at its first line.
 pub text-nothing : (ks : List Task) → textForm (textOf 0 ks) ≡ refuseFile 27 1

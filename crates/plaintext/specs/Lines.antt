@@ -75,7 +75,8 @@ room-for-task : (given : Bool) (count : ℕ) (ws : List (List ℕ)) (k : Task) �
 unfolding lineOf budgetLine taskLine
 room-for-task given count [] k e = let z : _≡_ {A = ℕ} 0 1 = cc in absurd (omega arith)
 room-for-task given count (w ∷ ws) k e =
-    go (same w (text "budget")) (same w (text "task")) given (leb taskLimit count) (eqb (number ws 0) 0) (numbersFault budgetLimit 1 ws) (numbersFault wordLimit 4 ws) refl e
+    go (same w (text "budget")) (same w (text "task")) given (leb taskLimit count) (eqb (number ws 0) 0)
+    (numbersFault budgetLimit 1 ws) (numbersFault wordLimit 4 ws) refl e
   where
     go : (budget task g full nothing : Bool) (f h : ℕ) → leb taskLimit count ≡ full
         → cond budget (cond g (Line.Fault 65) (unless f (cond nothing (Line.Fault 27) (Line.Budget (number ws 0)))))

@@ -21,7 +21,8 @@ use Rattle.writer.specs.RoundTrip.{tasks-back, few-and-fit, tasks-well-formed, 
 use Rattle.plaintext.specs.Canonical.{text-read}
 
 -- The text of a well-formed table and a budget is loaded as this budget and these tasks.
-pub text-loads : (t : Table) (m : Measure) (b : ℕ) → 0 < b → b < budgetLimit → judged t ≡ Judgement.WellFormed m → textLoaded (textOf b (tasksOf t)) ≡ admit b (tasksOf t)
+pub text-loads : (t : Table) (m : Measure) (b : ℕ) → 0 < b → b < budgetLimit → judged t ≡ Judgement.WellFormed m
+    → textLoaded (textOf b (tasksOf t)) ≡ admit b (tasksOf t)
 unfolding textLoaded
 text-loads t m b some limit well =
     let (few, fit) = few-and-fit t m b well in
@@ -35,7 +36,9 @@ written-text-loads t b buffer n limit = go (judged t) refl
   where
     go : (j : Judgement) → judged t ≡ j → writtenBy b (textOf b (tasksOf t)) buffer j .said ≡ Writing.Bytes n → textLoaded (take n (writtenBy b (textOf b (tasksOf t)) buffer j .buffer)) ≡ admit b (tasksOf t)
     go (Judgement.Refused r) well e = let z : _≡_ {A = ℕ} 0 1 = cc in absurd (omega arith)
-    go (Judgement.WellFormed m) well e = let (some, front) = budgeted-front b (textOf b (tasksOf t)) buffer n e in rw front (text-loads t m b some limit well)
+    go (Judgement.WellFormed m) well e =
+        let (some, front) = budgeted-front b (textOf b (tasksOf t)) buffer n e in
+        rw front (text-loads t m b some limit well)
 
 module _ (t : Table) (m : Measure) (b : ℕ) (buffer : List ℕ) (some : 0 < b) (limit : b < budgetLimit) (well : judged t ≡ Judgement.WellFormed m) where
   -- From the text of a table to its file, and from its file to its text.
@@ -43,13 +46,15 @@ module _ (t : Table) (m : Measure) (b : ℕ) (buffer : List ℕ) (some : 0 < b) 
   unfolding fileWritten
   text-to-file =
       let (few, fit) = few-and-fit t m b well in
-      rw (text-read b (tasksOf t) some limit fit few, tasks-well-formed t m b well, ne-eqb b 0 (omega arith)) (ap (λ (ks : List Task). fitted (fileOf b ks) buffer) (tasks-back (tasksOf t)))
+      rw (text-read b (tasksOf t) some limit fit few, tasks-well-formed t m b well, ne-eqb b 0 (omega arith))
+      (ap (λ (ks : List Task). fitted (fileOf b ks) buffer) (tasks-back (tasksOf t)))
 
   pub file-to-text : toText (fileOf b (tasksOf t)) buffer ≡ fitted (textOf b (tasksOf t)) buffer
   unfolding textWritten
   file-to-text =
       let (few, fit) = few-and-fit t m b well in
-      rw (written-read b (tasksOf t) some limit fit few, tasks-well-formed t m b well, ne-eqb b 0 (omega arith)) (ap (λ (ks : List Task). fitted (textOf b ks) buffer) (tasks-back (tasksOf t)))
+      rw (written-read b (tasksOf t) some limit fit few, tasks-well-formed t m b well, ne-eqb b 0 (omega arith))
+      (ap (λ (ks : List Task). fitted (textOf b ks) buffer) (tasks-back (tasksOf t)))
 
 -- The file of the text that was written of a file that is not refused is that file.
 pub back-to-file : (file lent buffer : List ℕ) (n : ℕ) → ((i : ℕ) → getD file i 0 < 256) → loadedFrom file .admission ≡ Admission.Admitted → toText file lent .said ≡ Writing.Bytes n

@@ -207,7 +207,8 @@ unfolding started
 started-said t m well = rw well refl
 
 -- The file of any budget of eight bytes above 0 and of at most `taskLimit` tasks, each number below 2^32, has a good form and holds these.
-pub written-is-read : (b : ℕ) (ks : List Task) → 0 < b → b < budgetLimit → AllFit ks → length ks ≤ taskLimit → formOf (fileOf b ks) ≡ admit b ks
+pub written-is-read : (b : ℕ) (ks : List Task) → 0 < b → b < budgetLimit → AllFit ks → length ks ≤ taskLimit
+    → formOf (fileOf b ks) ≡ admit b ks
 written-is-read = written-read
 
 -- A list of bytes whose form is good is the file of its budget and of the tasks of its table: there is no other good form.

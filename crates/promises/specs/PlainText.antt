@@ -49,13 +49,15 @@ pub one-to-text-export : (file buffer : List ℕ) (a b : Exported) → a ≡ toT
 one-to-text-export file buffer a b e f = e ∙ sym f
 
 -- The text of any budget above 0 and below 2^64 and of at most `taskLimit` tasks, each number below 2^32, has a good form and holds these.
-pub text-is-read : (b : ℕ) (ks : List Task) → 0 < b → b < budgetLimit → AllFit ks → length ks ≤ taskLimit → textForm (textOf b ks) ≡ admit b ks
+pub text-is-read : (b : ℕ) (ks : List Task) → 0 < b → b < budgetLimit → AllFit ks → length ks ≤ taskLimit
+    → textForm (textOf b ks) ≡ admit b ks
 text-is-read = text-read
 
--- That of a budget of 0 is refused by 27 at its first line, whatever follows; nobody writes it: that is 27 at 0, and the buffer stays as it was.
+-- That of a budget of 0 is refused by 27 at its first line, whatever follows.
 pub text-of-nothing : (ks : List Task) → admissionSaid (textForm (textOf 0 ks) .admission) ≡ 27 ∷ 1 ∷ []
 text-of-nothing ks = rw (text-nothing ks) refl
 
+-- Nor is it written: of a well-formed table it is refused by 27 at 0, whatever the buffer, which stays as it was.
 pub nothing-text-writing : (t : Table) (m : Measure) (buffer : List ℕ) → judged t ≡ Judgement.WellFormed m
     → let f = textWritten t 0 buffer in (writingSaid (f .said) ≡ 27 ∷ 0 ∷ []) × (f .buffer ≡ buffer)
 unfolding textWritten
@@ -69,12 +71,12 @@ written-text-loads t budget buffer n limit e =
     (ap (λ (l : Loaded). l .admission) same, ap (λ (l : Loaded). l .budget) same, ap (λ (l : Loaded). tasksOf (l .table)) same ∙ tasks-back (tasksOf t))
 
 -- The text of a well-formed table and a budget above 0 is made its file, and its file its text.
-pub text-to-file : (t : Table) (m : Measure) (budget : ℕ) (buffer : List ℕ) → 0 < budget → budget < budgetLimit → judged t ≡ Judgement.WellFormed m
-    → fromText (textOf budget (tasksOf t)) buffer ≡ fitted (fileOf budget (tasksOf t)) buffer
+pub text-to-file : (t : Table) (m : Measure) (budget : ℕ) (buffer : List ℕ) → 0 < budget → budget < budgetLimit
+    → judged t ≡ Judgement.WellFormed m → fromText (textOf budget (tasksOf t)) buffer ≡ fitted (fileOf budget (tasksOf t)) buffer
 text-to-file = round.text-to-file
 
-pub file-to-text : (t : Table) (m : Measure) (budget : ℕ) (buffer : List ℕ) → 0 < budget → budget < budgetLimit → judged t ≡ Judgement.WellFormed m
-    → toText (fileOf budget (tasksOf t)) buffer ≡ fitted (textOf budget (tasksOf t)) buffer
+pub file-to-text : (t : Table) (m : Measure) (budget : ℕ) (buffer : List ℕ) → 0 < budget → budget < budgetLimit
+    → judged t ≡ Judgement.WellFormed m → toText (fileOf budget (tasksOf t)) buffer ≡ fitted (textOf budget (tasksOf t)) buffer
 file-to-text = round.file-to-text
 
 -- Of a file that is not refused, the file of the text that was written of it is that file, byte for byte.

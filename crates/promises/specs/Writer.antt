@@ -43,12 +43,13 @@ unfolding fileWritten
 nothing-writing t m buffer well = rw well (refl, refl)
 
 -- Then a buffer that is shorter than the file is refused by 31 at its length, and stays as it was.
-pub short-writing : (t : Table) (m : Measure) (budget : ℕ) (buffer : List ℕ) → judged t ≡ Judgement.WellFormed m → 0 < budget → length buffer < length (fileOf budget (tasksOf t))
-    → let f = fileWritten t budget buffer in (writingSaid (f .said) ≡ 31 ∷ length buffer ∷ []) × (f .buffer ≡ buffer)
+pub short-writing : (t : Table) (m : Measure) (budget : ℕ) (buffer : List ℕ) → judged t ≡ Judgement.WellFormed m → 0 < budget
+    → length buffer < length (fileOf budget (tasksOf t)) → let f = fileWritten t budget buffer in (writingSaid (f .said) ≡ 31 ∷ length buffer ∷ []) × (f .buffer ≡ buffer)
 short-writing t m budget buffer well some h = rw (told.short-writing t m budget buffer well some h) (refl, refl)
 
 -- Any other gets the file at its front, of at most `longestFile` bytes, and its length is told; the bytes behind it stay as they were.
-pub long-writing : (t : Table) (m : Measure) (budget : ℕ) (buffer : List ℕ) → judged t ≡ Judgement.WellFormed m → 0 < budget → length (fileOf budget (tasksOf t)) ≤ length buffer
+pub long-writing : (t : Table) (m : Measure) (budget : ℕ) (buffer : List ℕ) → judged t ≡ Judgement.WellFormed m → 0 < budget
+    → length (fileOf budget (tasksOf t)) ≤ length buffer
     → let f = fileWritten t budget buffer in
     let file = fileOf budget (tasksOf t) in
     (writingSaid (f .said) ≡ 0 ∷ length file ∷ []) × (f .buffer ≡ file ++ drop (length file) buffer) × (length file ≤ longestFile)

@@ -83,7 +83,8 @@ module _ (s : List ℕ) where
 
   -- If the file is taken, it holds a budget and tasks, and these were read.
   abbrev Holds : Loaded → Type 0
-  Holds l = l .admission ≡ Admission.Admitted → (getD s 0 0 ≡ 1) × (0 < eight s 1) × ((ks : List Task) × (length ks ≤ taskLimit) × Stand budgetBytes ks × (l ≡ admit (eight s 1) ks))
+  Holds l = l .admission ≡ Admission.Admitted
+      → (getD s 0 0 ≡ 1) × (0 < eight s 1) × ((ks : List Task) × (length ks ≤ taskLimit) × Stand budgetBytes ks × (l ≡ admit (eight s 1) ks))
 
   refusal-holds : (n p : ℕ) → Holds (refuseFile n p)
   refusal-holds n p h = let z : _≡_ {A = ℕ} 0 1 = cc in absurd (omega arith)
@@ -158,7 +159,8 @@ written-stands s at (k ∷ ks) fits e =
     let task : taskIn s (at + 1) ≡ k = body ∙ task-back k (taskRecords ks ++ (endKind ∷ [])) (fits 0 (omega arith)) in
     (kind-at s at e, task, written-stands s (at + taskBytes) ks (λ i l. fits (suc i) (omega arith)) (behind s at taskBytes e))
 
-pub written-read : (b : ℕ) (ks : List Task) → 0 < b → b < budgetLimit → AllFit ks → length ks ≤ taskLimit → formOf (fileOf b ks) ≡ admit b ks
+pub written-read : (b : ℕ) (ks : List Task) → 0 < b → b < budgetLimit → AllFit ks → length ks ≤ taskLimit
+    → formOf (fileOf b ks) ≡ admit b ks
 unfolding bytesOf
 written-read b ks some limit fits few =
     let low = word-back (b % wordLimit) (omega arith) in

@@ -50,7 +50,8 @@ pub one-more : (ks : List Task) (i : ℕ) {before between after : List ℕ} {at 
 one-more ks i h p q = rw (add-one i, take-suc ks i noTask, records-append (take i ks) (getD ks i noTask)) (join p q)
 
 -- A budget of 0, and any other.
-pub nothing : {w : Writing} (b : ℕ) (bytes before : List ℕ) → b ≡ 0 → w ≡ Writing.Refused (refusal 27 0) → filled w before ≡ budgeted b bytes before
+pub nothing : {w : Writing} (b : ℕ) (bytes before : List ℕ) → b ≡ 0 → w ≡ Writing.Refused (refusal 27 0)
+    → filled w before ≡ budgeted b bytes before
 nothing b bytes before z e = rw (eq-eqb b 0 z, e)
 
 pub something : {f : Filled} (b : ℕ) (bytes before : List ℕ) → b ≢ 0 → f ≡ fitted bytes before → f ≡ budgeted b bytes before

@@ -71,10 +71,12 @@ fitted-front bytes buffer n = go (ltb (length buffer) (length bytes))
     go false e = let size : length bytes ≡ n = cc in take-at bytes _ n size
 
 -- What a writer says it wrote holds a budget above 0, and is there.
-pub budgeted-front : (b : ℕ) (bytes buffer : List ℕ) (n : ℕ) → budgeted b bytes buffer .said ≡ Writing.Bytes n → (0 < b) × (take n (budgeted b bytes buffer .buffer) ≡ bytes)
+pub budgeted-front : (b : ℕ) (bytes buffer : List ℕ) (n : ℕ) → let f = budgeted b bytes buffer in
+    f .said ≡ Writing.Bytes n → (0 < b) × (take n (f .buffer) ≡ bytes)
 budgeted-front b bytes buffer n = go (eqb b 0) (eqb-false b 0)
   where
-    go : (nothing : Bool) → (nothing ≡ false → b ≢ 0) → let f = cond nothing (unwritten 27 0 buffer) (fitted bytes buffer) in f .said ≡ Writing.Bytes n → (0 < b) × (take n (f .buffer) ≡ bytes)
+    go : (nothing : Bool) → (nothing ≡ false → b ≢ 0)
+        → let f = cond nothing (unwritten 27 0 buffer) (fitted bytes buffer) in f .said ≡ Writing.Bytes n → (0 < b) × (take n (f .buffer) ≡ bytes)
     go true some e = let z : _≡_ {A = ℕ} 0 1 = cc in absurd (omega arith)
     go false some e = (omega (arith, some refl), fitted-front bytes buffer n e)
 
@@ -86,11 +88,15 @@ written-loads t b buffer n limit = go (judged t) refl
   where
     go : (j : Judgement) → judged t ≡ j → writtenBy b (fileOf b (tasksOf t)) buffer j .said ≡ Writing.Bytes n → loadedFrom (take n (writtenBy b (fileOf b (tasksOf t)) buffer j .buffer)) ≡ admit b (tasksOf t)
     go (Judgement.Refused r) well e = let z : _≡_ {A = ℕ} 0 1 = cc in absurd (omega arith)
-    go (Judgement.WellFormed m) well e = let (some, front) = budgeted-front b (fileOf b (tasksOf t)) buffer n e in rw front (file-loads t m b well some limit)
+    go (Judgement.WellFormed m) well e =
+        let (some, front) = budgeted-front b (fileOf b (tasksOf t)) buffer n e in
+        rw front (file-loads t m b well some limit)
 
 -- A file that is loaded is the file of its budget and tasks, and its table is well-formed.
 pub loaded-file : (file : List ℕ) → ((i : ℕ) → getD file i 0 < 256) → loadedFrom file .admission ≡ Admission.Admitted
-    → let l = loadedFrom file in (0 < l .budget) × (l .budget < budgetLimit) × (fileOf (l .budget) (tasksOf (l .table)) ≡ file) × ((m : Measure) × (judged (l .table) ≡ Judgement.WellFormed m))
+    → let l = loadedFrom file in
+    (0 < l .budget) × (l .budget < budgetLimit) × (fileOf (l .budget) (tasksOf (l .table)) ≡ file)
+    × ((m : Measure) × (judged (l .table) ≡ Judgement.WellFormed m))
 loaded-file file bytes h =
     let (same, well) = admitted file h in
     let (some, limit, (ks, few, fit, whole, held)) = read-written file bytes (ap (λ (l : Loaded). l .admission) (sym same) ∙ h) in

@@ -33,16 +33,18 @@ use Rattle.writer.specs.RoundTrip as round
 short-file : (t : Table) (b : ℕ) → Ranged t → length (fileOf b (tasksOf t)) ≤ longestFile
 short-file t b r = omega (arith, table-length b t (holds-all t r), r .few)
 
-pub short-writing : (t : Table) (m : Measure) (b : ℕ) (buffer : List ℕ) → judged t ≡ Judgement.WellFormed m → 0 < b → length buffer < length (fileOf b (tasksOf t))
-    → fileWritten t b buffer ≡ unwritten 31 (length buffer) buffer
+pub short-writing : (t : Table) (m : Measure) (b : ℕ) (buffer : List ℕ) → judged t ≡ Judgement.WellFormed m → 0 < b
+    → length buffer < length (fileOf b (tasksOf t)) → fileWritten t b buffer ≡ unwritten 31 (length buffer) buffer
 unfolding fileWritten
 short-writing t m b buffer well some h = rw (well, ne-eqb b 0 (omega arith), lt-ltb (length buffer) (length (fileOf b (tasksOf t))) h)
 
-pub long-writing : (t : Table) (m : Measure) (b : ℕ) (buffer : List ℕ) → judged t ≡ Judgement.WellFormed m → 0 < b → length (fileOf b (tasksOf t)) ≤ length buffer
+pub long-writing : (t : Table) (m : Measure) (b : ℕ) (buffer : List ℕ) → judged t ≡ Judgement.WellFormed m → 0 < b
+    → length (fileOf b (tasksOf t)) ≤ length buffer
     → let file = fileOf b (tasksOf t) in
     (fileWritten t b buffer ≡ record { said = Writing.Bytes (length file); buffer = file ++ drop (length file) buffer }) × (length file ≤ longestFile)
 unfolding fileWritten
-long-writing t m b buffer well some h = (rw (well, ne-eqb b 0 (omega arith), le-ltb (length buffer) (length (fileOf b (tasksOf t))) h), short-file t b (well-formed t m well .ranged))
+long-writing t m b buffer well some h =
+    (rw (well, ne-eqb b 0 (omega arith), le-ltb (length buffer) (length (fileOf b (tasksOf t))) h), short-file t b (well-formed t m well .ranged))
 
 pub loaded-writes : (file buffer : List ℕ) → ((i : ℕ) → getD file i 0 < 256) → loadedFrom file .admission ≡ Admission.Admitted → length file ≤ length buffer
     → fileWritten (loadedFrom file .table) (loadedFrom file .budget) buffer ≡ record { said = Writing.Bytes (length file); buffer = file ++ drop (length file) buffer }
@@ -64,15 +66,18 @@ module _ (most : ℕ) (small : most < 65536) (buffer : List ℕ) where
       go true h = inr (refusal 31 (length buffer), refl, (omega arith, omega (arith, h refl)))
       go false h = inl (refl, few)
 
-  budgeted-apart : (b : ℕ) (bytes : List ℕ) → length bytes ≤ most → let f = budgeted b bytes buffer in Apart most buffer bytes (fillTold (f .buffer) (f .said))
+  budgeted-apart : (b : ℕ) (bytes : List ℕ) → length bytes ≤ most
+      → let f = budgeted b bytes buffer in Apart most buffer bytes (fillTold (f .buffer) (f .said))
   budgeted-apart b bytes few = go (eqb b 0)
     where
-      go : (nothing : Bool) → let f = cond nothing (unwritten 27 0 buffer) (fitted bytes buffer) in Apart most buffer bytes (fillTold (f .buffer) (f .said))
+      go : (nothing : Bool)
+          → let f = cond nothing (unwritten 27 0 buffer) (fitted bytes buffer) in Apart most buffer bytes (fillTold (f .buffer) (f .said))
       go true = inr (refusal 27 0, refl, (omega arith, omega arith))
       go false = fitted-apart bytes few
 
   -- The bytes of a table and a budget, if those of a well-formed one are not too many.
-  pub table-apart : (t : Table) (b : ℕ) (bytes : List ℕ) → (Ranged t → length bytes ≤ most) → let f = writtenBy b bytes buffer (judged t) in Apart most buffer bytes (fillTold (f .buffer) (f .said))
+  pub table-apart : (t : Table) (b : ℕ) (bytes : List ℕ) → (Ranged t → length bytes ≤ most)
+      → let f = writtenBy b bytes buffer (judged t) in Apart most buffer bytes (fillTold (f .buffer) (f .said))
   table-apart t b bytes few = go (judged t) refl (judged-tellable t)
     where
       go : (j : Judgement) → judged t ≡ j → JudgementTellable j → let f = writtenBy b bytes buffer j in Apart most buffer bytes (fillTold (f .buffer) (f .said))

@@ -17,8 +17,8 @@ no-budget-requires c κs = search needs
 
 returns : tie.Need-returns
 returns c =
-    let start = c .before .before .before in
-    nothing (start .args .budget) (textOf (start .args .budget) (tasksOf (start .args .table))) (start .args .buffer .now) (c .before .if1 .taken) (c .no-budget .ensures)
+    let a = c .before .before .before .args in
+    nothing (a .budget) (textOf (a .budget) (tasksOf (a .table))) (a .buffer .now) (c .before .if1 .taken) (c .no-budget .ensures)
 
 slice-aggregate-put-text : tie.Need-slice-aggregate-put-text
 slice-aggregate-put-text c = search needs
@@ -46,10 +46,10 @@ returns-2 c =
     let copied = c .before .before in
     let made = copied .before .before .before .before .before in
     let some = made .before .before in
-    let start = some .before .before in
-    something (start .args .budget) (textOf (start .args .budget) (tasksOf (start .args .table))) (start .args .buffer .now) (some .if1 .left)
-    (copied .copy-text .ensures
-    ∙ ap (λ (bytes : List ℕ). fitted bytes (start .args .buffer .now)) (from-front (made .put-text .last .0) (made .put-text .result) ∙ front (made .put-text .ensures .0) (omega (arith, made .put-text .ensures .1))))
+    let a = some .before .before .args in
+    let whole = from-front (made .put-text .last .0) (made .put-text .result) ∙ front (made .put-text .ensures .0) (omega (arith, made .put-text .ensures .1)) in
+    something (a .budget) (textOf (a .budget) (tasksOf (a .table))) (a .buffer .now) (some .if1 .left)
+    (copied .copy-text .ensures ∙ ap (λ (bytes : List ℕ). fitted bytes (a .buffer .now)) whole)
 
 pub write-text-spec : {M : Type 1} → statement M
 write-text-spec =

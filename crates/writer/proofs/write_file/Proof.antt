@@ -18,8 +18,8 @@ no-budget-requires c κs = search needs
 
 returns : tie.Need-returns
 returns c =
-    let start = c .before .before .before in
-    nothing (start .args .budget) (fileOf (start .args .budget) (tasksOf (start .args .table))) (start .args .buffer .now) (c .before .if1 .taken) (c .no-budget .ensures)
+    let a = c .before .before .before .args in
+    nothing (a .budget) (fileOf (a .budget) (tasksOf (a .table))) (a .buffer .now) (c .before .if1 .taken) (c .no-budget .ensures)
 
 file-bytes-requires : tie.Need-file-bytes-requires
 file-bytes-requires c κs = search needs
@@ -31,9 +31,10 @@ returns-2 : tie.Need-returns-2
 returns-2 c =
     let some = c .before .before .before in
     let start = some .before .before in
-    let file = fileOf (start .args .budget) (tasksOf (start .args .table)) in
-    something (start .args .budget) file (start .args .buffer .now) (some .if1 .left)
-    (short file (start .args .buffer .now) (omega (arith, size start)) (c .short-buffer .ensures))
+    let a = start .args in
+    let file = fileOf (a .budget) (tasksOf (a .table)) in
+    something (a .budget) file (a .buffer .now) (some .if1 .left)
+    (short file (a .buffer .now) (omega (arith, size start)) (c .short-buffer .ensures))
 
 put-file-requires : tie.Need-put-file-requires
 put-file-requires c κs = search needs
@@ -46,7 +47,8 @@ returns-3 c =
     let put = c .before .before in
     let some = put .before .before .before .before in
     let start = some .before .before in
-    something (start .args .budget) (fileOf (start .args .budget) (tasksOf (start .args .table))) (start .args .buffer .now) (some .if1 .left)
+    let a = start .args in
+    something (a .budget) (fileOf (a .budget) (tasksOf (a .table))) (a .buffer .now) (some .if1 .left)
     (fits (put .put-file .ensures) (omega (arith, size start)))
 
 pub write-file-spec : {M : Type 1} → statement M
