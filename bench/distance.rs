@@ -6,6 +6,7 @@ mod calls;
 use calls::{distance, quick, report_on, round, table_file, task, timed, Task};
 
 const TABLES: u32 = 1000;
+// A table with a longer round is drawn again, so that the exact test of each is short.
 const LONGEST_ROUND: u64 = 1_000_000_000;
 
 struct Rng(u64);

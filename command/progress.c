@@ -7,7 +7,7 @@
 
 #include "command.h"
 
-/* A fraction of a second even with 32 tasks under the emulator. */
+/* Few enough that they take no time to speak of, under the emulator too. */
 enum { PROBE_SLOTS = 200000, DIGITS = 20 };
 
 static const char begins[] = "\rjudging: ";

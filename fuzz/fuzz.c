@@ -102,7 +102,11 @@ static void try_file(const uint8_t *bytes, size_t len, const uint8_t *more, size
     uint8_t *file = block(len, 0);
     memcpy(file, bytes, len);
     // a budget below 2^16, so that a run is short
-    if (len >= 9 && file[0] == 1) memset(file + 3, 0, 6);
+    if (len >= 9 && file[0] == 1) {
+        int some = file[3] | file[4] | file[5] | file[6] | file[7] | file[8];
+        memset(file + 3, 0, 6);
+        if (some && !(file[1] | file[2])) file[1] = 1;
+    }
     uint8_t *kept = block(len, 0);
     memcpy(kept, file, len);
 

@@ -73,7 +73,7 @@ enum yolizadwa_refusal {
     YOLIZADWA_BYTES_AFTER_END = 24, /* bytes after the end record; place: the first of them */
     YOLIZADWA_EXTRA_TASK = 25,      /* a thirty-third task; place: where it begins */
     YOLIZADWA_NO_END = 26,          /* the file ends after a whole record, without an end record; place: its length */
-    YOLIZADWA_ZERO_BUDGET = 27,     /* the budget is 0, and nothing would be looked at; place 0, in a text its line */
+    YOLIZADWA_ZERO_BUDGET = 27,     /* the budget is 0; place 0, in a text its line */
     YOLIZADWA_SHORT_REPORT = 30,    /* the report buffer has fewer than 1,024 bytes; place: its length */
     YOLIZADWA_SHORT_BUFFER = 31,    /* the buffer is shorter than what is to be written; place: its length */
     YOLIZADWA_STATE_LENGTH = 50,    /* the state buffer has not 272 bytes; place: its length, 65,535 if it is longer */
@@ -183,7 +183,7 @@ uint64_t yolizadwa_check_plainly(const uint8_t *file, size_t file_len, uint8_t *
  * no answer. On overload there is no answer, and late is never said.
  *
  * Pass: a check of the file, with any budget that reaches the horizon, says `verdict passes`. No answer says nothing about
- * that. The budget must stand in the file and plays no part.
+ * that. The budget must stand in the file, 1 or more, and plays no other part.
  *
  * Mostly few slots are looked at. But with a load near 1 they may be as many as a round has, up to 1,000,000,000,000, here and in a
  * check whatever its budget. It leaps as a check does; the longest that was measured, of 16 tasks with periods from 54,000 on,
@@ -224,8 +224,8 @@ struct yolizadwa_state {
 
 /*
  * Writes the first state of the table: waits are the offsets, no job is open, no task ran. Any table that is not refused
- * may be started, also one that does not pass: its jobs may be closed late. The budget must stand in the file and plays
- * no part.
+ * may be started, also one that does not pass: its jobs may be closed late. The budget must stand in the file, 1
+ * or more, and plays no other part.
  *
  * The result is 0. Refusals: 50; 20 to 27; 1 and 3 to 7.
  */

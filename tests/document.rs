@@ -174,7 +174,7 @@ fn files_of_nothing() -> Vec<(Vec<u8>, u64, u64)> {
     let (nothing, b) = (budget_record(0), file_of(38, &table_of(B)));
     let behind: [&[u8]; 7] = [&[], &[9], &[1], &[2], &[3], &[3, 3], &b[9..]];
     let mut files: Vec<_> = behind.iter().map(|rest| ([&nothing[..], rest].concat(), 27, 0)).collect();
-    files.push((file_of(0, &[Task { offset: 0, cost: 1, deadline: 17, period: 17 }; 17]), 27, 0));
+    files.push((file_of(0, &[Task { offset: 0, cost: 1, deadline: 60, period: 60 }; TASKS + 1]), 27, 0));
     files.push((file_of(0, &table_of(TOO_LONG)), 27, 0));
     files.extend((1..9).map(|length| (nothing[..length].to_vec(), 20, 0)));
     files.push(([&b[..9], &nothing].concat(), 23, 9));

@@ -69,7 +69,7 @@ fn spare_record() -> Vec<u8> {
 fn every_insertion(bench: &mut Bench, file: &[u8], tasks: usize) {
     let task = spare_record();
     for place in record_places(tasks) {
-        for record in [&task[..], &task[..5], &budget_record(9), &[1], &[3], &[0]] {
+        for record in [&task[..], &task[..5], &budget_record(9), &budget_record(0), &[1], &[3], &[0]] {
             ask_all(bench, &[&file[..place], record, &file[place..]].concat());
         }
     }
@@ -103,7 +103,7 @@ pub fn damaged_one_by_one(bench: &mut Bench, rng: &mut Rng) {
 
 pub fn damaged_at_random(bench: &mut Bench, rng: &mut Rng, count: u64) {
     for _ in 0..count {
-        let mut file = file_of(rng.below(1_000), &near_border(rng));
+        let mut file = file_of(if rng.chance(5) { 0 } else { rng.below(1_000) }, &near_border(rng));
         damage(rng, &mut file);
         ask_all(bench, &file);
     }

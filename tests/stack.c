@@ -9,7 +9,7 @@
 
 #include "yolizadwa.h"
 
-_Static_assert(YOLIZADWA_LONGEST_FILE == 554 && YOLIZADWA_LONGEST_TEXT == 956 && YOLIZADWA_ROW_WORDS == 5, "as document 01 and the tests have it");
+_Static_assert(YOLIZADWA_LONGEST_FILE == 554 && YOLIZADWA_LONGEST_TEXT == 956 && YOLIZADWA_ROW_WORDS == 5, "as document 02 and the tests have it");
 
 enum { ROOM = 1 << 18, MOST_WORDS = 400000 };
 

@@ -128,7 +128,7 @@ fn every_cut(bench: &mut Bench, rng: &mut Rng) {
 
 /// Every row of up to five words of a few sorts after a first word, where each first word is due, is not, and is too much.
 fn every_line(bench: &mut Bench) {
-    let sorts = ["1", "x", "4294967296", "18446744073709551616"];
+    let sorts = ["1", "0", "x", "4294967296", "18446744073709551616"];
     let most = format!("budget 5\n{}", "task 0 1 60 60\n".repeat(TASKS));
     let mut rows = vec![String::new()];
     for _ in 0..5 {

@@ -59,9 +59,12 @@ pub fn rows(bench: &mut Bench, rng: &mut Rng) {
 pub fn buffers(bench: &mut Bench, rng: &mut Rng) {
     for tasks in [0, 1, 2, 3, TASKS - 1, TASKS, TASKS + 1] {
         let (rows, needed) = (rows_of(&sized(rng, tasks)), 9 + 17 * tasks + 1);
+        for length in [0, needed - 1, needed] {
+            bench.ask(Request { buffer: vec![0xE7; length], ..Request::write(&rows, 0) });
+        }
         for length in (0..=needed + 5).chain([4_096, 65_534, 65_535, 65_536, 65_537, 70_000, 131_072]) {
             let buffer = (0..length).map(|_| rng.next() as u8).collect();
-            bench.ask(Request { buffer, ..Request::write(&rows, any_budget(rng)) });
+            bench.ask(Request { buffer, ..Request::write(&rows, good_budget(rng)) });
         }
     }
     bench.end_group("write into buffers of every length");

@@ -552,7 +552,7 @@ permitted = (refl, refl, refl, refl)
 -- 65,536 · number + place and writes nowhere; bytes behind a report stay.
 exported :
     (Checked [] (7 ∷ []) (record { number = 1966081; buffer = 7 ∷ [] }))
-    × (Checked [] (replicate (reportBytes - 1) 7) (record { number = 1966080 + (reportBytes - 1); buffer = replicate (reportBytes - 1) 7 }))
+    × (Checked [] (replicate 1023 7) (record { number = 1967103; buffer = replicate 1023 7 }))
     × (Checked (budgetOf 1 ++ (9 ∷ [])) (replicate reportBytes 7) (record { number = 1376265; buffer = replicate reportBytes 7 }))
     × (refused (refusal 21 9) (7 ∷ []) ≡ record { number = 1376265; buffer = 7 ∷ [] })
     × (written (5 ∷ 6 ∷ []) (1 ∷ 2 ∷ 3 ∷ []) ≡ record { number = 2; buffer = 5 ∷ 6 ∷ 3 ∷ [] })

@@ -81,7 +81,7 @@ pub fn taken() {
             .and(b"\x02\x00\x00\x00\x00\x02\x00\x00\x00\x02\x00\x00\x00\x05\x00\x00\x00")
             .and(b"\x03"),
     );
-    load_b(b"b, budget 0", Draft::new().budget(0));
+    load_b(b"b, least budget", Draft::new().budget(1));
     load_b(
         b"b, largest budget",
         Draft::new().budget(18_446_744_073_709_551_615),
