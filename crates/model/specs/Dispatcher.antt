@@ -1,15 +1,18 @@
 -- The dispatcher: its state, when a state belongs to a table, the start, and the step in its four rules.
-use Rattle.model.specs.Notation.{List, Bool, cond, not, _&&_, _||_, ℕ, _-_, max, ltb, eqb, getD, replicate, count, first, bits, fill}
+use Rattle.model.specs.Notation.{List, Bool, cond, not, _&&_, _||_, ℕ, _+_, _-_, max, ltb, eqb, getD, replicate, bit, sum, count, first, bits, fill}
 use Rattle.model.specs.Values.{Table, Refusal, Judgement, Admission, Turn, Given, refusal}
-use Rattle.model.specs.Limits.{taskLimit}
+use Rattle.model.specs.Limits.{taskLimit, slotCountLimit, sumPlace}
 use Rattle.model.specs.Tasks.{task, judged}
 use Rattle.model.specs.Run.{tieOrder, choose}
 
--- For each task the slots until its next release, and those that its open job may still use; which task ran last, or `taskLimit`.
+-- For each task the slots until its next release, and those that its open job may still use; which task ran last, or `taskLimit`; and
+-- the slots that were given to each task, and those that were empty.
 pub record State : Type 0 where
   pub wait : List ℕ
   pub left : List ℕ
   pub last : ℕ
+  pub given : List ℕ
+  pub empty : ℕ
 
 -- A started dispatcher; a step's answer and the successor.
 pub record Started : Type 0 where
@@ -30,6 +33,13 @@ leftOf d i = getD (d .left) i 0
 abbrev pub isOpen : State → ℕ → Bool
 isOpen d i = ltb 0 (leftOf d i)
 
+-- The slots given to task i; those given to the table's tasks and the empty ones together. Entries past the last task are not read.
+abbrev pub givenOf : State → ℕ → ℕ
+givenOf d i = getD (d .given) i 0
+
+unfoldable pub slotCount : Table → State → ℕ
+slotCount t d = sum (t .count) (givenOf d) + d .empty
+
 -- Task i of the state does not belong to the table.
 abbrev pub strange : Table → State → ℕ → Bool
 strange t d i =
@@ -44,12 +54,27 @@ firstStrange t d = first (strange t d) 0 (t .count)
 abbrev pub lastStrange : Table → State → Bool
 lastStrange t d = not (eqb (d .last) taskLimit || ltb (d .last) (t .count))
 
--- At the start the waits are the offsets, no job is open and no task ran last. A refused start hands out zeros.
+-- By what a table is judged to be: a state is refused by the table's number, then by 8 at the first place that does not belong, which is a
+-- task, `taskLimit` for the last-run number or `sumPlace` for too many slots; or it is admitted.
+abbrev pub admittedBy : Table → State → Judgement → Admission
+admittedBy t d (Judgement.Refused r) = Admission.Refused r
+admittedBy t d (Judgement.WellFormed m) =
+    cond (ltb (firstStrange t d) (t .count)) (Admission.Refused (refusal 8 (firstStrange t d)))
+    (cond (lastStrange t d) (Admission.Refused (refusal 8 taskLimit))
+    (cond (ltb slotCountLimit (slotCount t d)) (Admission.Refused (refusal 8 sumPlace)) Admission.Admitted))
+
+unfoldable pub admitted : Table → State → Admission
+admitted t d = admittedBy t d (judged t)
+
+-- At the start the waits are the offsets, no job is open, no task ran last and no slot is counted. A refused start hands out zeros.
 unfoldable pub startOf : Table → State
-startOf t = record { wait = fill (t .count) (λ i. task t i .offset) (replicate taskLimit 0); left = replicate taskLimit 0; last = taskLimit }
+startOf t = record { wait = fill (t .count) (λ i. task t i .offset) (replicate taskLimit 0); left = replicate taskLimit 0; last = taskLimit; given = replicate taskLimit 0; empty = 0 }
+
+abbrev pub zeros : State
+zeros = record { wait = replicate taskLimit 0; left = replicate taskLimit 0; last = 0; given = replicate taskLimit 0; empty = 0 }
 
 abbrev pub startJudged : Table → Judgement → Started
-startJudged t (Judgement.Refused r) = record { admission = Admission.Refused r; state = record { wait = replicate taskLimit 0; left = replicate taskLimit 0; last = 0 } }
+startJudged t (Judgement.Refused r) = record { admission = Admission.Refused r; state = zeros }
 startJudged t (Judgement.WellFormed m) = record { admission = Admission.Admitted; state = startOf t }
 
 unfoldable pub started : Table → Started
@@ -78,26 +103,28 @@ module _ (t : Table) (d : State) (done : Bool) where
   unfoldable pub ownerNow : ℕ
   ownerNow = choose (λ i. ltb 0 (leftReleased i)) (λ i. waitReleased i - (task t i .period - task t i .deadline)) (tieOrder t) (t .count)
 
-  -- It has one slot fewer left, and every wait goes down by one. Entries past the last task stay as they came.
+  -- It has one slot fewer left, and every wait goes down by one. The slot is counted as its owner's, or as empty. Entries past the last task
+  -- stay as they came.
   unfoldable pub after : State
   after =
       let left = fill (t .count) (λ i. leftReleased i - cond (eqb ownerNow i) 1 0) (d .left) in
-      record { wait = fill (t .count) (λ i. waitReleased i - 1) (d .wait); left = left; last = ownerNow }
+      let given = fill (t .count) (λ i. givenOf d i + bit (eqb ownerNow i)) (d .given) in
+      record { wait = fill (t .count) (λ i. waitReleased i - 1) (d .wait); left = left; last = ownerNow; given = given; empty = d .empty + bit (eqb ownerNow taskLimit) }
 
   -- The answer: the owner, which tasks were closed late, how many, and the lowest-numbered of them.
   unfoldable pub turn : Turn
   turn = record { owner = ownerNow; late = bits isLate taskLimit; closed = count isLate taskLimit; lowest = first isLate 0 taskLimit }
 
--- A step on any table and any state: refused by the table's number, then by 8, or taken. A refusal hands the state back as it came.
+-- A step on any table and any state: refused as the state is, then by 9 if it can count no more slots, or taken. A refusal hands the state
+-- back as it came.
 abbrev pub refuseStep : Refusal → State → Stepped
 refuseStep r d = record { given = Given.Refused r; state = d }
 
-abbrev pub stepJudged : Table → State → Bool → Judgement → Stepped
-stepJudged t d done (Judgement.Refused r) = refuseStep r d
-stepJudged t d done (Judgement.WellFormed m) =
-    cond (ltb (firstStrange t d) (t .count)) (refuseStep (refusal 8 (firstStrange t d)) d)
-    (cond (lastStrange t d) (refuseStep (refusal 8 taskLimit) d)
-    (record { given = Given.Slot (turn t d done); state = after t d done }))
+abbrev pub stepAdmitted : Table → State → Bool → Admission → Stepped
+stepAdmitted t d done (Admission.Refused r) = refuseStep r d
+stepAdmitted t d done Admission.Admitted =
+    cond (eqb (slotCount t d) slotCountLimit) (refuseStep (refusal 9 0) d)
+    (record { given = Given.Slot (turn t d done); state = after t d done })
 
 unfoldable pub stepped : Table → State → Bool → Stepped
-stepped t d done = stepJudged t d done (judged t)
+stepped t d done = stepAdmitted t d done (admitted t d)

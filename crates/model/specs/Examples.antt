@@ -8,7 +8,7 @@ use lib.Dec.{eqb, lit≤, lit<}
 use lib.ListN.{length, getD, replicate}
 use Rattle.model.specs.Values.{Task, Table, Measure, Judgement, Verdict, Outcome, Admission, Given, Writing, refusal, verdictSaid, judgementSaid, admissionSaid, givenSaid, outcomeSaid}
 use Rattle.model.specs.Notation.{pos, negsuc, sum, largest, count, first, last, bits, fill, text, digits, decimal}
-use Rattle.model.specs.Limits.{taskLimit, slotLimit, roundLimit, reportBytes, longestFile, longestText}
+use Rattle.model.specs.Limits.{taskLimit, slotLimit, roundLimit, reportBytes, longestFile, longestText, slotCountLimit, sumPlace}
 use Rattle.model.specs.Tasks.{task, taskFault, firstFaulty, round, load, horizon, measure, judgedBy, judged}
 use Rattle.model.specs.Demand.{jobsIn, demand, asksTooMuch, lateAt}
 use Rattle.model.specs.Schedule.{none, given}
@@ -17,16 +17,20 @@ use Rattle.model.specs.Idle.{idleAt, firstIdle, missedAt}
 use Rattle.model.specs.Patterns.{startingAt, calm, simultaneous, quickPass, quickAnswer, commonDivisor, reduced, distance, pattern, distancePass, distanceAnswer}
 use Rattle.model.specs.Verdict.{needed, lateStart, verdict, settledBy, brief, Permitted}
 use Rattle.model.specs.TableFile.{taskIn, tableOf, bytesOf, taskRecords, fileOf, readFrom, formOf, loadedFrom}
-use Rattle.model.specs.Dispatcher.{State, firstStrange, startOf, started, ownerNow, after, turn, stepped}
+use Rattle.model.specs.Dispatcher.{State, slotCount, firstStrange, admitted, startOf, started, ownerNow, after, turn, stepped}
 use Rattle.model.specs.History.{stateAt, ownerAt, reported, had, Finished}
 use Rattle.model.specs.Report.{worstLines, reportOf, refused, written, Checked, quickExported, distanceExported, Printed}
-use Rattle.model.specs.StateBuffer.{stateBytes, bufferOf, stateIn, startExported, stepExported, handed}
+use Rattle.model.specs.StateBuffer.{stateBytes, halves, bufferOf, stateIn, startExported, stepExported, handed}
 use Rattle.model.specs.Writer.{fileWritten, firstStranger, tableIn, writeExported}
 use Rattle.model.specs.PlainText.{split, filled, allDigits, valueAfter, numbersFault, same, budgetLine, taskLine, lineOf, readLines, textForm, textLoaded, taskTexts, textOf, textWritten, fromTextExported, toTextExported}
 
--- The limits, and what follows from them: the longest file, the longest text and the bytes of a state buffer.
-limits : taskLimit ∷ slotLimit ∷ roundLimit ∷ reportBytes ∷ longestFile ∷ longestText ∷ stateBytes ∷ [] ≡ 32 ∷ 60000 ∷ 1000000000000 ∷ 1024 ∷ 554 ∷ 956 ∷ 272 ∷ []
+-- The limits, and what follows from them: the longest file, the longest text and the bytes of a state buffer; the slots that can be counted
+-- and the last place of 8.
+limits : taskLimit ∷ slotLimit ∷ roundLimit ∷ reportBytes ∷ longestFile ∷ longestText ∷ stateBytes ∷ [] ≡ 32 ∷ 60000 ∷ 1000000000000 ∷ 1024 ∷ 554 ∷ 956 ∷ 536 ∷ []
 limits = refl
+
+count-limits : slotCountLimit ∷ sumPlace ∷ [] ≡ (2 ^ 64 - 1) ∷ 33 ∷ []
+count-limits = refl
 
 -- A number for each task that a table can have: these, and then x.
 abbrev pub padded : ℕ → List ℕ → List ℕ
@@ -404,6 +408,10 @@ wide-numbers = (refl, refl)
 
 -- ---- the dispatcher
 
+-- A state that has counted no slot.
+abbrev uncounted : List ℕ → List ℕ → ℕ → State
+uncounted wait left last = record { wait = wait; left = left; last = last; given = padded 0 []; empty = 0 }
+
 -- The owners of some steps from a state, with these done reports.
 steps : Table → State → List Bool → List ℕ
 steps t d [] = []
@@ -425,27 +433,27 @@ hurried = tableOf (of 0 1 5 5 ∷ of 0 1 2 10 ∷ [])
 in-order :
     (steps hurried (startOf hurried) (false ∷ false ∷ []) ≡ 1 ∷ 0 ∷ [])
     × (steps table-l (startOf table-l) (replicate 7 false) ≡ 0 ∷ 0 ∷ 1 ∷ 1 ∷ 1 ∷ 0 ∷ 0 ∷ [])
-    × (turn table-g (record { wait = padded 0 []; left = padded 0 (1 ∷ []); last = 1 }) false ≡ record { owner = 0; late = 1; closed = 1; lowest = 0 })
+    × (turn table-g (uncounted (padded 0 []) (padded 0 (1 ∷ [])) 1) false ≡ record { owner = 0; late = 1; closed = 1; lowest = 0 })
 unfolding steps startOf after turn ownerNow choose fill bits sum count first
 in-order = (refl, refl, refl)
 
 -- Two jobs closed at once, and the most; where none is closed the lowest number is none.
 abbrev both-late : State
-both-late = record { wait = padded 0 (1 ∷ 1 ∷ []); left = padded 0 (1 ∷ 1 ∷ []); last = taskLimit }
+both-late = uncounted (padded 0 (1 ∷ 1 ∷ [])) (padded 0 (1 ∷ 1 ∷ [])) taskLimit
 
 closings :
     (turn table-f both-late false ≡ record { owner = taskLimit; late = 3; closed = 2; lowest = 0 })
-    × (turn (tableOf (replicate taskLimit (of 0 1 1 2))) (record { wait = padded 1 []; left = padded 1 []; last = taskLimit }) false ≡ record { owner = taskLimit; late = 2 ^ taskLimit - 1; closed = taskLimit; lowest = 0 })
+    × (turn (tableOf (replicate taskLimit (of 0 1 1 2))) (uncounted (padded 1 []) (padded 1 []) taskLimit) false ≡ record { owner = taskLimit; late = 2 ^ taskLimit - 1; closed = taskLimit; lowest = 0 })
     × (turn table-g (startOf table-g) true ≡ record { owner = 0; late = 0; closed = 0; lowest = taskLimit })
 unfolding turn startOf ownerNow choose fill bits sum count first
 closings = (refl, refl, refl)
 
 -- A start on a table: the waits are the offsets; a refused start; a step taken.
 starts :
-    (started table-b ≡ record { admission = Admission.Admitted; state = record { wait = padded 0 (8 ∷ []); left = padded 0 []; last = taskLimit } })
-    × (started (tableOf []) ≡ record { admission = at 1 0; state = record { wait = padded 0 []; left = padded 0 []; last = 0 } })
+    (started table-b ≡ record { admission = Admission.Admitted; state = uncounted (padded 0 (8 ∷ [])) (padded 0 []) taskLimit })
+    × (started (tableOf []) ≡ record { admission = at 1 0; state = uncounted (padded 0 []) (padded 0 []) 0 })
     × (stepped table-g (startOf table-g) false .given ≡ Given.Slot (record { owner = 0; late = 0; closed = 0; lowest = taskLimit }))
-unfolding started startOf stepped turn ownerNow choose fill bits firstStrange judged firstFaulty taskFault first round load horizon largest sum count
+unfolding started startOf stepped admitted slotCount turn ownerNow choose fill bits firstStrange judged firstFaulty taskFault first round load horizon largest sum count
 starts = (refl, refl, refl)
 
 -- A task with O 0, C 2, D 3, T 4 and one with O 9.
@@ -453,19 +461,19 @@ abbrev two : Table
 two = tableOf (of 0 2 3 4 ∷ of 9 1 4 4 ∷ [])
 
 state : ℕ → ℕ → ℕ → ℕ → ℕ → Given
-state w0 w1 l0 l1 last = stepped two (record { wait = padded 7 (w0 ∷ w1 ∷ []); left = padded 7 (l0 ∷ l1 ∷ []); last = last }) false .given
+state w0 w1 l0 l1 last = stepped two (uncounted (padded 7 (w0 ∷ w1 ∷ [])) (padded 7 (l0 ∷ l1 ∷ [])) last) false .given
 
 -- A refusal hands the state back; the table's number comes before 8.
 abbrev any-state : State
-any-state = record { wait = 1 ∷ 2 ∷ []; left = 3 ∷ 4 ∷ []; last = 5 }
+any-state = record { wait = 1 ∷ 2 ∷ []; left = 3 ∷ 4 ∷ []; last = 5; given = 6 ∷ []; empty = 7 }
 
 handed-back : map (λ t. stepped t any-state true) (tableOf [] ∷ two ∷ []) ≡ map (λ r. record { given = Given.Refused r; state = any-state }) (refusal 1 0 ∷ refusal 8 0 ∷ [])
-unfolding stepped firstStrange judged firstFaulty taskFault first round load horizon largest sum count
+unfolding stepped admitted slotCount firstStrange judged firstFaulty taskFault first round load horizon largest sum count
 handed-back = refl
 
 -- A closed job may wait for as long as the offset or the period is.
 no-strangers : state 4 9 0 0 taskLimit ≡ Given.Slot (record { owner = taskLimit; late = 0; closed = 0; lowest = taskLimit })
-unfolding state stepped turn ownerNow choose bits firstStrange judged firstFaulty taskFault first round load horizon largest sum count
+unfolding state stepped admitted slotCount turn ownerNow choose bits firstStrange judged firstFaulty taskFault first round load horizon largest sum count
 no-strangers = refl
 
 -- Refusal 8 and its places: a wait above O and T; too many slots left;
@@ -473,16 +481,27 @@ no-strangers = refl
 strangers :
     state 5 0 0 0 taskLimit ∷ state 0 10 0 0 taskLimit ∷ state 2 0 3 0 taskLimit ∷ state 0 0 1 0 taskLimit ∷ state 4 0 1 0 taskLimit ∷ state 0 4 0 1 taskLimit ∷ state 0 0 0 0 2 ∷ state 0 0 0 0 (taskLimit + 1) ∷ []
     ≡ map (λ p. Given.Refused (refusal 8 p)) (0 ∷ 1 ∷ 0 ∷ 0 ∷ 0 ∷ 1 ∷ taskLimit ∷ taskLimit ∷ [])
-unfolding state stepped firstStrange judged firstFaulty taskFault first round load horizon largest sum count
+unfolding state stepped admitted slotCount firstStrange judged firstFaulty taskFault first round load horizon largest sum count
 strangers = refl
 
 -- At its deadline, with wait T - D, a job is no stranger: it is closed late, or by a done report before that. Entries past the table stay.
 at-deadline :
-    (stepped two (record { wait = padded 7 (1 ∷ 9 ∷ []); left = padded 7 (1 ∷ 0 ∷ []); last = 0 }) false
-    ≡ record { given = Given.Slot (record { owner = taskLimit; late = 1; closed = 1; lowest = 0 }); state = record { wait = padded 7 (0 ∷ 8 ∷ []); left = padded 7 (0 ∷ 0 ∷ []); last = taskLimit } })
-    × (turn two (record { wait = padded 0 (1 ∷ 9 ∷ []); left = padded 7 (2 ∷ 0 ∷ []); last = 0 }) true .closed ≡ 0)
-unfolding stepped turn after ownerNow choose fill bits firstStrange judged firstFaulty taskFault first round load horizon largest sum count
+    (stepped two (record { wait = padded 7 (1 ∷ 9 ∷ []); left = padded 7 (1 ∷ 0 ∷ []); last = 0; given = padded 7 (3 ∷ 4 ∷ []); empty = 5 }) false
+    ≡ record { given = Given.Slot (record { owner = taskLimit; late = 1; closed = 1; lowest = 0 }); state = record { wait = padded 7 (0 ∷ 8 ∷ []); left = padded 7 (0 ∷ 0 ∷ []); last = taskLimit; given = padded 7 (3 ∷ 4 ∷ []); empty = 6 } })
+    × (turn two (uncounted (padded 0 (1 ∷ 9 ∷ [])) (padded 7 (2 ∷ 0 ∷ [])) 0) true .closed ≡ 0)
+unfolding stepped admitted slotCount turn after ownerNow choose fill bits firstStrange judged firstFaulty taskFault first round load horizon largest sum count
 at-deadline = (refl, refl)
+
+-- A state's slots: only the tasks of the table and the empty slots are summed. Below 2^64 - 1 a step is taken, at it it is 9, and above it
+-- 8 at its last place, without wrapping, and only where 8 has no other place.
+counted : ℕ → ℕ → ℕ → ℕ → Given
+counted last g0 g1 empty = stepped two (record { wait = padded 0 []; left = padded 0 []; last = last; given = padded 7 (g0 ∷ g1 ∷ []); empty = empty }) false .given
+
+accounts :
+    counted taskLimit (slotCountLimit - 2) 0 1 ∷ counted taskLimit (slotCountLimit - 3) 1 2 ∷ counted taskLimit slotCountLimit 0 1 ∷ counted taskLimit 1 slotCountLimit slotCountLimit ∷ counted 2 slotCountLimit 0 1 ∷ []
+    ≡ Given.Slot (record { owner = 0; late = 0; closed = 0; lowest = taskLimit }) ∷ map Given.Refused (refusal 9 0 ∷ refusal 8 sumPlace ∷ refusal 8 sumPlace ∷ refusal 8 taskLimit ∷ [])
+unfolding counted stepped admitted slotCount turn ownerNow choose bits firstStrange judged firstFaulty taskFault first round load horizon largest sum count
+accounts = refl
 
 -- ---- histories
 
@@ -499,6 +518,11 @@ history :
     × (map (had table-g once-done 1 0) (1 ∷ 2 ∷ []) ≡ 0 ∷ 1 ∷ [])
 unfolding once-done stateAt had startOf after ownerNow choose fill count
 history = (refl, refl, refl, refl, refl)
+
+-- After five slots: two of task 0, two of task 1, and one empty.
+history-counts : (stateAt table-g once-done 5 .given ≡ padded 0 (2 ∷ 2 ∷ [])) × (stateAt table-g once-done 5 .empty ≡ 1) × (slotCount table-g (stateAt table-g once-done 5) ≡ 5)
+unfolding once-done stateAt slotCount sum startOf after ownerNow choose fill count
+history-counts = (refl, refl, refl)
 
 -- A job is finished: reported done to step 1; by its slots; and so is the next one of task 0, whose slots are its own.
 finished : Finished table-g once-done 0 0 1 × Finished table-g once-done 1 0 3 × Finished table-g once-done 0 1 6
@@ -589,27 +613,27 @@ refusal-lines = (refl, refl, refl)
 
 -- ---- the state buffer
 
--- The first wait stands at byte 0, the slots left behind the last wait, then the last-run task, and behind it what the step told. A step
--- reads the same state from there.
+-- The first wait stands at byte 0, the slots left behind the last wait, then the last-run task, behind it what the step told, and then the
+-- counts of eight bytes, the empty slots last. A step reads the same state from there.
 abbrev kept : State
-kept = record { wait = 67305985 ∷ replicate (taskLimit - 2) 0 ++ (8 ∷ []); left = 3 ∷ replicate (taskLimit - 2) 0 ++ (9 ∷ []); last = 4 }
+kept = record { wait = 67305985 ∷ replicate (taskLimit - 2) 0 ++ (8 ∷ []); left = 3 ∷ replicate (taskLimit - 2) 0 ++ (9 ∷ []); last = 4; given = 578437695752307201 ∷ replicate (taskLimit - 2) 0 ++ (10 ∷ []); empty = 4294967307 }
 
 abbrev kept-bytes : List ℕ
-kept-bytes = 1 ∷ 2 ∷ 3 ∷ 4 ∷ replicate (4 * (taskLimit - 2)) 0 ++ word 8 ++ word 3 ++ replicate (4 * (taskLimit - 2)) 0 ++ word 9 ++ word 4 ++ word 5 ++ word 6 ++ word 7
+kept-bytes = 1 ∷ 2 ∷ 3 ∷ 4 ∷ replicate (4 * (taskLimit - 2)) 0 ++ word 8 ++ word 3 ++ replicate (4 * (taskLimit - 2)) 0 ++ word 9 ++ word 4 ++ word 5 ++ word 6 ++ word 7 ++ (1 ∷ 2 ∷ 3 ∷ 4 ∷ 5 ∷ 6 ∷ 7 ∷ 8 ∷ []) ++ replicate (8 * (taskLimit - 2)) 0 ++ word 10 ++ word 0 ++ word 11 ++ word 1
 
 layout : (bufferOf kept (record { owner = 0; late = 5; closed = 6; lowest = 7 }) ≡ kept-bytes) × (stateIn kept-bytes ≡ kept)
-unfolding bufferOf bytesOf stateIn fill
+unfolding bufferOf bytesOf halves stateIn fill
 layout = (refl, refl)
 
 -- A start on b; a buffer of another length is 50 at its length, or at 65,535, also with a broken file; a damaged file and a table's refusal write nowhere.
 camera-starts :
-    (startExported file-b (replicate stateBytes 9) ≡ record { number = 0; buffer = word 8 ++ replicate (8 * taskLimit - 4) 0 ++ word taskLimit ++ word 0 ++ word 0 ++ word taskLimit })
+    (startExported file-b (replicate stateBytes 9) ≡ record { number = 0; buffer = word 8 ++ replicate (8 * taskLimit - 4) 0 ++ word taskLimit ++ word 0 ++ word 0 ++ word taskLimit ++ replicate (8 * (taskLimit + 1)) 0 })
     × (startExported (9 ∷ []) (7 ∷ []) ≡ record { number = 3276801; buffer = 7 ∷ [] })
     × (startExported (9 ∷ []) (replicate (stateBytes + 1) 7) ≡ record { number = 3276800 + (stateBytes + 1); buffer = replicate (stateBytes + 1) 7 })
     × (startExported (9 ∷ []) (replicate 65536 7) .number ≡ 3342335)
     × (startExported (9 ∷ []) (replicate stateBytes 7) ≡ record { number = 1376256; buffer = replicate stateBytes 7 })
     × (startExported (budgetOf 1 ++ (3 ∷ [])) (replicate stateBytes 7) ≡ record { number = 65536; buffer = replicate stateBytes 7 })
-unfolding bufferOf bytesOf started startOf fill formOf readFrom judged firstFaulty taskFault first round load horizon largest sum count
+unfolding bufferOf bytesOf halves started startOf fill formOf readFrom judged firstFaulty taskFault first round load horizon largest sum count
 camera-starts = (refl, refl, refl, refl, refl, refl)
 
 -- The loop on g with task 0 done after one slot, as above: a done report is any number but 0. On f the second step leaves what it told.
@@ -624,13 +648,13 @@ reports n = getD (0 ∷ 2 ∷ []) n 0
 
 camera-steps :
     (map (λ n. stepExported file-g (handed file-g (replicate stateBytes 9) reports n) (reports n) .number) (0 ∷ 1 ∷ 2 ∷ 3 ∷ 4 ∷ []) ≡ 0 ∷ 1 ∷ 1 ∷ taskLimit ∷ 0 ∷ [])
-    × (handed file-f (replicate stateBytes 9) (λ n. 0) 2 ≡ replicate (8 * taskLimit) 0 ++ word taskLimit ++ word 2 ++ word 1 ++ word 1)
-unfolding reports handed stateIn bufferOf bytesOf started startOf stepped after turn ownerNow choose fill bits firstStrange formOf readFrom judged firstFaulty taskFault first round load horizon largest sum count
+    × (handed file-f (replicate stateBytes 9) (λ n. 0) 2 ≡ replicate (8 * taskLimit) 0 ++ word taskLimit ++ word 2 ++ word 1 ++ word 1 ++ word 1 ++ replicate (8 * taskLimit - 4) 0 ++ word 1 ++ word 0)
+unfolding reports handed stateIn bufferOf bytesOf halves started startOf stepped admitted slotCount after turn ownerNow choose fill bits firstStrange formOf readFrom judged firstFaulty taskFault first round load horizon largest sum count
 camera-steps = (refl, refl)
 
 -- A state that is not g's is 8, and stays.
 camera-stranger : stepExported file-g (replicate stateBytes 7) 0 ≡ record { number = 524288; buffer = replicate stateBytes 7 }
-unfolding stateIn stepped fill firstStrange formOf readFrom judged firstFaulty taskFault first round load horizon largest sum count
+unfolding stateIn stepped admitted slotCount fill firstStrange formOf readFrom judged firstFaulty taskFault first round load horizon largest sum count
 camera-stranger = refl
 
 -- ---- the writer

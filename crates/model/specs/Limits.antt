@@ -37,3 +37,10 @@ longestFile = budgetBytes + taskLimit * taskBytes + 1
 -- The longest text of a file that is not refused: a budget of twenty digits, and of every task four numbers of five digits.
 abbrev pub longestText : ℕ
 longestText = 7 + 20 + 1 + taskLimit * (5 + 4 * 5 + 3 + 1)
+
+-- The slots that a dispatcher's state can count, 2^64 - 1 (T-09); the place at which 8 refuses a state that counts more.
+abbrev pub slotCountLimit : ℕ
+slotCountLimit = 18446744073709551615
+
+abbrev pub sumPlace : ℕ
+sumPlace = taskLimit + 1

@@ -2,24 +2,44 @@
 use Rattle.model.specs.Notation.{List, [], _∷_, _++_, cond, not, ℕ, zero, suc, _+_, _*_, min, eqb, length, replicate, fill}
 use Rattle.model.specs.Values.{Table, Admission, Turn, Given, refusal}
 use Rattle.model.specs.Limits.{taskLimit}
-use Rattle.model.specs.TableFile.{four, bytesOf, formOf}
+use Rattle.model.specs.TableFile.{four, eight, twoWords, bytesOf, formOf}
 use Rattle.model.specs.Dispatcher.{State, started, stepped}
 use Rattle.model.specs.Report.{Exported, refused}
 
--- The bytes of a state buffer: four for each wait, for each number of slots left, and for the four words after them.
-abbrev pub stateBytes : ℕ
-stateBytes = 4 * (taskLimit + taskLimit + 4)
+-- The bytes of a state buffer: four for each wait, for each number of slots left, and for the four words after them; then eight for each
+-- count of slots.
+abbrev pub countsAt : ℕ
+countsAt = 4 * (taskLimit + taskLimit + 4)
 
--- The waits, the slots left, which task ran last; and what the step said: the late set, its count and its lowest task.
+abbrev pub stateBytes : ℕ
+stateBytes = countsAt + 8 * (taskLimit + 1)
+
+-- Numbers of eight bytes, as two words each.
+unfoldable pub halves : List ℕ → List ℕ
+halves [] = []
+halves (x ∷ w) = twoWords x ++ halves w
+
+-- The waits, the slots left, which task ran last; what the step said: the late set, its count and its lowest task; the slots given to each
+-- task, and the empty ones.
 unfoldable pub bufferOf : State → Turn → List ℕ
-bufferOf d u = bytesOf (d .wait) ++ bytesOf (d .left) ++ bytesOf (d .last ∷ u .late ∷ u .closed ∷ u .lowest ∷ [])
+bufferOf d u = bytesOf (d .wait) ++ bytesOf (d .left) ++ bytesOf (d .last ∷ u .late ∷ u .closed ∷ u .lowest ∷ []) ++ bytesOf (halves (d .given)) ++ bytesOf (twoWords (d .empty))
 
 -- The state in a buffer. What the last step said is not read.
 abbrev pub wordsIn : List ℕ → ℕ → List ℕ
 wordsIn buffer at = fill taskLimit (λ i. four buffer (at + 4 * i)) (replicate taskLimit 0)
 
+abbrev pub countsIn : List ℕ → ℕ → List ℕ
+countsIn buffer at = fill taskLimit (λ i. eight buffer (at + 8 * i)) (replicate taskLimit 0)
+
 unfoldable pub stateIn : List ℕ → State
-stateIn buffer = record { wait = wordsIn buffer 0; left = wordsIn buffer (4 * taskLimit); last = four buffer (8 * taskLimit) }
+stateIn buffer =
+    record {
+      wait = wordsIn buffer 0;
+      left = wordsIn buffer (4 * taskLimit);
+      last = four buffer (8 * taskLimit);
+      given = countsIn buffer countsAt;
+      empty = eight buffer (countsAt + 8 * taskLimit);
+    }
 
 -- What a start says: no task had a slot, and none was closed.
 abbrev pub quiet : Turn

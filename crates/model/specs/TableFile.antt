@@ -85,9 +85,13 @@ unfoldable pub bytesOf : List ℕ → List ℕ
 bytesOf [] = []
 bytesOf (x ∷ w) = wordBytes x ++ bytesOf w
 
--- The record of a budget, its lower word first; of a task: O, C, D, T; of tasks, in their order.
+-- A number of eight bytes as two words, the lower one first.
+abbrev pub twoWords : ℕ → List ℕ
+twoWords x = x % wordLimit ∷ x / wordLimit ∷ []
+
+-- The record of a budget; of a task: O, C, D, T; of tasks, in their order.
 abbrev pub budgetRecord : ℕ → List ℕ
-budgetRecord b = budgetKind ∷ bytesOf (b % wordLimit ∷ b / wordLimit ∷ [])
+budgetRecord b = budgetKind ∷ bytesOf (twoWords b)
 
 abbrev pub taskRecord : Task → List ℕ
 taskRecord k = taskKind ∷ bytesOf (k .offset ∷ k .cost ∷ k .deadline ∷ k .period ∷ [])
