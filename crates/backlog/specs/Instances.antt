@@ -12,12 +12,13 @@ use Rattle.values.specs.declared.Verdict.{Verdict}
 use Rattle.values.specs.declared.Given.{Given}
 use Rattle.values.specs.declared.Answer.{Answer}
 use Rattle.values.specs.declared.Outcome.{Outcome}
-use Rattle.model.specs.Limits.{taskLimit}
+use Rattle.model.specs.Limits.{taskLimit, slotCountLimit}
+use Rattle.model.specs.Values.{refusal}
 use Rattle.model.specs.Tasks.{task, release, due, taskFault, firstFaulty, round, load, horizon, judged}
 use Rattle.model.specs.Demand.{jobsIn, demand, lateAt, asksTooMuch}
 use Rattle.model.specs.Run.{Order, choose, run, Worst}
 use Rattle.model.specs.Verdict.{needed, lateStart, verdict, settledBy, Worsts, Permitted}
-use Rattle.model.specs.Dispatcher.{State, Stepped, firstStrange, startOf, isLate, ownerNow, after, turn, stepped}
+use Rattle.model.specs.Dispatcher.{State, Stepped, givenOf, slotCount, firstStrange, startOf, isLate, ownerNow, after, turn, refuseStep, stepped}
 use Rattle.model.specs.History.{stateAt, ownerAt, had, Finished}
 use Rattle.model.specs.Examples.{padded, table-b, table-c, table-d, table-f, table-g, table-i}
 use Rattle.model.specs.Schedule.{none, job}
@@ -49,9 +50,10 @@ use Rattle.backlog.specs.Passes.{passes-iff, overload-infeasible, late-i
 use Rattle.backlog.specs.PassedWorst.{met-of-passed, worst-of}
 use Rattle.backlog.specs.Unique.{permitted-unique}
 use Rattle.backlog.specs.AnswersSay.{answers-say}
-use Rattle.backlog.specs.Taken.{Belongs, belongs-after}
+use Rattle.backlog.specs.Taken.{Belongs, belongs-after, slots-after}
 use Rattle.backlog.specs.Stepping.{past-none}
-use Rattle.backlog.specs.NeverRefused.{never-refused}
+use Rattle.backlog.specs.Accounts.{empty-is, given-is, slots-are}
+use Rattle.backlog.specs.NeverRefused.{never-refused, full}
 use Rattle.backlog.specs.NoneEarly.{owned-ready}
 use Rattle.backlog.specs.NeverMore.{never-more}
 use Rattle.backlog.specs.NoneAfter.{none-after}
@@ -203,7 +205,7 @@ g-owned : (j : ℕ) × (release (task table-g 1) j ≤ 1) × (1 < due (task tabl
 unfolding reports stateAt startOf after ownerNow choose fill
 g-owned = owned-ready table-g g-ranged reports 1 1 (lit< tt) refl
 
-g-past : (getD (stateAt table-g reports 5 .wait) 2 0 ≡ 0) × (getD (stateAt table-g reports 5 .left) 2 0 ≡ 0)
+g-past : (getD (stateAt table-g reports 5 .wait) 2 0 ≡ 0) × (getD (stateAt table-g reports 5 .left) 2 0 ≡ 0) × (getD (stateAt table-g reports 5 .given) 2 0 ≡ 0)
 g-past = past-none table-g reports 5 2 (lit≤ tt)
 
 g-never-more : had table-g reports 0 0 4 ≤ 2
@@ -212,20 +214,30 @@ g-never-more = never-more table-g g-ranged reports 0 0 4 (lit< tt) (lit≤ tt)
 g-none-cut : (n : ℕ) → (turn table-g (stateAt table-g reports n) (reports n) .late ≡ 0) × (turn table-g (stateAt table-g reports n) (reports n) .closed ≡ 0) × (turn table-g (stateAt table-g reports n) (reports n) .lowest ≡ taskLimit)
 g-none-cut = none-cut table-g g-ranged reports 8 g-passes
 
-g-never-refused : (n : ℕ) → _≡_ {A = Stepped} (stepped table-g (stateAt table-g reports n) (reports n)) (record { given = Given.Slot (turn table-g (stateAt table-g reports n) (reports n)); state = stateAt table-g reports (suc n) })
+g-never-refused : (n : ℕ) → n < slotCountLimit → _≡_ {A = Stepped} (stepped table-g (stateAt table-g reports n) (reports n)) (record { given = Given.Slot (turn table-g (stateAt table-g reports n) (reports n)); state = stateAt table-g reports (suc n) })
 unfolding judged firstFaulty taskFault first round load horizon largest sum count
-g-never-refused = never-refused table-g (record { round = 4; load = 4; horizon = 8 }) refl reports
+g-never-refused n = never-refused table-g (record { round = 4; load = 4; horizon = 8 }) refl reports n
+
+g-full : stepped table-g (stateAt table-g reports slotCountLimit) (reports slotCountLimit) ≡ refuseStep (refusal 9 0) (stateAt table-g reports slotCountLimit)
+unfolding judged firstFaulty taskFault first round load horizon largest sum count
+g-full = full table-g (record { round = 4; load = 4; horizon = 8 }) refl reports slotCountLimit refl
+
+g-counted : (slotCount table-g (stateAt table-g reports 5) ≡ 5) × (givenOf (stateAt table-g reports 5) 1 ≡ count (λ k. eqb (ownerAt table-g reports k) 1) 5) × (stateAt table-g reports 5 .empty ≡ count (λ k. eqb (ownerAt table-g reports k) taskLimit) 5)
+g-counted = (slots-are table-g g-ranged reports 5, given-is table-g g-ranged reports 5 1 (lit< tt), empty-is table-g reports 5)
 
 -- A state of table g that somebody else made: task 0 is open with one slot left and its wait is 2, and task 1 ran last.
 other : State
-other = record { wait = padded 0 (2 ∷ 2 ∷ []); left = padded 0 (1 ∷ 0 ∷ []); last = 1 }
+other = record { wait = padded 0 (2 ∷ 2 ∷ []); left = padded 0 (1 ∷ 0 ∷ []); last = 1; given = padded 0 []; empty = 0 }
 
 g-belongs : Belongs table-g other
 unfolding other firstStrange first
-g-belongs = record { waits = refl; lefts = refl; each = lit≤ tt; ran = refl }
+g-belongs = record { waits = refl; lefts = refl; gives = refl; each = lit≤ tt; ran = refl }
 
 g-belongs-after : Belongs table-g (after table-g other true)
 g-belongs-after = belongs-after table-g g-ranged other true g-belongs
+
+g-slots-after : slotCount table-g (after table-g other true) ≡ slotCount table-g other + 1
+g-slots-after = slots-after table-g g-ranged other true g-belongs
 
 -- Table f has load exactly 1 and is late at 5, past its horizon of 4; so it is late within it too.
 f-ranged : Ranged table-f

@@ -42,6 +42,7 @@ pub mod AnswersSay
 -- What the dispatcher does, in the model's words.
 pub mod Taken
 pub mod Stepping
+pub mod Accounts
 pub mod NeverRefused
 pub mod NoneEarly
 pub mod StepHistory

@@ -1,21 +1,36 @@
--- NO STEP IS REFUSED (`never-refused`): from a start on a well-formed table every step is taken, and gives the next state.
+-- NO STEP IS REFUSED (`never-refused`): from a start on a well-formed table every step that can still be counted is taken, and gives the next state.
 use mathlib.Core.Path.{_≡_}
 use mathlib.Core.Bool.{Bool}
-use Prim.Native.Nat.{ℕ, suc}
-use borrow.Author.Tests.{le-ltb}
+use Prim.Native.Nat.{ℕ, suc, _≤_, _<_}
+use native.Mathlib.Omega.{arith}
+use borrow.Author.Tests.{eq-eqb, ne-eqb}
 use Rattle.values.specs.declared.Table.{Table}
 use Rattle.values.specs.declared.Measure.{Measure}
 use Rattle.values.specs.declared.Judgement.{Judgement}
+use Rattle.values.specs.declared.Admission.{Admission}
 use Rattle.values.specs.declared.Given.{Given}
+use Rattle.model.specs.Values.{refusal}
+use Rattle.model.specs.Limits.{slotCountLimit}
 use Rattle.model.specs.Tasks.{judged}
-use Rattle.model.specs.Dispatcher.{firstStrange, turn, stepped}
+use Rattle.model.specs.Dispatcher.{slotCount, admitted, turn, refuseStep, stepped}
 use Rattle.model.specs.History.{stateAt}
 use Rattle.backlog.specs.Stepping.{sound}
+use Rattle.backlog.specs.Accounts.{slots-are}
 use Rattle.wellformed.specs.WellFormed.{well-formed}
+use Rattle.wellformed.specs.Admitted.{admitted-iff}
 
-pub never-refused : (t : Table) (m : Measure) → judged t ≡ Judgement.WellFormed m → (done : ℕ → Bool) (n : ℕ)
-    → stepped t (stateAt t done n) (done n) ≡ record { given = Given.Slot (turn t (stateAt t done n) (done n)); state = stateAt t done (suc n) }
-unfolding stepped stateAt
-never-refused t m e done n =
-    let b = sound t (well-formed t m e .ranged) done n .belongs in
-    rw (e, le-ltb (firstStrange t (stateAt t done n)) (t .count) (b .each), b .ran)
+module _ (t : Table) (m : Measure) (well : judged t ≡ Judgement.WellFormed m) (done : ℕ → Bool) (n : ℕ) where
+  pub history-admitted : n ≤ slotCountLimit → admitted t (stateAt t done n) ≡ Admission.Admitted
+  history-admitted h =
+      let b = sound t (well-formed t m well .ranged) done n .belongs in
+      admitted-iff t (stateAt t done n) .1 (record { measure = m; well = well; each = b .each; ran = b .ran; room = omega (arith, slots-are t (well-formed t m well .ranged) done n) })
+
+  pub never-refused : n < slotCountLimit → stepped t (stateAt t done n) (done n) ≡ record { given = Given.Slot (turn t (stateAt t done n) (done n)); state = stateAt t done (suc n) }
+  unfolding stepped stateAt
+  never-refused h =
+      rw (history-admitted (omega arith), ne-eqb (slotCount t (stateAt t done n)) slotCountLimit (λ e. absurd (omega (arith, slots-are t (well-formed t m well .ranged) done n))))
+
+  -- The step after the last that can be counted is refused by 9.
+  pub full : n ≡ slotCountLimit → stepped t (stateAt t done n) (done n) ≡ refuseStep (refusal 9 0) (stateAt t done n)
+  unfolding stepped
+  full e = rw (history-admitted (omega arith), eq-eqb (slotCount t (stateAt t done n)) slotCountLimit (omega (arith, slots-are t (well-formed t m well .ranged) done n)))

@@ -112,7 +112,7 @@ module _ (t : Table) (r : Ranged t) (done : ℕ → Bool) where
 
 module _ (t : Table) (done : ℕ → Bool) where
   -- Entries past the table's last task are 0 from the start on.
-  pub past-none : (n i : ℕ) → t .count ≤ i → (getD (stateAt t done n .wait) i 0 ≡ 0) × (getD (stateAt t done n .left) i 0 ≡ 0)
+  pub past-none : (n i : ℕ) → t .count ≤ i → (getD (stateAt t done n .wait) i 0 ≡ 0) × (getD (stateAt t done n .left) i 0 ≡ 0) × (getD (stateAt t done n .given) i 0 ≡ 0)
   unfolding stateAt startOf after
-  past-none zero i l = (fill-ahead (t .count) _ _ i 0 l ∙ getD-same taskLimit 0 i, getD-same taskLimit 0 i)
-  past-none (suc n) i l = (fill-ahead (t .count) _ _ i 0 l ∙ past-none n i l .0, fill-ahead (t .count) _ _ i 0 l ∙ past-none n i l .1)
+  past-none zero i l = (fill-ahead (t .count) _ _ i 0 l ∙ getD-same taskLimit 0 i, getD-same taskLimit 0 i, getD-same taskLimit 0 i)
+  past-none (suc n) i l = (fill-ahead (t .count) _ _ i 0 l ∙ past-none n i l .0, fill-ahead (t .count) _ _ i 0 l ∙ past-none n i l .1, fill-ahead (t .count) _ _ i 0 l ∙ past-none n i l .2)

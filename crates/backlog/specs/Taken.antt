@@ -1,8 +1,8 @@
 -- ONCE TAKEN, NEVER REFUSED (`belongs-after`): what a step makes of a state that belongs to its table, which keeps its ranges, belongs to it too, whoever made the state.
-use mathlib.Core.Path.{_≡_, refl, subst, _∙_}
+use mathlib.Core.Path.{_≡_, refl, sym, subst, _∙_}
 use mathlib.Core.Logic.{_⊎_, inl, inr, _≢_, _↔_}
 use mathlib.Core.Bool.{Bool, true, false, cond, _&&_, _||_}
-use Prim.Native.Nat.{ℕ, _-_, _≤_, _<_, max}
+use Prim.Native.Nat.{ℕ, _+_, _-_, _≤_, _<_, max}
 use native.Mathlib.Decide.{ℕ-discrete, decLt}
 use native.Mathlib.Omega.{arith}
 use borrow.Author.Tests.{eq-eqb, ne-eqb, lt-ltb, le-ltb}
@@ -10,11 +10,13 @@ use lib.Dec.{T, ltb, eqb, lt→ltb, ltb→lt, eqb→eq}
 use lib.ListN.{length, replicate, length-replicate}
 use Rattle.values.specs.declared.Table.{Table}
 use Rattle.model.specs.Limits.{taskLimit}
+use Rattle.model.specs.Notation.{bit, sum}
 use Rattle.model.specs.Tasks.{task}
 use Rattle.model.specs.Run.{tieOrder}
-use Rattle.model.specs.Dispatcher.{State, waitOf, leftOf, isOpen, strange, firstStrange, lastStrange, startOf, leftDone, isLate, leftLate, waitReleased, leftReleased, ownerNow, after}
+use Rattle.model.specs.Dispatcher.{State, waitOf, leftOf, isOpen, givenOf, slotCount, strange, firstStrange, lastStrange, startOf, leftDone, isLate, leftLate, waitReleased, leftReleased, ownerNow, after}
 use Rattle.counting.specs.Count.{and-iff, eq→eqb, one-of-iff, or-left, or-right}
 use Rattle.counting.specs.Search.{first-before, first-none}
+use Rattle.counting.specs.Sum.{sum-eq, sum-by}
 use Rattle.counting.specs.Fill.{fill-passed, fill-length, getD-same}
 use Rattle.wellformed.specs.Ranges.{Ranged}
 use Rattle.backlog.specs.Choice.{Chosen, choose-is}
@@ -99,6 +101,7 @@ module _ (t : Table) where
   pub record Belongs (d : State) : Type 0 where
     pub waits : length (d .wait) ≡ taskLimit
     pub lefts : length (d .left) ≡ taskLimit
+    pub gives : length (d .given) ≡ taskLimit
     pub each : t .count ≤ firstStrange t d
     pub ran : lastStrange t d ≡ false
 
@@ -159,6 +162,7 @@ module _ (t : Table) where
     belongs-start = record {
       waits = fill-length (t .count) _ _ ∙ length-replicate {A = ℕ} taskLimit 0;
       lefts = length-replicate {A = ℕ} taskLimit 0;
+      gives = length-replicate {A = ℕ} taskLimit 0;
       each = none-strange (startOf t) (λ i l. record { wait-le = omega (arith, wait-start i l); left-le = omega (arith, left-start i); open-from = λ p. absurd (omega (arith, left-start i)); open-to = λ p. absurd (omega (arith, left-start i)) });
       ran = refl;
     }
@@ -205,6 +209,23 @@ module _ (t : Table) where
       belongs-after = record {
         waits = fill-length (t .count) _ _ ∙ b .waits;
         lefts = fill-length (t .count) _ _ ∙ b .lefts;
+        gives = fill-length (t .count) _ _ ∙ b .gives;
         each = none-strange (after t d done) ordinary-after;
         ran = one-of-iff (ownerNow t d done) taskLimit (t .count) .1 (owner-one d done (r .few));
       }
+
+      -- Each task has counted one slot more if it is the owner.
+      pub given-after : (i : ℕ) → i < t .count → givenOf (after t d done) i ≡ givenOf d i + bit (eqb (ownerNow t d done) i)
+      unfolding after
+      given-after i l = fill-passed (t .count) (λ i. givenOf d i + bit (eqb (ownerNow t d done) i)) (d .given) i 0 l (omega (arith, b .gives, r .few))
+
+      -- The slots counted are one more, be they given or empty.
+      pub slots-after : slotCount t (after t d done) ≡ slotCount t d + 1
+      unfolding slotCount after
+      slots-after = go (owner-one d done (r .few))
+        where
+          go : (ownerNow t d done ≡ taskLimit) ⊎ (ownerNow t d done < t .count) → sum (t .count) (givenOf (after t d done)) + (d .empty + bit (eqb (ownerNow t d done) taskLimit)) ≡ sum (t .count) (givenOf d) + d .empty + 1
+          go (inl e) = rw (eq-eqb (ownerNow t d done) taskLimit e) (omega (arith, sum-eq (t .count) (givenOf (after t d done)) (givenOf d) (λ i l. rw (ne-eqb (ownerNow t d done) i (λ x. absurd (omega (arith, r .few)))) at (given-after i l) ∙ omega arith)))
+          go (inr l) =
+              rw (ne-eqb (ownerNow t d done) taskLimit (λ x. absurd (omega (arith, r .few))))
+              (omega (arith, sum-by (t .count) (givenOf (after t d done)) (givenOf d) (ownerNow t d done) 1 l (rw (eq-eqb (ownerNow t d done) (ownerNow t d done) refl) at (given-after (ownerNow t d done) l)) (λ i m x. rw (ne-eqb (ownerNow t d done) i (λ y. x (sym y))) at (given-after i m) ∙ omega arith)))

@@ -3,7 +3,7 @@ use mathlib.Core.Path.{_≡_, refl, ap₂}
 use mathlib.Core.Logic.{_⊎_, inl, inr, _≢_}
 use Prim.Native.Nat.{ℕ, zero, suc, _+_, _*_, _≤_, _<_}
 use native.Mathlib.Nat.{eq-zero-or-pos, le-refl, le-step}
-use native.Mathlib.Decide.{ℕ-discrete}
+use native.Mathlib.Decide.{ℕ-discrete, decLt}
 use native.Mathlib.Numerals.{add-one}
 use native.Mathlib.Omega.{arith}
 use Rattle.model.specs.Notation.{sum}
@@ -20,6 +20,12 @@ pub sum-le : (n : ℕ) (f g : ℕ → ℕ) → ((i : ℕ) → i < n → f i ≤ 
 unfolding sum
 sum-le zero f g h = omega arith
 sum-le (suc n) f g h = omega (arith, sum-le n f g (λ i l. h i (le-step l)), h n (le-refl (suc n)))
+
+-- A longer sum is no smaller.
+pub sum-longer : (f : ℕ → ℕ) (a b : ℕ) → a ≤ b → sum a f ≤ sum b f
+unfolding sum
+sum-longer f a zero l = let e : a ≡ 0 = omega arith in rw e (omega arith)
+sum-longer f a (suc b) l = elim (decLt b a) [ yes x ↦ (let e : a ≡ suc b = omega arith in rw e (omega arith)) | no x ↦ omega (arith, sum-longer f a b (omega arith)) ]
 
 -- A sum of sums.
 pub sum-add : (n : ℕ) (f g : ℕ → ℕ) → sum n (λ i. f i + g i) ≡ sum n f + sum n g

@@ -1,0 +1,42 @@
+-- When a dispatcher's state is admitted.
+use mathlib.Core.Path.{_≡_, refl}
+use mathlib.Core.Logic.{_↔_}
+use mathlib.Core.Bool.{Bool, true, false, cond}
+use Prim.Native.Nat.{ℕ, _≤_}
+use native.Mathlib.Omega.{arith}
+use lib.Dec.{ltb}
+use borrow.Author.Tests.{ltb-false, le-ltb}
+use Rattle.values.specs.declared.Table.{Table}
+use Rattle.values.specs.declared.Refusal.{Refusal}
+use Rattle.values.specs.declared.Measure.{Measure}
+use Rattle.values.specs.declared.Judgement.{Judgement}
+use Rattle.values.specs.declared.Admission.{Admission}
+use Rattle.model.specs.Limits.{slotCountLimit}
+use Rattle.model.specs.Tasks.{judged}
+use Rattle.model.specs.Dispatcher.{State, slotCount, firstStrange, lastStrange, admittedBy, admitted}
+
+-- The table is well-formed, and no place of 8 fits the state.
+pub record Admissible (t : Table) (d : State) : Type 0 where
+  pub measure : Measure
+  pub well : judged t ≡ Judgement.WellFormed measure
+  pub each : t .count ≤ firstStrange t d
+  pub ran : lastStrange t d ≡ false
+  pub room : slotCount t d ≤ slotCountLimit
+
+-- What one test does not refuse goes on to the next.
+pub unrefused : (p : Bool) (r : Refusal) {a : Admission} → cond p (Admission.Refused r) a ≡ Admission.Admitted → (p ≡ false) × (a ≡ Admission.Admitted)
+unrefused true r e = let z : _≡_ {A = ℕ} 0 1 = cc in absurd (omega arith)
+unrefused false r e = (refl, e)
+
+-- EXACTLY: a state is admitted if its table is well-formed and no place of 8 fits it.
+pub admitted-iff : (t : Table) (d : State) → (admitted t d ≡ Admission.Admitted) ↔ Admissible t d
+unfolding admitted
+admitted-iff t d = (fwd (judged t) refl, λ a. rw (a .well, le-ltb (firstStrange t d) (t .count) (a .each), a .ran, le-ltb slotCountLimit (slotCount t d) (a .room)))
+  where
+    fwd : (j : Judgement) → judged t ≡ j → admittedBy t d j ≡ Admission.Admitted → Admissible t d
+    fwd (Judgement.Refused r) w e = let z : _≡_ {A = ℕ} 0 1 = cc in absurd (omega arith)
+    fwd (Judgement.WellFormed m) w e =
+        let (a, e₁) = unrefused (ltb (firstStrange t d) (t .count)) _ e in
+        let (b, e₂) = unrefused (lastStrange t d) _ e₁ in
+        let (c, e₃) = unrefused (ltb slotCountLimit (slotCount t d)) _ e₂ in
+        record { measure = m; well = w; each = ltb-false (firstStrange t d) (t .count) a; ran = b; room = ltb-false slotCountLimit (slotCount t d) c }
