@@ -11,8 +11,8 @@ ghost use mathlib.Core.List.{[]};
 ghost use Prim.Native.Nat.{_+_, _<_, _≤_};
 ghost use lib.ListN.{length};
 ghost use Rattle.model.specs.Limits.{longestFile};
-ghost use Rattle.model.specs.TableFile.{eight, taskIn, tableOf, refuseFile, formOf, loadedFrom};
-ghost use Rattle.tablefile.specs.Reading.{budgetBody, taskBody, refused, budgetReading, taskReading, endReading, readingAt};
+ghost use Rattle.model.specs.TableFile.{taskIn, tableOf, refuseFile, formOf, loadedFrom};
+ghost use Rattle.tablefile.specs.Reading.{taskBody, refused, budgetReading, taskReading, endReading, readingAt};
 
 pub const BUDGET: u8 = 1;
 
@@ -58,19 +58,6 @@ pub enum Reading {
 }
 
 // A cast by a function of its own: who reads a word has nothing to show of its width.
-fn to_u64(x: u32) -> u64
-    ensures { λ r. ⌜ (r ≡ x) × (x < 4294967296) ⌝ }
-{
-    x as u64
-}
-
-fn budget_in(body: &[u8]) -> u64
-    requires { ⌜ budgetBody ≤ length (now body) ⌝ }
-    ensures { λ r. ⌜ r ≡ eight (now (body .entry)) 0 ⌝ }
-{
-    to_u64(words::word_at(body, 0)) + 4294967296 * to_u64(words::word_at(body, 4))
-}
-
 fn task_in(body: &[u8]) -> Task
     requires { ⌜ taskBody ≤ length (now body) ⌝ }
     ensures { λ r. ⌜ r ≡ taskIn (now (body .entry)) 0 ⌝ }
@@ -104,7 +91,7 @@ fn budget_reading(rest: &[u8], at: usize) -> Reading
     if rest.len() < BUDGET_BODY {
         return refusal(CUT_SHORT, at);
     }
-    let budget = budget_in(rest);
+    let budget = words::long_at(rest, 0);
     if budget == 0 {
         return refusal(NOTHING, at);
     }

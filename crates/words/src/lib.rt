@@ -1,8 +1,9 @@
-// Numbers of four bytes, the lowest byte first, read and written where they lie.
+// Numbers of four bytes and of eight, the lowest byte first, read and written where they lie.
 ghost use mathlib.Core.Path.{_≡_};
-ghost use Prim.Native.Nat.{_+_, _%_, _<_, _≤_};
+ghost use Prim.Native.Nat.{_+_, _/_, _%_, _<_, _≤_};
 ghost use lib.ListN.{length};
-ghost use Rattle.model.specs.TableFile.{four, wordBytes};
+ghost use Rattle.model.specs.Limits.{wordLimit};
+ghost use Rattle.model.specs.TableFile.{four, eight, wordBytes, twoWords, bytesOf};
 ghost use Rattle.counting.specs.Put.{Put};
 
 // A cast by a function of its own: who reads a byte has nothing to show of its width.
@@ -38,4 +39,38 @@ fn low_byte(word: u32) -> u8
     ensures { λ r. ⌜ r ≡ word % 256 ⌝ }
 {
     (word % 256) as u8
+}
+
+fn to_u64(x: u32) -> u64
+    ensures { λ r. ⌜ (r ≡ x) × (x < wordLimit) ⌝ }
+{
+    x as u64
+}
+
+pub fn long_at(s: &[u8], at: usize) -> u64
+    requires { ⌜ at + 8 ≤ length (now s) ⌝ }
+    ensures { λ r. ⌜ r ≡ eight (now (s .entry)) at ⌝ }
+{
+    to_u64(word_at(s, at)) + 4294967296 * to_u64(word_at(s, at + 4))
+}
+
+pub fn put_long(buffer: &mut [u8], at: usize, number: u64) -> usize
+    requires { ⌜ at + 8 ≤ length (now buffer) ⌝ }
+    ensures { λ r. ⌜ Put (bytesOf (twoWords number)) at (now (buffer .entry)) (now (buffer .exit)) r ⌝ }
+    ensures { λ r. ⌜ r ≡ at + 8 ⌝ }
+{
+    let next = put_word(buffer, at, low_word(number));
+    put_word(buffer, next, high_word(number))
+}
+
+fn low_word(number: u64) -> u32
+    ensures { λ r. ⌜ r ≡ number % wordLimit ⌝ }
+{
+    (number % 4294967296) as u32
+}
+
+fn high_word(number: u64) -> u32
+    ensures { λ r. ⌜ r ≡ number / wordLimit ⌝ }
+{
+    (number / 4294967296) as u32
 }

@@ -1,9 +1,9 @@
 // The table file of a table and a budget, written into a lent buffer.
 ghost use mathlib.Core.Path.{_≡_};
 ghost use mathlib.Core.List.{[], _∷_};
-ghost use Prim.Native.Nat.{_+_, _*_, _/_, _%_, _≤_, _<_};
+ghost use Prim.Native.Nat.{_+_, _*_, _≤_, _<_};
 ghost use lib.ListN.{length};
-ghost use Rattle.model.specs.Limits.{taskLimit, wordLimit, budgetBytes, taskBytes};
+ghost use Rattle.model.specs.Limits.{taskLimit, budgetBytes, taskBytes};
 ghost use Rattle.model.specs.TableFile.{budgetRecord, taskRecord, taskRecords, fileOf};
 ghost use Rattle.model.specs.Writer.{tasksOf, fitted, budgeted, fileWritten};
 ghost use Rattle.counting.specs.Put.{Put};
@@ -92,20 +92,7 @@ fn put_budget(buffer: &mut [u8], budget: u64) -> usize
     ensures { λ r. ⌜ r ≡ budgetBytes ⌝ }
 {
     let at = put_kind(buffer, 0, BUDGET);
-    let at = words::put_word(buffer, at, low_word(budget));
-    words::put_word(buffer, at, high_word(budget))
-}
-
-fn low_word(budget: u64) -> u32
-    ensures { λ r. ⌜ r ≡ budget % wordLimit ⌝ }
-{
-    (budget % 4294967296) as u32
-}
-
-fn high_word(budget: u64) -> u32
-    ensures { λ r. ⌜ r ≡ budget / wordLimit ⌝ }
-{
-    (budget / 4294967296) as u32
+    words::put_long(buffer, at, budget)
 }
 
 fn put_tasks(buffer: &mut [u8], at: usize, table: Table) -> usize

@@ -16,8 +16,8 @@ refusal-requires-2 c κs = search needs
 returns-2 : tie.Need-returns-2
 returns-2 c = simp (le-ltb _ _ (c .before .before .if1 .left), lt-ltb _ _ (c .before .if2 .taken)) (c .refusal2 .ensures)
 
-budget-in-requires : tie.Need-budget-in-requires
-budget-in-requires c κs = search needs
+long-at-requires : tie.Need-long-at-requires
+long-at-requires c κs = search needs
 
 refusal-requires-3 : tie.Need-refusal-requires-3
 refusal-requires-3 c κs = search needs
@@ -26,17 +26,17 @@ returns-3 : tie.Need-returns-3
 returns-3 c =
     let read = c .before .before in
     let room = read .before in
-    let none = eq-eqb (read .budget-in .result) 0 (omega (arith, room .if2 .left, c .before .if3 .taken)) in
-    simp (le-ltb _ _ (room .before .if1 .left), le-ltb _ _ (room .if2 .left), ← read .budget-in .ensures, none) (c .refusal3 .ensures)
+    let none = eq-eqb (read .long-at .result) 0 (omega (arith, room .if2 .left, c .before .if3 .taken)) in
+    simp (le-ltb _ _ (room .before .if1 .left), le-ltb _ _ (room .if2 .left), ← read .long-at .ensures, none) (c .refusal3 .ensures)
 
 returns-4 : tie.Need-returns-4
 returns-4 c =
     let read = c .before in
     let room = read .before in
-    let some = ne-eqb (read .budget-in .result) 0 (omega (arith, room .if2 .left, c .if3 .left)) in
-    simp (le-ltb _ _ (room .before .if1 .left), le-ltb _ _ (room .if2 .left), ← read .budget-in .ensures, some) (cc)
+    let some = ne-eqb (read .long-at .result) 0 (omega (arith, room .if2 .left, c .if3 .left)) in
+    simp (le-ltb _ _ (room .before .if1 .left), le-ltb _ _ (room .if2 .left), ← read .long-at .ensures, some) (cc)
 
 pub budget-reading-spec : {M : Type 1} → statement M
 budget-reading-spec =
     tie.close
-    (tie.spec refusal-requires returns refusal-requires-2 returns-2 budget-in-requires refusal-requires-3 returns-3 returns-4)
+    (tie.spec refusal-requires returns refusal-requires-2 returns-2 long-at-requires refusal-requires-3 returns-3 returns-4)
