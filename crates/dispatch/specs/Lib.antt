@@ -1,4 +1,5 @@
 -- The dispatcher's values as the model's, and the laws of a step.
 pub mod State
 pub mod Strange
+pub mod Accounts
 pub mod Step

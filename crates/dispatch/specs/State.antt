@@ -6,7 +6,7 @@ use Rattle.dispatch.specs.declared.Started.{Started}
 use Rattle.dispatch.specs.declared.Stepped.{Stepped}
 
 abbrev pub stateOf : Dispatcher → State
-stateOf d = record { wait = d .wait; left = d .left; last = d .last }
+stateOf d = record { wait = d .wait; left = d .left; last = d .last; given = d .given; empty = d .empty }
 
 abbrev pub startedOf : Started → StartedState
 startedOf r = record { admission = r .admission; state = stateOf (r .dispatcher) }
@@ -16,7 +16,7 @@ steppedOf r = record { given = r .given; state = stateOf (r .next) }
 
 -- Two values that are the same in the model are the same.
 back : State → Dispatcher
-back s = record { wait = s .wait; left = s .left; last = s .last }
+back s = record { wait = s .wait; left = s .left; last = s .last; given = s .given; empty = s .empty }
 
 pub one-started : (a b : Started) → startedOf a ≡ startedOf b → a ≡ b
 unfolding back

@@ -1,24 +1,25 @@
 -- A step by what the slot's rules make of the lists.
 use mathlib.Core.Path.{_≡_, refl, sym, ap, subst, _∙_}
+use mathlib.Core.Logic.{_⊎_, inl, inr}
 use mathlib.Core.List.{List}
 use mathlib.Core.Bool.{Bool, true, false, cond, _&&_}
-use Prim.Native.Nat.{ℕ, _-_, _<_}
+use Prim.Native.Nat.{ℕ, _+_, _-_, _<_}
 use native.Mathlib.Decide.{decLt}
 use native.Mathlib.Omega.{arith}
 use borrow.Author.Tests.{le-ltb}
 use lib.Count.{ones, trailingZeros}
 use lib.Dec.{T, ltb, eqb}
-use lib.ListN.{length}
+use lib.ListN.{length, getD}
 use Rattle.values.specs.declared.Table.{Table}
 use Rattle.values.specs.declared.Turn.{Turn}
 use Rattle.values.specs.declared.Given.{Given}
-use Rattle.model.specs.Limits.{taskLimit}
-use Rattle.model.specs.Notation.{bits, fill}
+use Rattle.model.specs.Limits.{taskLimit, slotCountLimit}
+use Rattle.model.specs.Notation.{bit, bits, fill}
 use Rattle.model.specs.Tasks.{task}
 use Rattle.model.specs.Run.{tieOrder}
-use Rattle.model.specs.Values.{refusal}
-use Rattle.model.specs.Dispatcher.{State, Stepped, waitOf, firstStrange, lastStrange, leftDone, isLate, leftLate, leftReleased, ownerNow, after, turn, refuseStep}
-use Rattle.counting.specs.Count.{and-iff}
+use Rattle.model.specs.Dispatcher.{State, Stepped, waitOf, givenOf, slotCount, leftDone, isLate, leftLate, leftReleased, ownerNow, after, turn}
+use Rattle.counting.specs.Count.{and-iff, one-of-iff}
+use Rattle.counting.specs.Sum.{sum-member}
 use Rattle.counting.specs.Fill.{fill-eq, fill-same, fill-again}
 use Rattle.counting.specs.Bits.{bits-eq, ones-bits, trailing-bits}
 use Rattle.slots.specs.declared.Columns.{Columns}
@@ -27,17 +28,25 @@ use Rattle.slots.specs.declared.Seen.{Seen}
 use Rattle.slots.specs.Slot.{closed, isLate as isLateIn, closedAll}
 use Rattle.slots.specs.Serve.{Served}
 use Rattle.slots.specs.Laws.{Has, fill-has, closed-fill, member-is, slack-has, Slotted, table-served}
-use Rattle.dispatch.specs.Strange.{Unrefused}
+use Rattle.wellformed.specs.Ranges.{Ranged}
+use Rattle.wellformed.specs.WellFormed.{well-formed}
+use Rattle.wellformed.specs.Admitted.{Admissible}
+use Rattle.backlog.specs.Taken.{owner-one}
+use Rattle.dispatch.specs.Accounts.{counted, counted-fill}
 
 -- A step that nothing refuses.
 abbrev pub taken : Table → State → Bool → Stepped
 taken t d done = record { given = Given.Slot (turn t d done); state = after t d done }
 
--- A step on a well-formed table: refused by 8, or taken.
-abbrev pub stepWellFormed : Table → State → Bool → Stepped
-stepWellFormed t d done =
-    cond (ltb (firstStrange t d) (t .count)) (refuseStep (refusal 8 (firstStrange t d)) d)
-    (cond (lastStrange t d) (refuseStep (refusal 8 taskLimit) d) (taken t d done))
+-- What it may assume; so it is of a state that is admitted and can count a slot more.
+pub record Unrefused (t : Table) (d : State) : Type 0 where
+  pub ranged : Ranged t
+  pub ran : (d .last ≡ taskLimit) ⊎ (d .last < t .count)
+  pub room : slotCount t d < slotCountLimit
+
+pub unrefused : (t : Table) (d : State) → Admissible t d → slotCount t d < slotCountLimit → Unrefused t d
+unrefused t d a l =
+    record { ranged = well-formed t (a .measure) (a .well) .ranged; ran = one-of-iff (d .last) taskLimit (t .count) .0 (a .ran); room = l }
 
 -- The answer of a step: how many bits the late set has, and its lowest.
 abbrev pub turnOf : ℕ → ℕ → Turn
@@ -102,26 +111,41 @@ module _ (t : Table) (d : State) (done : Bool) (unrefused : Unrefused t d) (whol
     lefts-are : left′ ≡ fill (t .count) (λ i. leftReleased t d done i - cond (eqb (ownerNow t d done) i) 1 0) (d .left)
     lefts-are = rw owner-is at (slot .lefts ∙ ap (fill (t .count) _) e ∙ fill-again (t .count) _ _ (d .left))
 
-    state-is : record { wait = wait′; left = left′; last = seen .owner } ≡ after t d done
+    -- The owner is a task of the table or none, and its count has room for one slot more.
+    one : (seen .owner ≡ taskLimit) ⊎ (seen .owner < t .count)
+    one = rw owner-is (owner-one t d done (unrefused .ranged .few))
+
+    given-room : seen .owner < taskLimit → getD (d .given) (seen .owner) 0 < slotCountLimit
+    unfolding slotCount
+    given-room l = elim one [ inl e ↦ absurd (omega arith) | inr k ↦ omega (arith, unrefused .room, sum-member (t .count) (givenOf d) (seen .owner) k) ]
+
+    gives-are : counted (d .given) (seen .owner) ≡ fill (t .count) (λ i. givenOf d i + bit (eqb (ownerNow t d done) i)) (d .given)
+    gives-are = counted-fill (t .count) (d .given) (seen .owner) (unrefused .ranged .few) one ∙ rw owner-is
+
+    state-is : record { wait = wait′; left = left′; last = seen .owner; given = counted (d .given) (seen .owner); empty = d .empty + bit (eqb (seen .owner) taskLimit) } ≡ after t d done
     unfolding after
-    state-is = rw (slot .waits, lefts-are, owner-is)
+    state-is = rw (slot .waits, lefts-are, gives-are, owner-is)
 
   -- The answer.
   turn-is : {owner late : ℕ} → owner ≡ ownerNow t d done → late ≡ bits (isLate t d done) taskLimit → turnOf owner late ≡ turn t d done
   unfolding turn
   turn-is e q = rw (e, q, ones-bits, trailing-bits)
 
-  -- All four, from the lists that the code makes.
-  pub taken-is :
-      {columns : Columns} {left left₂ wait′ left′ : List ℕ} {late : ℕ} {seen : Seen} {answer : Turn} → columns ≡ columnsOf t
-      → left ≡ cond done (closed (d .left) (d .last)) (d .left)
-      → late ≡ bits (isLateIn (d .wait) left (columns .slack) (t .count)) taskLimit
-      → left₂ ≡ closedAll left late (t .count)
-      → Served (d .wait) left₂ (columns .period) (columns .cost) (columns .slack) (columns .rank) (t .count) wait′ left′ seen
-      → answer ≡ turnOf (seen .owner) late
-      → record { given = Given.Slot answer; state = record { wait = wait′; left = left′; last = seen .owner } } ≡ taken t d done
-  taken-is c a b e s w =
-      let first = done-fill a in
-      let late = late-bits first (rw c at b) in
-      let second = late-fill first late e in
-      rw (w, turn-is (owner-is second (rw c at s)) late, state-is second (rw c at s))
+  -- All four, from the lists that the code makes, and the slot counted.
+  module _ {columns : Columns} {left left₂ wait′ left′ : List ℕ} {late : ℕ} {seen : Seen} (c : columns ≡ columnsOf t)
+      (a : left ≡ cond done (closed (d .left) (d .last)) (d .left))
+      (b : late ≡ bits (isLateIn (d .wait) left (columns .slack) (t .count)) taskLimit)
+      (e : left₂ ≡ closedAll left late (t .count))
+      (s : Served (d .wait) left₂ (columns .period) (columns .cost) (columns .slack) (columns .rank) (t .count) wait′ left′ seen) where
+    late-are : late ≡ bits (isLate t d done) taskLimit
+    late-are = late-bits (done-fill a) (rw c at b)
+
+    lefts-left : left₂ ≡ fill (t .count) (leftLate t d done) (d .left)
+    lefts-left = late-fill (done-fill a) late-are e
+
+    pub owner-room : seen .owner < taskLimit → getD (d .given) (seen .owner) 0 < slotCountLimit
+    owner-room = given-room lefts-left (rw c at s)
+
+    pub taken-is : {answer : Turn} {given : List ℕ} {empty : ℕ} → given ≡ counted (d .given) (seen .owner) → answer ≡ turnOf (seen .owner) late → empty ≡ d .empty + bit (eqb (seen .owner) taskLimit)
+        → record { given = Given.Slot answer; state = record { wait = wait′; left = left′; last = seen .owner; given = given; empty = empty } } ≡ taken t d done
+    taken-is g w h = rw (w, g, h, turn-is (owner-is lefts-left (rw c at s)) late-are, state-is lefts-left (rw c at s))

@@ -1,6 +1,5 @@
 -- When a state belongs to a table: the model's tests, at the numbers of one task.
 use mathlib.Core.Path.{_≡_}
-use mathlib.Core.Logic.{_⊎_}
 use mathlib.Core.Bool.{Bool, not, _&&_, _||_}
 use Prim.Native.Nat.{ℕ, _-_, max, _<_}
 use native.Mathlib.Decide.{decLt}
@@ -8,10 +7,6 @@ use native.Mathlib.Omega.{arith}
 use borrow.Author.Tests.{lt-ltb, le-ltb, le-leb, lt-leb}
 use lib.Dec.{leb, ltb}
 use Rattle.values.specs.declared.Task.{Task}
-use Rattle.values.specs.declared.Table.{Table}
-use Rattle.model.specs.Limits.{taskLimit}
-use Rattle.model.specs.Dispatcher.{State}
-use Rattle.wellformed.specs.Ranges.{Ranged}
 
 -- A task with this wait and these slots left does not belong to the table.
 abbrev pub strangeAt : Task → ℕ → ℕ → Bool
@@ -32,8 +27,3 @@ above-both a b x = go (decLt a x) (decLt b x)
 -- The two tests of an order.
 pub at-least : (n x : ℕ) → leb n x ≡ not (ltb x n)
 at-least n x = elim (decLt x n) [ yes p ↦ rw (lt-leb n x p, lt-ltb x n p) | no p ↦ rw (le-leb n x (omega arith), le-ltb x n (omega arith)) ]
-
--- What a step that nothing refuses may assume.
-pub record Unrefused (t : Table) (d : State) : Type 0 where
-  pub ranged : Ranged t
-  pub ran : (d .last ≡ taskLimit) ⊎ (d .last < t .count)

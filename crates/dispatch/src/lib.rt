@@ -1,32 +1,45 @@
 // The dispatcher: a start on any table, and a step on any table and any state.
 ghost use mathlib.Core.Path.{_≡_};
 ghost use mathlib.Core.Bool.{cond, not, _||_};
-ghost use Prim.Native.Nat.{_-_, max, _≤_};
+ghost use Prim.Native.Nat.{_+_, _-_, max, _≤_, _<_};
 ghost use lib.Dec.{ltb, eqb};
-ghost use Rattle.model.specs.Limits.{taskLimit};
+ghost use lib.ListN.{getD};
+ghost use Rattle.values.specs.declared.Admission.{Admission};
+ghost use Rattle.model.specs.Limits.{taskLimit, slotCountLimit};
+ghost use Rattle.model.specs.Notation.{bit};
 ghost use Rattle.model.specs.Values.{refusal};
-ghost use Rattle.model.specs.Dispatcher.{firstStrange, refuseStep, started, stepped};
-ghost use Rattle.wellformed.specs.Ranges.{Ranged};
+ghost use Rattle.model.specs.Dispatcher.{slotCount, firstStrange, admitted, refuseStep, started, stepAdmitted, stepped};
 ghost use Rattle.slots.specs.Slot.{closed};
 ghost use Rattle.dispatch.specs.State.{stateOf, startedOf, steppedOf};
-ghost use Rattle.dispatch.specs.Strange.{strangeAt, Unrefused};
-ghost use Rattle.dispatch.specs.Step.{taken, stepWellFormed, turnOf};
+ghost use Rattle.dispatch.specs.Strange.{strangeAt};
+ghost use Rattle.dispatch.specs.Accounts.{roomFor, belonging, roomIn, counted};
+ghost use Rattle.dispatch.specs.Step.{Unrefused, taken, turnOf};
 use slots::NO_TASK;
 use slots::Numbers;
 use values::Admission;
 use values::Given;
 use values::Judgement;
 use values::Refusal;
+use values::SLOT_COUNT_LIMIT;
 use values::TASK_LIMIT;
 use values::Table;
 use values::Task;
 use values::Turn;
 
-// For each task its wait, the slots until its next release, and the slots left to its open job; which task ran last.
+// The place of 8 for a state that counts more slots than it can.
+const SUM_PLACE: u32 = NO_TASK + 1;
+
+// A number of slots for each task.
+pub type Counts = [u64; TASK_LIMIT];
+
+// For each task its wait, the slots until its next release, and the slots left to its open job; which task ran last; the
+// slots given to each task, and the empty ones.
 pub struct Dispatcher {
     pub wait: Numbers,
     pub left: Numbers,
     pub last: u32,
+    pub given: Counts,
+    pub empty: u64,
 }
 
 pub struct Started {
@@ -44,6 +57,7 @@ impl Dispatcher {
         ensures { λ r. ⌜ startedOf r ≡ started t ⌝ }
     {
         let left = [0u32; TASK_LIMIT];
+        let given = [0u64; TASK_LIMIT];
         match table::judge(t) {
             Judgement::Refused(refusal) => Started {
                 admission: Admission::Refused(refusal),
@@ -51,6 +65,8 @@ impl Dispatcher {
                     wait: [0u32; TASK_LIMIT],
                     left,
                     last: 0,
+                    given,
+                    empty: 0,
                 },
             },
             Judgement::WellFormed(_) => Started {
@@ -59,6 +75,8 @@ impl Dispatcher {
                     wait: slots::offsets(t),
                     left,
                     last: NO_TASK,
+                    given,
+                    empty: 0,
                 },
             },
         }
@@ -68,9 +86,9 @@ impl Dispatcher {
     pub fn step(self, t: Table, done: bool) -> Stepped
         ensures { λ r. ⌜ steppedOf r ≡ stepped t (stateOf self) done ⌝ }
     {
-        match table::judge(t) {
-            Judgement::Refused(why) => refused(self, why),
-            Judgement::WellFormed(_) => step_well_formed(self, t, done),
+        match room_in(self, t) {
+            Room::Refused(why) => refused(self, why),
+            Room::Slots(room) => step_admitted(self, t, room, done),
         }
     }
 }
@@ -84,25 +102,58 @@ fn refused(d: Dispatcher, why: Refusal) -> Stepped
     }
 }
 
-fn step_well_formed(d: Dispatcher, t: Table, done: bool) -> Stepped
-    requires { ⌜ Ranged t ⌝ }
-    ensures { λ r. ⌜ steppedOf r ≡ stepWellFormed t (stateOf d) done ⌝ }
+// A state's refusal, or how many slots it can still count.
+pub enum Room {
+    Refused(Refusal),
+    Slots(u64),
+}
+
+fn room_in(d: Dispatcher, t: Table) -> Room
+    ensures { λ r. ⌜ r ≡ roomIn t (stateOf d) ⌝ }
+{
+    match table::judge(t) {
+        Judgement::Refused(why) => Room::Refused(why),
+        Judgement::WellFormed(_) => belonging(d, t),
+    }
+}
+
+// The table is well-formed: the places of 8, in their order.
+fn belonging(d: Dispatcher, t: Table) -> Room
+    requires { ⌜ t .count ≤ taskLimit ⌝ }
+    ensures { λ r. ⌜ r ≡ belonging t (stateOf d) ⌝ }
 {
     let stranger = first_strange(d, t);
     if stranger < t.count {
-        return strange_state(d, stranger as u32);
+        return strange_state(stranger as u32);
     }
     if last_strange(d.last, t.count) {
-        return strange_state(d, NO_TASK);
+        return strange_state(NO_TASK);
     }
-    step_taken(d, t, done)
+    let given = d.given;
+    room_for(&given, d.empty, t.count)
 }
 
 // The state does not belong to the table: this task is the first that does not, or no task is.
-fn strange_state(d: Dispatcher, place: u32) -> Stepped
-    ensures { λ r. ⌜ steppedOf r ≡ refuseStep (refusal 8 place) (stateOf d) ⌝ }
+fn strange_state(place: u32) -> Room
+    ensures { λ r. ⌜ r ≡ Room.Refused (refusal 8 place) ⌝ }
 {
-    refused(d, Refusal { number: 8, place })
+    Room::Refused(Refusal { number: 8, place })
+}
+
+// The sum is never made: each count is taken from what can be counted, for as long as it can.
+fn room_for(given: &Counts, empty: u64, n: usize) -> Room
+    requires { ⌜ n ≤ taskLimit ⌝ }
+    ensures { λ r. ⌜ r ≡ roomFor (now (given .entry)) empty n ⌝ }
+{
+    let mut room = SLOT_COUNT_LIMIT - empty;
+    for i in 0..n {
+        let slots = given[i];
+        if room < slots {
+            return strange_state(SUM_PLACE);
+        }
+        room = room - slots;
+    }
+    Room::Slots(room)
 }
 
 fn first_strange(d: Dispatcher, t: Table) -> usize
@@ -149,7 +200,25 @@ fn last_strange(last: u32, n: usize) -> bool
     last != NO_TASK && n <= last as usize
 }
 
-// The four rules of a step that nothing refuses.
+// A state that belongs to the table: refused by 9 if it can count no slot more.
+fn step_admitted(d: Dispatcher, t: Table, room: u64, done: bool) -> Stepped
+    requires { ⌜ admitted t (stateOf d) ≡ Admission.Admitted ⌝ }
+    requires { ⌜ room ≡ slotCountLimit - slotCount t (stateOf d) ⌝ }
+    ensures { λ r. ⌜ steppedOf r ≡ stepAdmitted t (stateOf d) done Admission.Admitted ⌝ }
+{
+    if room == 0 {
+        return refused(
+            d,
+            Refusal {
+                number: 9,
+                place: 0,
+            },
+        );
+    }
+    step_taken(d, t, done)
+}
+
+// The four rules of a step that nothing refuses, and the slot counted.
 fn step_taken(d: Dispatcher, t: Table, done: bool) -> Stepped
     requires { ⌜ Unrefused t (stateOf d) ⌝ }
     ensures { λ r. ⌜ steppedOf r ≡ taken t (stateOf d) done ⌝ }
@@ -162,19 +231,41 @@ fn step_taken(d: Dispatcher, t: Table, done: bool) -> Stepped
     let rank = columns.rank;
     let mut wait = d.wait;
     let left = d.left;
+    let mut given = d.given;
     let mut open = after_report(left, d.last, done);
     let late = slots::late_set(&wait, &open, &slack, n);
     slots::close_all(&mut open, late, n);
     let seen = slots::serve(&mut wait, &mut open, &period, &cost, &slack, &rank, n);
     let owner = seen.owner;
+    count_given(&mut given, owner);
     Stepped {
         given: Given::Slot(turn_of(owner, late)),
         next: Dispatcher {
             wait,
             left: open,
             last: owner,
+            given,
+            empty: count_empty(d.empty, owner),
         },
     }
+}
+
+// The slot is counted as its owner's, or as empty.
+fn count_given(given: &mut Counts, owner: u32)
+    requires { ⌜ (owner < taskLimit → getD (now given) owner 0 < slotCountLimit) ⌝ }
+    ensures { λ _. ⌜ now (given .exit) ≡ counted (now (given .entry)) owner ⌝ }
+{
+    if owner < NO_TASK {
+        let i = owner as usize;
+        given[i] = given[i] + 1;
+    }
+}
+
+fn count_empty(empty: u64, owner: u32) -> u64
+    requires { ⌜ empty < slotCountLimit ⌝ }
+    ensures { λ r. ⌜ r ≡ empty + bit (eqb owner taskLimit) ⌝ }
+{
+    if owner == NO_TASK { empty + 1 } else { empty }
 }
 
 // A done report closes the open job of the task that ran last.

@@ -11,7 +11,9 @@ pub const LONGEST_FILE: usize = 9 + TASK_LIMIT * 17 + 1;
 
 pub const REPORT_BYTES: usize = 1024;
 
-pub const STATE_BYTES: usize = 4 * (TASK_LIMIT + TASK_LIMIT + 4);
+pub const STATE_BYTES: usize = 4 * (TASK_LIMIT + TASK_LIMIT + 4) + 8 * (TASK_LIMIT + 1);
+
+pub const SLOT_COUNT_LIMIT: u64 = 0xffff_ffff_ffff_ffff;
 
 // A task: the first release, the slots of each job, the deadline after each release, and the period.
 pub struct Task {

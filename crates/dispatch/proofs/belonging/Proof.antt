@@ -1,11 +1,10 @@
 -- The three ways out of the tests.
-use mathlib.Core.Path.{sym, _∙_}
 use borrow.Author.Tests.{lt-ltb, le-ltb}
+use Rattle.model.specs.Dispatcher.{slotCount}
+use Rattle.dispatch.specs.Accounts.{roomFor}
 use borrow.Author.Needs.{needs}
-use Rattle.model.specs.Limits.{taskLimit}
-use Rattle.counting.specs.Count.{one-of-iff}
-use Rattle.dispatch.proofs.step_well_formed.Statement.{statement}
-use Rattle.dispatch.proofs.step_well_formed.Tie as tie
+use Rattle.dispatch.proofs.belonging.Statement.{statement}
+use Rattle.dispatch.proofs.belonging.Tie as tie
 
 first-strange-requires : tie.Need-first-strange-requires
 first-strange-requires c κs = search needs
@@ -31,18 +30,17 @@ returns-2 c = let l = c .before .before in
     let s = l .before .before .before in
     rw (← s .first-strange .ensures, le-ltb _ _ (l .before .if1 .left), ← l .last-strange .ensures, c .before .if2 .taken) (c .strange-state2 .ensures)
 
-step-taken-requires : tie.Need-step-taken-requires
-step-taken-requires c κs = let l = c .before in
-    let s = l .before .before .before in
-    record { ranged = s .before .pre; ran = one-of-iff (s .before .args .d .last) taskLimit (s .before .args .t .count) .0 (sym (l .last-strange .ensures) ∙ c .if2 .left) }
+room-for-requires : tie.Need-room-for-requires
+room-for-requires c κs = search needs
 
 returns-3 : tie.Need-returns-3
-returns-3 c = let l = c .before .before in
+unfolding slotCount roomFor
+returns-3 c = let l = c .before .before .before .before in
     let s = l .before .before .before in
-    rw (← s .first-strange .ensures, le-ltb _ _ (l .before .if1 .left), ← l .last-strange .ensures, c .before .if2 .left) (c .step-taken .ensures)
+    rw (← s .first-strange .ensures, le-ltb _ _ (l .before .if1 .left), ← l .last-strange .ensures, c .before .before .before .if2 .left) (c .room-for .ensures)
 
-pub step-well-formed-spec : {M : Type 1} → statement M
-step-well-formed-spec =
+pub belonging-spec : {M : Type 1} → statement M
+belonging-spec =
     tie.close
     (tie.spec
     first-strange-requires
@@ -52,5 +50,5 @@ step-well-formed-spec =
     last-strange-requires
     strange-state-requires-2
     returns-2
-    step-taken-requires
+    room-for-requires
     returns-3)
