@@ -1,9 +1,9 @@
--- A camera's own loop: a start and steps in one buffer are the dispatcher's history, for ever.
+-- A camera's own loop: a start and steps in one buffer are the dispatcher's history, for as long as its slots can be counted.
 use mathlib.Core.Path.{_≡_, refl, ap, _∙_}
 use mathlib.Core.Logic.{inl, inr}
 use mathlib.Core.List.{List}
 use mathlib.Core.Bool.{Bool, not}
-use Prim.Native.Nat.{ℕ, zero, suc, _<_}
+use Prim.Native.Nat.{ℕ, zero, suc, _≤_, _<_}
 use native.Mathlib.Decide.{decLt}
 use native.Mathlib.Omega.{arith}
 use borrow.Author.Tests.{eq-eqb}
@@ -14,18 +14,19 @@ use Rattle.values.specs.declared.Measure.{Measure}
 use Rattle.values.specs.declared.Judgement.{Judgement}
 use Rattle.values.specs.declared.Admission.{Admission}
 use Rattle.values.specs.declared.Turn.{Turn}
-use Rattle.model.specs.Limits.{taskLimit, wordLimit}
+use Rattle.model.specs.Limits.{taskLimit, wordLimit, budgetLimit, slotCountLimit}
 use Rattle.model.specs.Tasks.{judged}
 use Rattle.model.specs.TableFile.{formOf}
 use Rattle.model.specs.Dispatcher.{started, stepped, turn}
 use Rattle.model.specs.History.{stateAt, ownerAt}
 use Rattle.model.specs.Report.{Exported}
 use Rattle.model.specs.StateBuffer.{stateBytes, bufferOf, stateIn, quiet, startWritten, stepWritten, onFile, startExported, stepExported, handed}
-use Rattle.counting.specs.Count.{one-of-iff}
+use Rattle.counting.specs.Count.{count-bound, one-of-iff}
 use Rattle.wellformed.specs.Ranges.{Ranged}
 use Rattle.wellformed.specs.WellFormed.{well-formed}
 use Rattle.backlog.specs.Taken.{known}
 use Rattle.backlog.specs.Stepping.{sound, past-none}
+use Rattle.backlog.specs.Accounts.{empty-is, given-is}
 use Rattle.backlog.specs.NeverRefused.{never-refused}
 use Rattle.statebuffer.specs.RoundTrip.{Fits, state-back, buffer-size}
 
@@ -46,10 +47,19 @@ module _ (t : Table) (r : Ranged t) (done : ℕ → Bool) where
   last-small : (n : ℕ) → stateAt t done n .last < wordLimit
   last-small n = elim (one-of-iff (stateAt t done n .last) taskLimit (t .count) .0 (sound t r done n .belongs .ran)) [ inl e ↦ omega arith | inr l ↦ omega (arith, r .few) ]
 
-  fits : (n : ℕ) → Fits (stateAt t done n)
-  fits n = record {
+  given-small : (n : ℕ) → n ≤ slotCountLimit → (i : ℕ) → getD (stateAt t done n .given) i 0 < budgetLimit
+  given-small n h i = elim (decLt i (t .count)) [
+    | yes l ↦ omega (arith, given-is t r done n i l, count-bound (λ k. eqb (ownerAt t done k) i) n)
+    | no l ↦ omega (arith, past-none t done n i (omega arith) .2)
+  ]
+
+  fits : (n : ℕ) → n ≤ slotCountLimit → Fits (stateAt t done n)
+  fits n h = record {
     waits = sound t r done n .belongs .waits;
     lefts = sound t r done n .belongs .lefts;
+    gives = sound t r done n .belongs .gives;
+    given-fits = λ i l. given-small n h i;
+    empty-fits = omega (arith, empty-is t done n, count-bound (λ k. eqb (ownerAt t done k) taskLimit) n);
     wait-fits = λ i l. wait-small n i;
     left-fits = λ i l. left-small n i;
     last-fits = last-small n;
@@ -74,16 +84,16 @@ module _ (file : List ℕ) (t : Table) (m : Measure) (formed : formOf file .admi
   abbrev told : ℕ → Turn
   told n = turn t (stateAt t reports n) (reports n)
 
-  stepped-in : (n : ℕ) (buffer : List ℕ) (u : Turn) → buffer ≡ bufferOf (stateAt t reports n) u → stepExported file buffer (done n) ≡ record { number = told n .owner; buffer = bufferOf (stateAt t reports (suc n)) (told n) }
-  stepped-in n buffer u e =
-      on-table file buffer t (λ k. let s = stepped k (stateIn buffer) (reports n) in stepWritten buffer (s .state) (s .given)) formed held (ap length e ∙ buffer-size _ u (fits t r reports n))
-      ∙ rw (e, state-back _ u (fits t r reports n), never-refused t m well reports n)
+  stepped-in : (n : ℕ) → n < slotCountLimit → (buffer : List ℕ) (u : Turn) → buffer ≡ bufferOf (stateAt t reports n) u → stepExported file buffer (done n) ≡ record { number = told n .owner; buffer = bufferOf (stateAt t reports (suc n)) (told n) }
+  stepped-in n h buffer u e =
+      on-table file buffer t (λ k. let s = stepped k (stateIn buffer) (reports n) in stepWritten buffer (s .state) (s .given)) formed held (ap length e ∙ buffer-size _ u (fits t r reports n (omega arith)))
+      ∙ rw (e, state-back _ u (fits t r reports n (omega arith)), never-refused t m well reports n h)
 
-  holds : (n : ℕ) → (u : Turn) × (handed file lent done n ≡ bufferOf (stateAt t reports n) u)
+  holds : (n : ℕ) → n ≤ slotCountLimit → (u : Turn) × (handed file lent done n ≡ bufferOf (stateAt t reports n) u)
   unfolding handed
-  holds zero = (quiet, ap (λ (e : Exported). e .buffer) starts)
-  holds (suc n) = let (u, e) = holds n in (told n, ap (λ (x : Exported). x .buffer) (stepped-in n (handed file lent done n) u e))
+  holds zero h = (quiet, ap (λ (e : Exported). e .buffer) starts)
+  holds (suc n) h = let (u, e) = holds n (omega arith) in (told n, ap (λ (x : Exported). x .buffer) (stepped-in n (omega arith) (handed file lent done n) u e))
 
-  pub steps : (n : ℕ) → stepExported file (handed file lent done n) (done n) ≡ record { number = ownerAt t reports n; buffer = bufferOf (stateAt t reports (suc n)) (turn t (stateAt t reports n) (reports n)) }
+  pub steps : (n : ℕ) → n < slotCountLimit → stepExported file (handed file lent done n) (done n) ≡ record { number = ownerAt t reports n; buffer = bufferOf (stateAt t reports (suc n)) (turn t (stateAt t reports n) (reports n)) }
   unfolding turn
-  steps n = let (u, e) = holds n in stepped-in n (handed file lent done n) u e
+  steps n h = let (u, e) = holds n (omega arith) in stepped-in n h (handed file lent done n) u e

@@ -12,13 +12,16 @@ use Rattle.values.specs.declared.Table.{Table}
 use Rattle.values.specs.declared.Refusal.{Refusal}
 use Rattle.values.specs.declared.Judgement.{Judgement}
 use Rattle.values.specs.declared.Admission.{Admission}
-use Rattle.model.specs.Limits.{taskLimit}
+use Rattle.values.specs.declared.Given.{Given}
+use Rattle.model.specs.Limits.{taskLimit, slotCountLimit, sumPlace}
 use Rattle.model.specs.Tasks.{judged}
 use Rattle.model.specs.TableFile.{formOf}
-use Rattle.model.specs.Dispatcher.{State, firstStrange, lastStrange, turn, startJudged, started, stepJudged, stepped}
+use Rattle.model.specs.Values.{refusal}
+use Rattle.model.specs.Dispatcher.{State, slotCount, firstStrange, lastStrange, admittedBy, admitted, after, turn, startJudged, started, refuseStep, stepAdmitted, stepped}
 use Rattle.model.specs.Report.{Exported, refused}
 use Rattle.model.specs.StateBuffer.{stateBytes, stateIn, startWritten, stepWritten, onFile, startExported, stepExported}
 use Rattle.wellformed.specs.WellFormed.{well-formed}
+use Rattle.wellformed.specs.Admitted.{admitted-iff}
 use Rattle.wellformed.specs.Refused.{Tellable, JudgementTellable, judged-tellable}
 use Rattle.tablefile.specs.Refused.{AdmissionTellable, form-tellable}
 use Rattle.backlog.specs.Taken.{owner-one}
@@ -68,20 +71,34 @@ owner-range t d done few = go (owner-one t d done few)
     go (inl e) = (omega arith, inl e)
     go (inr l) = (omega arith, inr l)
 
+-- The refusal of a state is tellable.
+admitted-tellable : (t : Table) (d : State) → AdmissionTellable (admitted t d)
+unfolding admitted
+admitted-tellable t d = by (judged t) refl (judged-tellable t)
+  where
+    by : (j : Judgement) → judged t ≡ j → JudgementTellable j → AdmissionTellable (admittedBy t d j)
+    by (Judgement.Refused r) e n = n
+    by (Judgement.WellFormed m) e n = go (ltb (firstStrange t d) (t .count)) (lastStrange t d) (ltb slotCountLimit (slotCount t d)) refl
+      where
+        go : (a b c : Bool) → ltb (firstStrange t d) (t .count) ≡ a → AdmissionTellable (cond a (Admission.Refused (refusal 8 (firstStrange t d))) (cond b (Admission.Refused (refusal 8 taskLimit)) (cond c (Admission.Refused (refusal 8 sumPlace)) Admission.Admitted)))
+        go true b c p = (omega arith, omega (arith, well-formed t m e .ranged .few, ltb-true (firstStrange t d) (t .count) p))
+        go false true c p = (omega arith, omega arith)
+        go false false true p = (omega arith, omega arith)
+        go false false false p = tt
+
 pub step-apart : (file buffer : List ℕ) (done : ℕ) → Apart (TakenStep (formOf file .table)) buffer (stepExported file buffer done)
 unfolding stepped
 step-apart file buffer done =
     let t = formOf file .table in
-    file-apart (TakenStep t) file buffer (λ t. let s = stepped t (stateIn buffer) (not (eqb done 0)) in stepWritten buffer (s .state) (s .given)) (by t (stateIn buffer) (not (eqb done 0)) (judged t) refl (judged-tellable t))
+    file-apart (TakenStep t) file buffer (λ t. let s = stepped t (stateIn buffer) (not (eqb done 0)) in stepWritten buffer (s .state) (s .given)) (by t (stateIn buffer) (not (eqb done 0)) (admitted t (stateIn buffer)) refl (admitted-tellable t (stateIn buffer)))
   where
-    by : (t : Table) (d : State) (report : Bool) (j : Judgement) → judged t ≡ j → JudgementTellable j → let s = stepJudged t d report j in Apart (TakenStep t) buffer (stepWritten buffer (s .state) (s .given))
-    by t d report (Judgement.Refused r) e n = inr (r, refl, n)
-    by t d report (Judgement.WellFormed m) e n = go (ltb (firstStrange t d) (t .count)) (lastStrange t d) refl refl
+    by : (t : Table) (d : State) (report : Bool) (a : Admission) → admitted t d ≡ a → AdmissionTellable a → let s = stepAdmitted t d report a in Apart (TakenStep t) buffer (stepWritten buffer (s .state) (s .given))
+    by t d report (Admission.Refused r) e n = inr (r, refl, n)
+    by t d report Admission.Admitted e n = go (eqb (slotCount t d) slotCountLimit)
       where
         few : t .count ≤ taskLimit
-        few = well-formed t m e .ranged .few
+        few = let a = admitted-iff t d .0 e in well-formed t (a .measure) (a .well) .ranged .few
 
-        go : (a b : Bool) → ltb (firstStrange t d) (t .count) ≡ a → lastStrange t d ≡ b → let s = stepJudged t d report (Judgement.WellFormed m) in Apart (TakenStep t) buffer (stepWritten buffer (s .state) (s .given))
-        go true b p q = rw p (inr (record { number = 8; place = firstStrange t d }, refl, (omega arith, omega (arith, few, ltb-true (firstStrange t d) (t .count) p))))
-        go false true p q = rw (p, q) (inr (record { number = 8; place = taskLimit }, refl, (omega arith, omega arith)))
-        go false false p q = rw (p, q) (inl (owner-range t d report few))
+        go : (full : Bool) → let s = cond full (refuseStep (refusal 9 0) d) (record { given = Given.Slot (turn t d report); state = after t d report }) in Apart (TakenStep t) buffer (stepWritten buffer (s .state) (s .given))
+        go true = inr (refusal 9 0, refl, (omega arith, omega arith))
+        go false = inl (owner-range t d report few)

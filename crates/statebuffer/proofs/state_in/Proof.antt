@@ -1,6 +1,6 @@
 -- Each part is read by itself.
-use borrow.Author.Needs.{needs}
 use Rattle.model.specs.StateBuffer.{stateIn}
+use borrow.Author.Needs.{needs}
 use Rattle.statebuffer.proofs.state_in.Statement.{statement}
 use Rattle.statebuffer.proofs.state_in.Tie as tie
 
@@ -13,18 +13,22 @@ mul-words-in c = search needs
 words-in-requires-2 : tie.Need-words-in-requires-2
 words-in-requires-2 c κs = search needs
 
-mul-word-at : tie.Need-mul-word-at
-mul-word-at c = search needs
-
-mul-word-at-2 : tie.Need-mul-word-at-2
-mul-word-at-2 c = search needs
+counts-in-requires : tie.Need-counts-in-requires
+counts-in-requires c κs = search needs
 
 word-at-requires : tie.Need-word-at-requires
 word-at-requires c κs = search needs
 
+long-at-requires : tie.Need-long-at-requires
+long-at-requires c κs = search needs
+
 returns : tie.Need-returns
 unfolding stateIn
-returns c = rw (c .before .before .words-in .ensures, c .before .words-in2 .ensures, c .word-at .ensures)
+returns c =
+    let last = c .before in
+    let given = last .before in
+    let left = given .before in
+    rw (left .before .words-in .ensures, left .words-in2 .ensures, last .word-at .ensures, given .counts-in .ensures, c .long-at .ensures)
 
 pub state-in-spec : {M : Type 1} → statement M
 state-in-spec =
@@ -33,7 +37,7 @@ state-in-spec =
     words-in-requires
     mul-words-in
     words-in-requires-2
-    mul-word-at
-    mul-word-at-2
+    counts-in-requires
     word-at-requires
+    long-at-requires
     returns)

@@ -1,0 +1,66 @@
+-- The counts below `i` are read.
+use mathlib.Core.Path.{_≡_}
+use Prim.Native.Nat.{_≤_, _+_, _*_, _-_}
+use native.Mathlib.Omega.{arith}
+use lib.ListN.{replicate}
+use borrow.Author.Needs.{needs}
+use Rattle.model.specs.Limits.{taskLimit}
+use Rattle.model.specs.Notation.{fill}
+use Rattle.model.specs.TableFile.{eight}
+use Rattle.counting.specs.Fill.{fill-none, fill-put, fill-done}
+use Rattle.statebuffer.proofs.counts_in.Statement.{statement}
+use Rattle.statebuffer.proofs.counts_in.Tie as tie
+
+abbrev Inv-loop : tie.InvT-loop
+Inv-loop buffer at counts₀ i₀ counts i =
+    (i ≤ taskLimit) × (counts ≡ fill i (λ k. eight buffer (at + 8 * k)) (replicate taskLimit 0))
+
+abbrev μ-loop : tie.MeasureT-loop
+μ-loop buffer at counts₀ i₀ counts i = taskLimit - i
+
+loop-holds : tie.Need-loop-holds Inv-loop μ-loop
+loop-holds c = (omega arith, fill-none _ _)
+
+mul-long-at : tie.Need-mul-long-at Inv-loop μ-loop
+mul-long-at c = search needs
+
+add-long-at : tie.Need-add-long-at Inv-loop μ-loop
+add-long-at c = search needs
+
+long-at-requires : tie.Need-long-at-requires Inv-loop μ-loop
+long-at-requires c κs = search needs
+
+mul-counts : tie.Need-mul-counts Inv-loop μ-loop
+mul-counts c = search needs
+
+array-write-counts : tie.Need-array-write-counts Inv-loop μ-loop
+array-write-counts c = search needs
+
+add-i : tie.Need-add-i Inv-loop μ-loop
+add-i c = search needs
+
+loop-less : tie.Need-loop-less Inv-loop μ-loop
+loop-less c = search needs
+
+loop-again : tie.Need-loop-again Inv-loop μ-loop
+loop-again c = (omega arith, fill-put _ _ _ (c .before .before .loop .inv .1) (c .long-at .ensures))
+
+returns : tie.Need-returns Inv-loop μ-loop
+returns c = fill-done _ _ _ _ (c .before .loop .inv .0) (omega arith) (c .before .loop .inv .1)
+
+pub counts-in-spec : {M : Type 1} → statement M
+counts-in-spec =
+    tie.close
+    (tie.spec
+    Inv-loop
+    μ-loop
+    loop-holds
+    mul-long-at
+    add-long-at
+    long-at-requires
+    mul-counts
+    array-write-counts
+    add-i
+    loop-less
+    loop-again
+    returns)

@@ -1,0 +1,74 @@
+-- The counts below `i` are put.
+use mathlib.Core.Path.{_≡_, refl}
+use Prim.Native.Nat.{_≤_, _+_, _*_, _-_}
+use native.Mathlib.Omega.{arith}
+use lib.ListN.{length, take}
+use lib.Seq.{take-length}
+use borrow.Author.Needs.{needs}
+use Rattle.model.specs.Limits.{taskLimit}
+use Rattle.model.specs.TableFile.{bytesOf}
+use Rattle.model.specs.StateBuffer.{halves}
+use Rattle.counting.specs.Put.{Put, nothing}
+use Rattle.statebuffer.specs.Words.{one-count}
+use Rattle.statebuffer.proofs.put_counts.Statement.{statement}
+use Rattle.statebuffer.proofs.put_counts.Tie as tie
+
+abbrev Inv-loop : tie.InvT-loop
+Inv-loop buffer₀ at counts next₀ i₀ buffer next i =
+    (i ≤ taskLimit) × (length buffer ≡ length buffer₀) × (next ≡ at + 8 * i) × Put (bytesOf (halves (take i counts))) at buffer₀ buffer next
+
+abbrev μ-loop : tie.MeasureT-loop
+μ-loop buffer₀ at counts next₀ i₀ buffer next i = taskLimit - i
+
+loop-holds : tie.Need-loop-holds Inv-loop μ-loop
+unfolding bytesOf halves
+loop-holds c = (omega arith, refl, omega arith, nothing _ _)
+
+mul-put-long : tie.Need-mul-put-long Inv-loop μ-loop
+mul-put-long c = search needs
+
+array-read-put-long : tie.Need-array-read-put-long Inv-loop μ-loop
+array-read-put-long c = search needs
+
+put-long-requires : tie.Need-put-long-requires Inv-loop μ-loop
+put-long-requires c κs = search needs
+
+add-i : tie.Need-add-i Inv-loop μ-loop
+add-i c = search needs
+
+loop-less : tie.Need-loop-less Inv-loop μ-loop
+loop-less c = search needs
+
+loop-again : tie.Need-loop-again Inv-loop μ-loop
+loop-again c =
+    let put = c .before .before in
+    let turn = put .before .before .before in
+    let size : length (turn .before .before .args .t3) ≡ taskLimit = search needs in
+    (omega arith, omega arith, omega arith, one-count _ (turn .loop .i) (omega arith) (turn .loop .inv .3) (put .put-long .ensures .0))
+
+same-length : tie.Need-same-length Inv-loop μ-loop
+same-length c = search needs
+
+returns : tie.Need-returns Inv-loop μ-loop
+returns c =
+    let ended = c .before in
+    let counts = ended .before .before .args .t3 in
+    let size : length counts ≡ taskLimit = search needs in
+    let all : ended .loop .i ≡ length counts = omega arith in
+    (rw (all, take-length) at (ended .loop .inv .3), omega arith)
+
+pub put-counts-spec : {M : Type 1} → statement M
+put-counts-spec =
+    tie.close
+    (tie.spec
+    Inv-loop
+    μ-loop
+    loop-holds
+    mul-put-long
+    array-read-put-long
+    put-long-requires
+    add-i
+    loop-less
+    loop-again
+    same-length
+    returns)
