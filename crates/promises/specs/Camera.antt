@@ -15,12 +15,12 @@ use Rattle.values.specs.declared.Judgement.{Judgement}
 use Rattle.values.specs.declared.Admission.{Admission}
 use Rattle.values.specs.declared.Turn.{Turn}
 use Rattle.values.specs.declared.Given.{Given}
-use Rattle.model.specs.Limits.{taskLimit}
+use Rattle.model.specs.Limits.{taskLimit, slotCountLimit}
 use Rattle.model.specs.Values.{refusal}
 use Rattle.model.specs.Notation.{sum, largest, count, first}
 use Rattle.model.specs.Tasks.{taskFault, firstFaulty, round, load, horizon, judged}
 use Rattle.model.specs.TableFile.{readFrom, formOf, loadedFrom}
-use Rattle.model.specs.Dispatcher.{turn, started, stepped}
+use Rattle.model.specs.Dispatcher.{admitted, turn, started, stepped}
 use Rattle.model.specs.Report.{Exported, refused}
 use Rattle.model.specs.Examples.{table-g, file-g}
 use Rattle.model.specs.History.{stateAt, ownerAt}
@@ -52,7 +52,7 @@ refused-camera-start file buffer r size h = elim (refused-for file r h) [
 ]
 
 pub refused-camera-step : (file buffer : List ℕ) (done : ℕ) (r : Refusal) → length buffer ≡ stateBytes → loadedFrom file .admission ≡ Admission.Refused r → stepExported file buffer done ≡ refused r buffer
-unfolding stepped
+unfolding stepped admitted
 refused-camera-step file buffer done r size h = elim (refused-for file r h) [
   | inl f ↦ rw (eq-eqb (length buffer) stateBytes size, f, onFile)
   | inr (f, j) ↦ rw (eq-eqb (length buffer) stateBytes size, f, onFile, j)
@@ -74,7 +74,7 @@ pub step-or-refusal : (file buffer : List ℕ) (done : ℕ) → let e = stepExpo
 step-or-refusal = step-apart
 
 -- A camera's loop with a well-formed table's file and any done reports: the start returns 0, and step n returns the owner of
--- slot n and leaves the next state and what it told.
+-- slot n and leaves the next state and what it told, for fewer than 2^64 steps.
 module _ (file : List ℕ) (t : Table) (m : Measure) (formed : formOf file .admission ≡ Admission.Admitted) (held : formOf file .table ≡ t) (well : judged t ≡ Judgement.WellFormed m) (lent : List ℕ) (size : length lent ≡ stateBytes) (done : ℕ → ℕ) where
   abbrev reports : ℕ → Bool
   reports n = not (eqb (done n) 0)
@@ -82,7 +82,7 @@ module _ (file : List ℕ) (t : Table) (m : Measure) (formed : formOf file .admi
   pub camera-starts : startExported file lent ≡ record { number = 0; buffer = bufferOf (stateAt t reports 0) quiet }
   camera-starts = loop.starts file t m formed held well lent size done
 
-  pub camera-steps : (n : ℕ) → stepExported file (handed file lent done n) (done n) ≡ record { number = ownerAt t reports n; buffer = bufferOf (stateAt t reports (suc n)) (turn t (stateAt t reports n) (reports n)) }
+  pub camera-steps : (n : ℕ) → n < slotCountLimit → stepExported file (handed file lent done n) (done n) ≡ record { number = ownerAt t reports n; buffer = bufferOf (stateAt t reports (suc n)) (turn t (stateAt t reports n) (reports n)) }
   camera-steps = loop.steps file t m formed held well lent size done
 
 -- What is asked of the file is met by table g's.
@@ -90,8 +90,8 @@ g-formed : (formOf file-g .admission ≡ Admission.Admitted) × (formOf file-g .
 unfolding formOf readFrom judged firstFaulty taskFault first round load horizon largest sum count
 g-formed = (refl, refl, refl)
 
-pub g-camera : (done : ℕ → ℕ) (n : ℕ) → (startExported file-g (replicate stateBytes 0) .number ≡ 0) × (stepExported file-g (handed file-g (replicate stateBytes 0) done n) (done n) .number ≡ ownerAt table-g (λ k. not (eqb (done k) 0)) n)
-g-camera done n =
+pub g-camera : (done : ℕ → ℕ) (n : ℕ) → n < slotCountLimit → (startExported file-g (replicate stateBytes 0) .number ≡ 0) × (stepExported file-g (handed file-g (replicate stateBytes 0) done n) (done n) .number ≡ ownerAt table-g (λ k. not (eqb (done k) 0)) n)
+g-camera done n h =
     let lent = replicate {A = ℕ} stateBytes 0 in
     let size = length-replicate {A = ℕ} stateBytes 0 in
-    (ap (λ (e : Exported). e .number) (camera-starts file-g table-g _ (g-formed .0) (g-formed .1) (g-formed .2) lent size done), ap (λ (e : Exported). e .number) (camera-steps file-g table-g _ (g-formed .0) (g-formed .1) (g-formed .2) lent size done n))
+    (ap (λ (e : Exported). e .number) (camera-starts file-g table-g _ (g-formed .0) (g-formed .1) (g-formed .2) lent size done), ap (λ (e : Exported). e .number) (camera-steps file-g table-g _ (g-formed .0) (g-formed .1) (g-formed .2) lent size done n h))

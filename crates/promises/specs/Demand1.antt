@@ -8,8 +8,8 @@ use mathlib.Core.List.{List, [], _∷_}
 use mathlib.Core.Bool.{Bool, true, false, cond}
 use Prim.Native.Nat.{ℕ, suc, _+_, _*_, _/_, _%_, _≤_, _<_, _∣_}
 use native.Mathlib.Omega.{arith}
-use borrow.Author.Tests.{ltb-true, lt-ltb, le-ltb}
-use lib.Dec.{ltb}
+use borrow.Author.Tests.{ltb-true, lt-ltb, le-ltb, eq-eqb, ne-eqb}
+use lib.Dec.{ltb, eqb}
 use lib.ListN.{length, getD, take}
 use Rattle.values.specs.declared.Task.{Task}
 use Rattle.values.specs.declared.Table.{Table}
@@ -22,13 +22,13 @@ use Rattle.values.specs.declared.Admission.{Admission}
 use Rattle.values.specs.declared.Given.{Given}
 use Rattle.values.specs.declared.Answer.{Answer}
 use Rattle.values.specs.declared.Loaded.{Loaded}
-use Rattle.model.specs.Limits.{taskLimit, slotLimit, roundLimit, reportBytes, budgetLimit, budgetBytes, taskBytes, longestFile}
+use Rattle.model.specs.Limits.{taskLimit, slotCountLimit, sumPlace, slotLimit, roundLimit, reportBytes, budgetLimit, budgetBytes, taskBytes, longestFile}
 use Rattle.model.specs.Values.{refusal, refusalSaid, judgementSaid, admissionSaid, givenSaid, outcomeSaid}
 use Rattle.model.specs.Tasks.{task, round, measure, judged, load, horizon}
 use Rattle.model.specs.Verdict.{verdict, brief, Permitted}
 use Rattle.model.specs.TableFile.{budgetKind, eight, admit, fileOf, formOf, loadedFrom}
 use Rattle.model.specs.Dispatcher as model
-use Rattle.model.specs.Dispatcher.{State, firstStrange, lastStrange, turn, after, stepJudged, started, stepped, isLate, ownerNow}
+use Rattle.model.specs.Dispatcher.{State, slotCount, firstStrange, lastStrange, admitted as stateAdmitted, turn, after, stepAdmitted, started, stepped, isLate, ownerNow}
 use Rattle.dispatch.specs.declared.Dispatcher.{Dispatcher}
 use Rattle.dispatch.specs.declared.Started.{Started}
 use Rattle.dispatch.specs.declared.Stepped.{Stepped}
@@ -41,7 +41,7 @@ use Rattle.wellformed.specs.Round.{round-pos, period-divides, round-least}
 use Rattle.wellformed.specs.WellFormed.{judged-iff}
 use Rattle.backlog.specs.Unique.{permitted-unique}
 use Rattle.backlog.specs.Computed.{answerOf, computed}
-use Rattle.backlog.specs.Taken.{belongs-after}
+use Rattle.backlog.specs.Taken.{Belongs, belongs-after, slots-after}
 use Rattle.tablefile.specs.declared.Record.{Record}
 use Rattle.tablefile.specs.declared.Reading.{Reading}
 use Rattle.tablefile.specs.Reading.{readingAt}
@@ -55,7 +55,7 @@ use Rattle.report.specs.Permitted.{Fitting, permitted-fits}
 use Rattle.statebuffer.specs.Told.{Apart}
 use Rattle.promises.specs.Demand2.{answer-exactly}
 
--- Judging a table, reading a file's form, loading it, starting and stepping have one permitted result each, for every input.
+-- Judging a table, reading a file's form, loading it, starting, admitting a state and stepping have one permitted result each, for every input.
 pub one-judgement : (t : Table) (a b : Judgement) → a ≡ judged t → b ≡ judged t → a ≡ b
 one-judgement t a b e f = e ∙ sym f
 
@@ -67,6 +67,9 @@ one-loading file a b e f = e ∙ sym f
 
 pub one-start : (t : Table) (a b : Started) → startedOf a ≡ started t → startedOf b ≡ started t → a ≡ b
 one-start t a b e f = one-started a b (e ∙ sym f)
+
+pub one-admission : (t : Table) (d : Dispatcher) (a b : Admission) → a ≡ stateAdmitted t (stateOf d) → b ≡ stateAdmitted t (stateOf d) → a ≡ b
+one-admission t d a b e f = e ∙ sym f
 
 pub one-step : (t : Table) (d : Dispatcher) (done : Bool) (a b : Stepped) → steppedOf a ≡ stepped t (stateOf d) done → steppedOf b ≡ stepped t (stateOf d) done → a ≡ b
 one-step t d done a b e f = one-stepped a b (e ∙ sym f)
@@ -250,7 +253,7 @@ unfolding started
 refused-start t r e = rw e refl
 
 pub refused-table-step : (t : Table) (d : State) (done : Bool) (r : Refusal) → judged t ≡ Judgement.Refused r → givenSaid (stepped t d done .given) ≡ refusalSaid r
-unfolding stepped
+unfolding stepped stateAdmitted
 refused-table-step t d done r e = rw e refl
 
 -- A file whose form is bad is refused for it, whatever its table.
@@ -270,44 +273,55 @@ refused-answer t budget r a e p = rw e at p
 pub refused-answer-said : (t : Table) (budget : ℕ) (r : Refusal) (a : Answer) → judged t ≡ Judgement.Refused r → Permitted t budget a → outcomeSaid (a .outcome) ≡ refusalSaid r
 refused-answer-said t budget r a e p = ap (λ (x : Answer). outcomeSaid (x .outcome)) (refused-answer t budget r a e p)
 
--- A state that does not belong to the table is refused by 8 with the first such task, or with `taskLimit` for the last-run number.
+-- A state that does not belong to the table is refused by 8 with the first such task, with `taskLimit` for the last-run number, or with
+-- `sumPlace` for more slots than can be counted; one that can count no slot more is refused by 9.
 pub strange-state : (t : Table) (m : Measure) (d : State) (done : Bool) → judged t ≡ Judgement.WellFormed m → firstStrange t d < t .count → givenSaid (stepped t d done .given) ≡ 8 ∷ firstStrange t d ∷ []
-unfolding stepped
+unfolding stepped stateAdmitted
 strange-state t m d done well h = rw (well, lt-ltb (firstStrange t d) (t .count) h) refl
 
 pub strange-last : (t : Table) (m : Measure) (d : State) (done : Bool) → judged t ≡ Judgement.WellFormed m → t .count ≤ firstStrange t d → lastStrange t d ≡ true → givenSaid (stepped t d done .given) ≡ 8 ∷ taskLimit ∷ []
-unfolding stepped
+unfolding stepped stateAdmitted
 strange-last t m d done well h last = rw (well, le-ltb (firstStrange t d) (t .count) h, last) refl
 
+pub strange-sum : (t : Table) (m : Measure) (d : State) (done : Bool) → judged t ≡ Judgement.WellFormed m → t .count ≤ firstStrange t d → lastStrange t d ≡ false → slotCountLimit < slotCount t d → givenSaid (stepped t d done .given) ≡ 8 ∷ sumPlace ∷ []
+unfolding stepped stateAdmitted
+strange-sum t m d done well h last more = rw (well, le-ltb (firstStrange t d) (t .count) h, last, lt-ltb slotCountLimit (slotCount t d) more) refl
+
+pub full-state : (t : Table) (m : Measure) (d : State) (done : Bool) → judged t ≡ Judgement.WellFormed m → t .count ≤ firstStrange t d → lastStrange t d ≡ false → slotCount t d ≡ slotCountLimit → givenSaid (stepped t d done .given) ≡ 9 ∷ 0 ∷ []
+unfolding stepped stateAdmitted
+full-state t m d done well h last full = rw (well, le-ltb (firstStrange t d) (t .count) h, last, le-ltb slotCountLimit (slotCount t d) (omega arith), eq-eqb (slotCount t d) slotCountLimit full) refl
+
 -- Every other state is taken.
-pub taken-state : (t : Table) (m : Measure) (d : State) (done : Bool) → judged t ≡ Judgement.WellFormed m → t .count ≤ firstStrange t d → lastStrange t d ≡ false → stepped t d done ≡ record { given = Given.Slot (turn t d done); state = after t d done }
-unfolding stepped
-taken-state t m d done well h last = rw (well, le-ltb (firstStrange t d) (t .count) h, last) refl
+pub taken-state : (t : Table) (m : Measure) (d : State) (done : Bool) → judged t ≡ Judgement.WellFormed m → t .count ≤ firstStrange t d → lastStrange t d ≡ false → slotCount t d < slotCountLimit → stepped t d done ≡ record { given = Given.Slot (turn t d done); state = after t d done }
+unfolding stepped stateAdmitted
+taken-state t m d done well h last room = rw (well, le-ltb (firstStrange t d) (t .count) h, last, le-ltb slotCountLimit (slotCount t d) (omega arith), ne-eqb (slotCount t d) slotCountLimit (λ e. absurd (omega arith))) refl
 
 -- The answer is then 0 with the owner, the tasks closed late as a set of bits, how many, and the lowest of them or none.
-pub taken-said : (t : Table) (m : Measure) (d : State) (done : Bool) → judged t ≡ Judgement.WellFormed m → t .count ≤ firstStrange t d → lastStrange t d ≡ false
+pub taken-said : (t : Table) (m : Measure) (d : State) (done : Bool) → judged t ≡ Judgement.WellFormed m → t .count ≤ firstStrange t d → lastStrange t d ≡ false → slotCount t d < slotCountLimit
     → givenSaid (stepped t d done .given) ≡ 0 ∷ ownerNow t d done ∷ bits (isLate t d done) taskLimit ∷ count (isLate t d done) taskLimit ∷ first (isLate t d done) 0 taskLimit ∷ []
 unfolding turn
-taken-said t m d done well h last = rw (taken-state t m d done well h last) refl
+taken-said t m d done well h last room = rw (taken-state t m d done well h last room) refl
 
--- A state that is taken leads to one that is taken, whoever made it: once a step is not refused, none after it is. A state has `taskLimit` entries in each list.
+-- A state that is taken leads to one that counts one slot more and that 8 does not refuse, whoever made it: once a step is not refused, none
+-- after it is until no slot more can be counted. A state has `taskLimit` entries in each list.
 pub taken-next : (t : Table) (m : Measure) (d : State) (done : Bool) → judged t ≡ Judgement.WellFormed m
-    → length (d .wait) ≡ taskLimit → length (d .left) ≡ taskLimit → t .count ≤ firstStrange t d → lastStrange t d ≡ false
-    → let next = after t d done in (length (next .wait) ≡ taskLimit) × (length (next .left) ≡ taskLimit) × (t .count ≤ firstStrange t next) × (lastStrange t next ≡ false)
-taken-next t m d done well waits lefts each ran =
-    let b = belongs-after t (judged-iff t m .0 well .0) d done (record { waits = waits; lefts = lefts; each = each; ran = ran }) in
-    (b .waits, b .lefts, b .each, b .ran)
+    → length (d .wait) ≡ taskLimit → length (d .left) ≡ taskLimit → length (d .given) ≡ taskLimit → t .count ≤ firstStrange t d → lastStrange t d ≡ false
+    → let next = after t d done in (length (next .wait) ≡ taskLimit) × (length (next .left) ≡ taskLimit) × (length (next .given) ≡ taskLimit) × (t .count ≤ firstStrange t next) × (lastStrange t next ≡ false) × (slotCount t next ≡ slotCount t d + 1)
+taken-next t m d done well waits lefts gives each ran =
+    let r = judged-iff t m .0 well .0 in
+    let belongs : Belongs t d = record { waits = waits; lefts = lefts; gives = gives; each = each; ran = ran } in
+    let b = belongs-after t r d done belongs in
+    (b .waits, b .lefts, b .gives, b .each, b .ran, slots-after t r d done belongs)
 
 -- A refused step hands the state back as it came.
 pub refused-step : (t : Table) (d : State) (done : Bool) (r : Refusal) → stepped t d done .given ≡ Given.Refused r → stepped t d done .state ≡ d
 unfolding stepped
-refused-step t d done r = go (judged t)
+refused-step t d done r = go (stateAdmitted t d)
   where
-    tests : (a b : Bool) (x y z : model.Stepped) → x .state ≡ d → y .state ≡ d → (z .given ≡ Given.Refused r → ⊥) → cond a x (cond b y z) .given ≡ Given.Refused r → cond a x (cond b y z) .state ≡ d
-    tests true b x y z p q n e = p
-    tests false true x y z p q n e = q
-    tests false false x y z p q n e = absurd (n e)
+    test : (full : Bool) (x y : model.Stepped) → x .state ≡ d → (y .given ≡ Given.Refused r → ⊥) → cond full x y .given ≡ Given.Refused r → cond full x y .state ≡ d
+    test true x y p n e = p
+    test false x y p n e = absurd (n e)
 
-    go : (j : Judgement) → stepJudged t d done j .given ≡ Given.Refused r → stepJudged t d done j .state ≡ d
-    go (Judgement.Refused w) e = refl
-    go (Judgement.WellFormed m) e = tests (ltb (firstStrange t d) (t .count)) (lastStrange t d) _ _ _ refl refl (λ q. let z : _≡_ {A = ℕ} 0 1 = cc in absurd (omega arith)) e
+    go : (a : Admission) → stepAdmitted t d done a .given ≡ Given.Refused r → stepAdmitted t d done a .state ≡ d
+    go (Admission.Refused w) e = refl
+    go Admission.Admitted e = test (eqb (slotCount t d) slotCountLimit) _ _ refl (λ q. let z : _≡_ {A = ℕ} 0 1 = cc in absurd (omega arith)) e

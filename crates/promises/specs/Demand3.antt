@@ -3,6 +3,7 @@
 use mathlib.Core.Path.{_≡_, refl}
 use mathlib.Core.Bool.{Bool}
 use Prim.Native.Nat.{ℕ, suc, _+_, _≤_, _<_}
+use lib.Dec.{eqb}
 use lib.ListN.{getD}
 use Rattle.values.specs.declared.Table.{Table}
 use Rattle.values.specs.declared.Measure.{Measure}
@@ -12,12 +13,15 @@ use Rattle.values.specs.declared.Outcome.{Outcome}
 use Rattle.values.specs.declared.Admission.{Admission}
 use Rattle.values.specs.declared.Given.{Given}
 use Rattle.values.specs.declared.Answer.{Answer}
-use Rattle.model.specs.Limits.{taskLimit}
+use Rattle.model.specs.Limits.{taskLimit, slotCountLimit}
+use Rattle.model.specs.Notation.{count}
+use Rattle.model.specs.Values.{refusal}
 use Rattle.model.specs.Tasks.{task, release, due, judged}
 use Rattle.model.specs.Verdict.{Permitted}
-use Rattle.model.specs.Dispatcher.{Started, Stepped, started, turn, stepped}
+use Rattle.model.specs.Dispatcher.{Started, Stepped, givenOf, slotCount, started, turn, refuseStep, stepped}
 use Rattle.model.specs.History.{stateAt, ownerAt, had, Finished}
 use Rattle.wellformed.specs.WellFormed.{well-formed}
+use Rattle.backlog.specs.Accounts.{slots-are, given-is, empty-is}
 use Rattle.backlog.specs.NeverRefused as refused
 use Rattle.backlog.specs.NoneEarly.{owned-ready}
 use Rattle.backlog.specs.NeverMore.{never-more}
@@ -33,9 +37,25 @@ module _ (t : Table) (m : Measure) (well : judged t ≡ Judgement.WellFormed m) 
   unfolding started stateAt
   starts = rw well refl
 
-  -- No step refuses a state that the dispatcher itself produced, and each hands out the next one. Of any well-formed table.
-  pub never-refused : (n : ℕ) → _≡_ {A = Stepped} (stepped t (stateAt t done n) (done n)) (record { given = Given.Slot (turn t (stateAt t done n) (done n)); state = stateAt t done (suc n) })
+  -- No step refuses a state that the dispatcher itself produced, and each hands out the next one, for fewer than 2^64 steps. Of any well-formed
+  -- table.
+  pub never-refused : (n : ℕ) → n < slotCountLimit → _≡_ {A = Stepped} (stepped t (stateAt t done n) (done n)) (record { given = Given.Slot (turn t (stateAt t done n) (done n)); state = stateAt t done (suc n) })
   never-refused = refused.never-refused t m well done
+
+  -- The step after them is refused by 9.
+  pub then-full : stepped t (stateAt t done slotCountLimit) (done slotCountLimit) ≡ refuseStep (refusal 9 0) (stateAt t done slotCountLimit)
+  then-full = refused.full t m well done slotCountLimit refl
+
+  -- After n steps the slots given to the table's tasks and the empty ones are n, and each number is the count in the history of answers. Of any
+  -- well-formed table.
+  pub slots-counted : (n : ℕ) → slotCount t (stateAt t done n) ≡ n
+  slots-counted = slots-are t (well-formed t m well .ranged) done
+
+  pub given-counted : (n i : ℕ) → i < t .count → givenOf (stateAt t done n) i ≡ count (λ k. eqb (ownerAt t done k) i) n
+  given-counted = given-is t (well-formed t m well .ranged) done
+
+  pub empty-counted : (n : ℕ) → stateAt t done n .empty ≡ count (λ k. eqb (ownerAt t done k) taskLimit) n
+  empty-counted = empty-is t done
 
   -- No job gets more slots than its cost. Of any well-formed table.
   pub none-too-much : (i j n : ℕ) → i < t .count → n ≤ release (task t i) (suc j) → had t done i (release (task t i) j) n ≤ task t i .cost
