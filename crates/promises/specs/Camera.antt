@@ -4,7 +4,7 @@ use mathlib.Core.Path.{_≡_, refl, sym, ap, _∙_}
 use mathlib.Core.Logic.{_⊎_, inl, inr}
 use mathlib.Core.List.{List}
 use mathlib.Core.Bool.{Bool, false, not}
-use Prim.Native.Nat.{ℕ, suc, min, _≤_, _<_}
+use Prim.Native.Nat.{ℕ, suc, _+_, _*_, min, _≤_, _<_}
 use borrow.Author.Tests.{eq-eqb}
 use lib.Dec.{eqb}
 use lib.ListN.{length, replicate, length-replicate}
@@ -19,12 +19,12 @@ use Rattle.model.specs.Limits.{taskLimit, slotCountLimit}
 use Rattle.model.specs.Values.{refusal}
 use Rattle.model.specs.Notation.{sum, largest, count, first}
 use Rattle.model.specs.Tasks.{taskFault, firstFaulty, round, load, horizon, judged}
-use Rattle.model.specs.TableFile.{readFrom, formOf, loadedFrom}
+use Rattle.model.specs.TableFile.{eight, readFrom, formOf, loadedFrom}
 use Rattle.model.specs.Dispatcher.{admitted, turn, started, stepped}
 use Rattle.model.specs.Report.{Exported, refused}
 use Rattle.model.specs.Examples.{table-g, file-g}
 use Rattle.model.specs.History.{stateAt, ownerAt}
-use Rattle.model.specs.StateBuffer.{stateBytes, bufferOf, stateIn, quiet, onFile, startExported, stepExported, handed}
+use Rattle.model.specs.StateBuffer.{countsAt, stateBytes, bufferOf, stateIn, quiet, onFile, startExported, stepExported, handed}
 use Rattle.tablefile.specs.Admitted.{refused-for}
 use Rattle.statebuffer.specs.Loop as loop
 use Rattle.statebuffer.specs.Told.{start-apart, step-apart}
@@ -84,6 +84,11 @@ module _ (file : List ℕ) (t : Table) (m : Measure) (formed : formOf file .admi
 
   pub camera-steps : (n : ℕ) → n < slotCountLimit → stepExported file (handed file lent done n) (done n) ≡ record { number = ownerAt t reports n; buffer = bufferOf (stateAt t reports (suc n)) (turn t (stateAt t reports n) (reports n)) }
   camera-steps = loop.steps file t m formed held well lent size done
+
+  -- After n steps the counts that stand in the buffer are those of the history of answers, task by task and then the empty slots.
+  pub camera-counts : (n : ℕ) → n ≤ slotCountLimit → let b = handed file lent done n in
+      ((i : ℕ) → i < t .count → eight b (countsAt + 8 * i) ≡ count (λ k. eqb (ownerAt t reports k) i) n) × (eight b (countsAt + 8 * taskLimit) ≡ count (λ k. eqb (ownerAt t reports k) taskLimit) n)
+  camera-counts = loop.counts file t m formed held well lent size done
 
 -- What is asked of the file is met by table g's.
 g-formed : (formOf file-g .admission ≡ Admission.Admitted) × (formOf file-g .table ≡ table-g) × (judged table-g ≡ Judgement.WellFormed (record { round = 4; load = 4; horizon = 8 }))

@@ -1,27 +1,29 @@
 -- A camera's own loop: a start and steps in one buffer are the dispatcher's history, for as long as its slots can be counted.
-use mathlib.Core.Path.{_≡_, refl, ap, _∙_}
+use mathlib.Core.Path.{_≡_, refl, sym, ap, _∙_}
 use mathlib.Core.Logic.{inl, inr}
 use mathlib.Core.List.{List}
 use mathlib.Core.Bool.{Bool, not}
-use Prim.Native.Nat.{ℕ, zero, suc, _≤_, _<_}
+use Prim.Native.Nat.{ℕ, zero, suc, _+_, _*_, _≤_, _<_}
 use native.Mathlib.Decide.{decLt}
 use native.Mathlib.Omega.{arith}
 use borrow.Author.Tests.{eq-eqb}
 use lib.Dec.{eqb}
-use lib.ListN.{length, getD}
+use lib.ListN.{length, getD, replicate, length-replicate}
 use Rattle.values.specs.declared.Table.{Table}
 use Rattle.values.specs.declared.Measure.{Measure}
 use Rattle.values.specs.declared.Judgement.{Judgement}
 use Rattle.values.specs.declared.Admission.{Admission}
 use Rattle.values.specs.declared.Turn.{Turn}
 use Rattle.model.specs.Limits.{taskLimit, wordLimit, budgetLimit, slotCountLimit}
+use Rattle.model.specs.Notation.{count}
 use Rattle.model.specs.Tasks.{judged}
-use Rattle.model.specs.TableFile.{formOf}
-use Rattle.model.specs.Dispatcher.{started, stepped, turn}
+use Rattle.model.specs.TableFile.{eight, formOf}
+use Rattle.model.specs.Dispatcher.{State, givenOf, started, stepped, turn}
 use Rattle.model.specs.History.{stateAt, ownerAt}
 use Rattle.model.specs.Report.{Exported}
-use Rattle.model.specs.StateBuffer.{stateBytes, bufferOf, stateIn, quiet, startWritten, stepWritten, onFile, startExported, stepExported, handed}
+use Rattle.model.specs.StateBuffer.{countsAt, stateBytes, bufferOf, stateIn, quiet, startWritten, stepWritten, onFile, startExported, stepExported, handed}
 use Rattle.counting.specs.Count.{count-bound, one-of-iff}
+use Rattle.counting.specs.Fill.{fill-passed}
 use Rattle.wellformed.specs.Ranges.{Ranged}
 use Rattle.wellformed.specs.WellFormed.{well-formed}
 use Rattle.backlog.specs.Taken.{known}
@@ -97,3 +99,16 @@ module _ (file : List ℕ) (t : Table) (m : Measure) (formed : formOf file .admi
   pub steps : (n : ℕ) → n < slotCountLimit → stepExported file (handed file lent done n) (done n) ≡ record { number = ownerAt t reports n; buffer = bufferOf (stateAt t reports (suc n)) (turn t (stateAt t reports n) (reports n)) }
   unfolding turn
   steps n h = let (u, e) = holds n (omega arith) in stepped-in n h (handed file lent done n) u e
+
+  -- After n steps the counts in the buffer are those of the history of owners.
+  pub counts : (n : ℕ) → n ≤ slotCountLimit → let b = handed file lent done n in
+      ((i : ℕ) → i < t .count → eight b (countsAt + 8 * i) ≡ count (λ k. eqb (ownerAt t reports k) i) n) × (eight b (countsAt + 8 * taskLimit) ≡ count (λ k. eqb (ownerAt t reports k) taskLimit) n)
+  unfolding stateIn
+  counts n h =
+      (λ i l. given-read i (omega (arith, r .few)) ∙ ap (λ (d : State). givenOf d i) held-state ∙ given-is t r reports n i l, ap (λ (d : State). d .empty) held-state ∙ empty-is t reports n)
+    where
+      held-state : stateIn (handed file lent done n) ≡ stateAt t reports n
+      held-state = let (u, e) = holds n h in rw e (state-back (stateAt t reports n) u (fits t r reports n h))
+
+      given-read : (i : ℕ) → i < taskLimit → eight (handed file lent done n) (countsAt + 8 * i) ≡ givenOf (stateIn (handed file lent done n)) i
+      given-read i l = sym (fill-passed taskLimit (λ k. eight (handed file lent done n) (countsAt + 8 * k)) (replicate taskLimit 0) i 0 l (omega (arith, length-replicate {A = ℕ} taskLimit 0)))
