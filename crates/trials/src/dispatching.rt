@@ -118,7 +118,14 @@ fn state(first: Entry, second: Entry, last: u32) -> Dispatcher {
     left[0] = first.left;
     wait[1] = second.wait;
     left[1] = second.left;
-    Dispatcher { wait, left, last }
+    let given = [0u64; TASK_LIMIT];
+    Dispatcher {
+        wait,
+        left,
+        last,
+        given,
+        empty: 0,
+    }
 }
 
 fn fresh(first: Entry, second: Entry) -> Dispatcher {
