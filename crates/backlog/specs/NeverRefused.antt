@@ -23,7 +23,7 @@ module _ (t : Table) (m : Measure) (well : judged t ≡ Judgement.WellFormed m) 
   pub history-admitted : n ≤ slotCountLimit → admitted t (stateAt t done n) ≡ Admission.Admitted
   history-admitted h =
       let b = sound t (well-formed t m well .ranged) done n .belongs in
-      admitted-iff t (stateAt t done n) .1 (record { measure = m; well = well; each = b .each; ran = b .ran; room = omega (arith, slots-are t (well-formed t m well .ranged) done n) })
+      admitted-iff t (stateAt t done n) .1 (record { measure = m; well = well; fits = record { each = b .each; ran = b .ran; room = omega (arith, slots-are t (well-formed t m well .ranged) done n) } })
 
   pub never-refused : n < slotCountLimit → stepped t (stateAt t done n) (done n) ≡ record { given = Given.Slot (turn t (stateAt t done n) (done n)); state = stateAt t done (suc n) }
   unfolding stepped stateAt

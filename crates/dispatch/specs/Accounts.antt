@@ -17,7 +17,7 @@ use Rattle.model.specs.Limits.{taskLimit, slotCountLimit, sumPlace}
 use Rattle.model.specs.Notation.{bit, sum, fill}
 use Rattle.model.specs.Values.{refusal}
 use Rattle.model.specs.Tasks.{measure}
-use Rattle.model.specs.Dispatcher.{State, slotCount, admittedBy, admitted}
+use Rattle.model.specs.Dispatcher.{State, slotCount, admittedBy}
 use Rattle.counting.specs.Fill.{fill-same}
 use Rattle.counting.specs.Sum.{sum-longer}
 use Rattle.slots.specs.Laws.{store-fill}
@@ -28,10 +28,7 @@ abbrev pub roomBy : Admission → ℕ → Room
 roomBy (Admission.Refused r) slots = Room.Refused r
 roomBy Admission.Admitted slots = Room.Slots (slotCountLimit - slots)
 
-abbrev pub roomIn : Table → State → Room
-roomIn t d = roomBy (admitted t d) (slotCount t d)
-
--- Of a state of a well-formed table; of one that nothing but its sum can be against.
+-- Of a well-formed table; and where nothing but the sum can be against a state.
 abbrev pub belonging : Table → State → Room
 belonging t d = roomBy (admittedBy t d (Judgement.WellFormed (measure t))) (slotCount t d)
 

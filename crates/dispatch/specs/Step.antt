@@ -11,13 +11,15 @@ use lib.Count.{ones, trailingZeros}
 use lib.Dec.{T, ltb, eqb}
 use lib.ListN.{length, getD}
 use Rattle.values.specs.declared.Table.{Table}
+use Rattle.values.specs.declared.Judgement.{Judgement}
+use Rattle.values.specs.declared.Admission.{Admission}
 use Rattle.values.specs.declared.Turn.{Turn}
 use Rattle.values.specs.declared.Given.{Given}
 use Rattle.model.specs.Limits.{taskLimit, slotCountLimit}
 use Rattle.model.specs.Notation.{bit, bits, fill}
-use Rattle.model.specs.Tasks.{task}
+use Rattle.model.specs.Tasks.{task, measure}
 use Rattle.model.specs.Run.{tieOrder}
-use Rattle.model.specs.Dispatcher.{State, Stepped, waitOf, givenOf, slotCount, leftDone, isLate, leftLate, leftReleased, ownerNow, after, turn}
+use Rattle.model.specs.Dispatcher.{State, Stepped, waitOf, givenOf, slotCount, admittedBy, leftDone, isLate, leftLate, leftReleased, ownerNow, after, turn, stepAdmitted}
 use Rattle.counting.specs.Count.{and-iff, one-of-iff}
 use Rattle.counting.specs.Sum.{sum-member}
 use Rattle.counting.specs.Fill.{fill-eq, fill-same, fill-again}
@@ -29,8 +31,7 @@ use Rattle.slots.specs.Slot.{closed, isLate as isLateIn, closedAll}
 use Rattle.slots.specs.Serve.{Served}
 use Rattle.slots.specs.Laws.{Has, fill-has, closed-fill, member-is, slack-has, Slotted, table-served}
 use Rattle.wellformed.specs.Ranges.{Ranged}
-use Rattle.wellformed.specs.WellFormed.{well-formed}
-use Rattle.wellformed.specs.Admitted.{Admissible}
+use Rattle.wellformed.specs.Admitted.{fitting}
 use Rattle.backlog.specs.Taken.{owner-one}
 use Rattle.dispatch.specs.Accounts.{counted, counted-fill}
 
@@ -38,15 +39,19 @@ use Rattle.dispatch.specs.Accounts.{counted, counted-fill}
 abbrev pub taken : Table → State → Bool → Stepped
 taken t d done = record { given = Given.Slot (turn t d done); state = after t d done }
 
--- What it may assume; so it is of a state that is admitted and can count a slot more.
+-- A step on a well-formed table: refused by 8 or by 9, or taken.
+abbrev pub stepWellFormed : Table → State → Bool → Stepped
+stepWellFormed t d done = stepAdmitted t d done (admittedBy t d (Judgement.WellFormed (measure t)))
+
+-- What a step that nothing refuses may assume; so it is of a state that is admitted and can count a slot more.
 pub record Unrefused (t : Table) (d : State) : Type 0 where
   pub ranged : Ranged t
   pub ran : (d .last ≡ taskLimit) ⊎ (d .last < t .count)
   pub room : slotCount t d < slotCountLimit
 
-pub unrefused : (t : Table) (d : State) → Admissible t d → slotCount t d < slotCountLimit → Unrefused t d
-unrefused t d a l =
-    record { ranged = well-formed t (a .measure) (a .well) .ranged; ran = one-of-iff (d .last) taskLimit (t .count) .0 (a .ran); room = l }
+pub unrefused : (t : Table) (d : State) → Ranged t → admittedBy t d (Judgement.WellFormed (measure t)) ≡ Admission.Admitted → slotCount t d < slotCountLimit → Unrefused t d
+unrefused t d r e l =
+    record { ranged = r; ran = one-of-iff (d .last) taskLimit (t .count) .0 (fitting t d (measure t) e .ran); room = l }
 
 -- The answer of a step: how many bits the late set has, and its lowest.
 abbrev pub turnOf : ℕ → ℕ → Turn

@@ -4,16 +4,16 @@ ghost use mathlib.Core.Bool.{cond, not, _||_};
 ghost use Prim.Native.Nat.{_+_, _-_, max, _≤_, _<_};
 ghost use lib.Dec.{ltb, eqb};
 ghost use lib.ListN.{getD};
-ghost use Rattle.values.specs.declared.Admission.{Admission};
 ghost use Rattle.model.specs.Limits.{taskLimit, slotCountLimit};
 ghost use Rattle.model.specs.Notation.{bit};
 ghost use Rattle.model.specs.Values.{refusal};
-ghost use Rattle.model.specs.Dispatcher.{slotCount, firstStrange, admitted, refuseStep, started, stepAdmitted, stepped};
+ghost use Rattle.model.specs.Dispatcher.{firstStrange, refuseStep, started, stepped};
+ghost use Rattle.wellformed.specs.Ranges.{Ranged};
 ghost use Rattle.slots.specs.Slot.{closed};
 ghost use Rattle.dispatch.specs.State.{stateOf, startedOf, steppedOf};
 ghost use Rattle.dispatch.specs.Strange.{strangeAt};
-ghost use Rattle.dispatch.specs.Accounts.{roomFor, belonging, roomIn, counted};
-ghost use Rattle.dispatch.specs.Step.{Unrefused, taken, turnOf};
+ghost use Rattle.dispatch.specs.Accounts.{roomFor, belonging, counted};
+ghost use Rattle.dispatch.specs.Step.{Unrefused, taken, stepWellFormed, turnOf};
 use slots::NO_TASK;
 use slots::Numbers;
 use values::Admission;
@@ -86,9 +86,9 @@ impl Dispatcher {
     pub fn step(self, t: Table, done: bool) -> Stepped
         ensures { λ r. ⌜ steppedOf r ≡ stepped t (stateOf self) done ⌝ }
     {
-        match room_in(self, t) {
-            Room::Refused(why) => refused(self, why),
-            Room::Slots(room) => step_admitted(self, t, room, done),
+        match table::judge(t) {
+            Judgement::Refused(why) => refused(self, why),
+            Judgement::WellFormed(_) => step_well_formed(self, t, done),
         }
     }
 }
@@ -108,16 +108,17 @@ pub enum Room {
     Slots(u64),
 }
 
-fn room_in(d: Dispatcher, t: Table) -> Room
-    ensures { λ r. ⌜ r ≡ roomIn t (stateOf d) ⌝ }
+fn step_well_formed(d: Dispatcher, t: Table, done: bool) -> Stepped
+    requires { ⌜ Ranged t ⌝ }
+    ensures { λ r. ⌜ steppedOf r ≡ stepWellFormed t (stateOf d) done ⌝ }
 {
-    match table::judge(t) {
-        Judgement::Refused(why) => Room::Refused(why),
-        Judgement::WellFormed(_) => belonging(d, t),
+    match belonging(d, t) {
+        Room::Refused(why) => refused(d, why),
+        Room::Slots(room) => step_admitted(d, t, room, done),
     }
 }
 
-// The table is well-formed: the places of 8, in their order.
+// The places of 8, in their order.
 fn belonging(d: Dispatcher, t: Table) -> Room
     requires { ⌜ t .count ≤ taskLimit ⌝ }
     ensures { λ r. ⌜ r ≡ belonging t (stateOf d) ⌝ }
@@ -202,9 +203,9 @@ fn last_strange(last: u32, n: usize) -> bool
 
 // A state that belongs to the table: refused by 9 if it can count no slot more.
 fn step_admitted(d: Dispatcher, t: Table, room: u64, done: bool) -> Stepped
-    requires { ⌜ admitted t (stateOf d) ≡ Admission.Admitted ⌝ }
-    requires { ⌜ room ≡ slotCountLimit - slotCount t (stateOf d) ⌝ }
-    ensures { λ r. ⌜ steppedOf r ≡ stepAdmitted t (stateOf d) done Admission.Admitted ⌝ }
+    requires { ⌜ Ranged t ⌝ }
+    requires { ⌜ belonging t (stateOf d) ≡ Room.Slots room ⌝ }
+    ensures { λ r. ⌜ steppedOf r ≡ stepWellFormed t (stateOf d) done ⌝ }
 {
     if room == 0 {
         return refused(

@@ -493,13 +493,13 @@ unfolding stepped admitted slotCount turn after ownerNow choose fill bits firstS
 at-deadline = (refl, refl)
 
 -- A state's slots: only the tasks of the table and the empty slots are summed. Below 2^64 - 1 a step is taken, at it it is 9, and above it
--- 8 at its last place, without wrapping, and only where 8 has no other place.
+-- 8 at its last place, without wrapping; where 8 has another place, that is told first, before 9 too.
 counted : ℕ → ℕ → ℕ → ℕ → Given
 counted last g0 g1 empty = stepped two (record { wait = padded 0 []; left = padded 0 []; last = last; given = padded 7 (g0 ∷ g1 ∷ []); empty = empty }) false .given
 
 accounts :
-    counted taskLimit (slotCountLimit - 2) 0 1 ∷ counted taskLimit (slotCountLimit - 3) 1 2 ∷ counted taskLimit slotCountLimit 0 1 ∷ counted taskLimit 1 slotCountLimit slotCountLimit ∷ counted 2 slotCountLimit 0 1 ∷ []
-    ≡ Given.Slot (record { owner = 0; late = 0; closed = 0; lowest = taskLimit }) ∷ map Given.Refused (refusal 9 0 ∷ refusal 8 sumPlace ∷ refusal 8 sumPlace ∷ refusal 8 taskLimit ∷ [])
+    counted taskLimit (slotCountLimit - 2) 0 1 ∷ counted taskLimit (slotCountLimit - 3) 1 2 ∷ counted taskLimit slotCountLimit 0 1 ∷ counted taskLimit 1 slotCountLimit slotCountLimit ∷ counted 2 slotCountLimit 0 1 ∷ counted 2 slotCountLimit 0 0 ∷ []
+    ≡ Given.Slot (record { owner = 0; late = 0; closed = 0; lowest = taskLimit }) ∷ map Given.Refused (refusal 9 0 ∷ refusal 8 sumPlace ∷ refusal 8 sumPlace ∷ refusal 8 taskLimit ∷ refusal 8 taskLimit ∷ [])
 unfolding counted stepped admitted slotCount turn ownerNow choose bits firstStrange judged firstFaulty taskFault first round load horizon largest sum count
 accounts = refl
 

@@ -15,28 +15,34 @@ use Rattle.model.specs.Limits.{slotCountLimit}
 use Rattle.model.specs.Tasks.{judged}
 use Rattle.model.specs.Dispatcher.{State, slotCount, firstStrange, lastStrange, admittedBy, admitted}
 
--- The table is well-formed, and no place of 8 fits the state.
-pub record Admissible (t : Table) (d : State) : Type 0 where
-  pub measure : Measure
-  pub well : judged t ≡ Judgement.WellFormed measure
+-- No place of 8 fits the state; and the table is well-formed.
+pub record Fitting (t : Table) (d : State) : Type 0 where
   pub each : t .count ≤ firstStrange t d
   pub ran : lastStrange t d ≡ false
   pub room : slotCount t d ≤ slotCountLimit
 
+pub record Admissible (t : Table) (d : State) : Type 0 where
+  pub measure : Measure
+  pub well : judged t ≡ Judgement.WellFormed measure
+  pub fits : Fitting t d
+
 -- What one test does not refuse goes on to the next.
-pub unrefused : (p : Bool) (r : Refusal) {a : Admission} → cond p (Admission.Refused r) a ≡ Admission.Admitted → (p ≡ false) × (a ≡ Admission.Admitted)
+unrefused : (p : Bool) (r : Refusal) {a : Admission} → cond p (Admission.Refused r) a ≡ Admission.Admitted → (p ≡ false) × (a ≡ Admission.Admitted)
 unrefused true r e = let z : _≡_ {A = ℕ} 0 1 = cc in absurd (omega arith)
 unrefused false r e = (refl, e)
+
+pub fitting : (t : Table) (d : State) (m : Measure) → admittedBy t d (Judgement.WellFormed m) ≡ Admission.Admitted → Fitting t d
+fitting t d m e =
+    let (a, e₁) = unrefused (ltb (firstStrange t d) (t .count)) _ e in
+    let (b, e₂) = unrefused (lastStrange t d) _ e₁ in
+    let (c, e₃) = unrefused (ltb slotCountLimit (slotCount t d)) _ e₂ in
+    record { each = ltb-false (firstStrange t d) (t .count) a; ran = b; room = ltb-false slotCountLimit (slotCount t d) c }
 
 -- EXACTLY: a state is admitted if its table is well-formed and no place of 8 fits it.
 pub admitted-iff : (t : Table) (d : State) → (admitted t d ≡ Admission.Admitted) ↔ Admissible t d
 unfolding admitted
-admitted-iff t d = (fwd (judged t) refl, λ a. rw (a .well, le-ltb (firstStrange t d) (t .count) (a .each), a .ran, le-ltb slotCountLimit (slotCount t d) (a .room)))
+admitted-iff t d = (fwd (judged t) refl, λ a. rw (a .well, le-ltb (firstStrange t d) (t .count) (a .fits .each), a .fits .ran, le-ltb slotCountLimit (slotCount t d) (a .fits .room)))
   where
     fwd : (j : Judgement) → judged t ≡ j → admittedBy t d j ≡ Admission.Admitted → Admissible t d
     fwd (Judgement.Refused r) w e = let z : _≡_ {A = ℕ} 0 1 = cc in absurd (omega arith)
-    fwd (Judgement.WellFormed m) w e =
-        let (a, e₁) = unrefused (ltb (firstStrange t d) (t .count)) _ e in
-        let (b, e₂) = unrefused (lastStrange t d) _ e₁ in
-        let (c, e₃) = unrefused (ltb slotCountLimit (slotCount t d)) _ e₂ in
-        record { measure = m; well = w; each = ltb-false (firstStrange t d) (t .count) a; ran = b; room = ltb-false slotCountLimit (slotCount t d) c }
+    fwd (Judgement.WellFormed m) w e = record { measure = m; well = w; fits = fitting t d m e }

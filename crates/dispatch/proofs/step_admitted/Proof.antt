@@ -1,33 +1,41 @@
 -- Full, or taken.
-use Prim.Native.Nat.{_<_}
+use mathlib.Core.Path.{_≡_}
+use Prim.Native.Nat.{_-_, _≤_}
 use native.Mathlib.Omega.{arith}
 use borrow.Author.Needs.{needs}
 use borrow.Author.Tests.{eq-eqb, ne-eqb}
+use Rattle.values.specs.declared.Judgement.{Judgement}
+use Rattle.values.specs.declared.Admission.{Admission}
 use Rattle.model.specs.Limits.{slotCountLimit}
-use Rattle.model.specs.Dispatcher.{slotCount}
-use Rattle.wellformed.specs.Admitted.{Admissible, admitted-iff}
+use Rattle.model.specs.Tasks.{measure}
+use Rattle.model.specs.Dispatcher.{slotCount, admittedBy}
+use Rattle.wellformed.specs.Admitted.{fitting}
 use Rattle.dispatch.specs.State.{stateOf}
+use Rattle.dispatch.specs.Accounts.{slots-tell}
 use Rattle.dispatch.specs.Step.{unrefused}
 use Rattle.dispatch.proofs.step_admitted.Statement.{statement}
 use Rattle.dispatch.proofs.step_admitted.Tie as tie
 
--- What is admitted.
-fits : (c : tie.Start) → Admissible (c .args .t) (stateOf (c .args .d))
-fits c = admitted-iff _ _ .0 (c .pre .0)
+-- The state is admitted, and the room is what it can still count.
+told : (c : tie.Start) → let t = c .args .t in let d = stateOf (c .args .d) in (admittedBy t d (Judgement.WellFormed (measure t)) ≡ Admission.Admitted) × (c .args .room ≡ slotCountLimit - slotCount t d)
+told c = slots-tell _ _ _ (c .pre .1)
+
+most : (c : tie.Start) → slotCount (c .args .t) (stateOf (c .args .d)) ≤ slotCountLimit
+most c = fitting _ _ (measure (c .args .t)) (told c .0) .room
 
 refused-requires : tie.Need-refused-requires
 refused-requires c κs = search needs
 
 returns : tie.Need-returns
 returns c = let s = c .before .before in
-    rw (eq-eqb (slotCount (s .args .t) (stateOf (s .args .d))) slotCountLimit (omega (arith, s .pre .1, fits s .room, c .before .if1 .taken))) (c .refused .ensures)
+    rw (told s .0, eq-eqb (slotCount (s .args .t) (stateOf (s .args .d))) slotCountLimit (omega (arith, told s .1, most s, c .before .if1 .taken))) (c .refused .ensures)
 
 step-taken-requires : tie.Need-step-taken-requires
-step-taken-requires c κs = let s = c .before in unrefused _ _ (fits s) (omega (arith, s .pre .1, c .if1 .left))
+step-taken-requires c κs = let s = c .before in unrefused _ _ (s .pre .0) (told s .0) (omega (arith, told s .1, c .if1 .left))
 
 returns-2 : tie.Need-returns-2
 returns-2 c = let s = c .before .before in
-    rw (ne-eqb (slotCount (s .args .t) (stateOf (s .args .d))) slotCountLimit (λ e. absurd (omega (arith, s .pre .1, c .before .if1 .left)))) (c .step-taken .ensures)
+    rw (told s .0, ne-eqb (slotCount (s .args .t) (stateOf (s .args .d))) slotCountLimit (λ e. absurd (omega (arith, told s .1, c .before .if1 .left)))) (c .step-taken .ensures)
 
 pub step-admitted-spec : {M : Type 1} → statement M
 step-admitted-spec = tie.close (tie.spec refused-requires returns step-taken-requires returns-2)
