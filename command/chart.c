@@ -1,4 +1,4 @@
-/* The word run: a strip chart of who had each slot, drawn from the dispatcher's answers alone. */
+/* The word run: a strip chart of who had each slot and the accounts of it, from the dispatcher's answers and state alone. */
 #define _POSIX_C_SOURCE 200809L
 
 #include <stdlib.h>
@@ -16,7 +16,7 @@ struct chart {
     unsigned wide; /* slots of a block */
     int early;
     uint32_t done;
-    struct yolizadwa_state state;
+    struct yolizadwa_state state, ended; /* ended: after the last slot */
     char rows[YOLIZADWA_TASKS][MOST_COLUMNS]; /* of each slot the instant before it, then the slot */
     struct job late[JOBS_SHOWN];
     unsigned long late_jobs;
@@ -142,6 +142,7 @@ static void draw_block(struct chart *chart, unsigned long begin)
     }
     /* The instant after the last slot of all is shown too; what follows it is not. */
     if (left == slots) {
+        chart->ended = chart->state;
         draw_slot(chart, chart->slots, 2 * slots);
     }
     print_block(chart, begin, begin + slots, 2 * slots + (left == slots));
@@ -165,6 +166,26 @@ static void list_late(const struct chart *chart)
     }
 }
 
+/* A row of the accounts, with the share in percent, rounded to tenths. */
+static void print_share(const char *whose, uint64_t had, unsigned long slots, int wide)
+{
+    uint64_t tenths = (1000 * had + slots / 2) / slots;
+    printf("  %5s  %*llu  %3llu.%llu %%\n", whose, wide, (unsigned long long)had, (unsigned long long)(tenths / 10),
+           (unsigned long long)(tenths % 10));
+}
+
+static void print_accounts(const struct chart *chart)
+{
+    char whose[12];
+    int wide = columns_for(chart->slots) > 5 ? columns_for(chart->slots) : 5;
+    printf("\nwho had the slots from 0 to %lu:\n   task  %*s    share\n", chart->slots, wide, "slots");
+    for (unsigned number = 0; number < chart->tasks; number++) {
+        snprintf(whose, sizeof whose, "%u", number);
+        print_share(whose, chart->ended.given[number], chart->slots, wide);
+    }
+    print_share("empty", chart->ended.empty, chart->slots, wide);
+}
+
 static void draw(struct chart *chart)
 {
     for (unsigned long begin = 0; begin < chart->slots && !ferror(stdout); begin += chart->wide) {
@@ -173,6 +194,7 @@ static void draw(struct chart *chart)
     putchar('\n');
     list_late(chart);
     printf("\n# has the slot  . waits  [ released  ] due  | due and released  ! closed late\n");
+    print_accounts(chart);
 }
 
 int run(const struct request *request)

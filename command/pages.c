@@ -80,10 +80,11 @@ static const char page_run[] =
     "  instant   [ a job is released  ] one is due  | both  ! one is closed late\n"
     "  slot      # the task has it    . its job waits\n"
     "\n"
-    "Below stand the jobs that were closed late. N is at most 1,000,000; without\n"
-    "--slots it is the horizon, but at least 35 and at most 120. With --early every\n"
-    "job ends after half its cost, rounded up. The chart has 80 columns, or as many\n"
-    "as COLUMNS says.\n"
+    "Below stand the jobs that were closed late, and then the accounts: how many\n"
+    "slots each task had, how many were empty, and which share that is. N is at\n"
+    "most 1,000,000; without --slots it is the horizon, but at least 35 and at most\n"
+    "120. With --early every job ends after half its cost, rounded up. The chart has\n"
+    "80 columns, or as many as COLUMNS says.\n"
     "\n"
     "Ends with 0 if no job was closed late, 3 if one was, 2 if the table is refused.\n";
 

@@ -1,5 +1,6 @@
 /*
- * A camera stand's host: judges a table file, prints its report, and if it passes runs the camera's loop for some slots.
+ * A camera stand's host: judges a table file, prints its report, and if it passes runs the camera's loop for some slots and
+ * says where they went.
  *
  *   host [--anyway] TABLE [SLOTS]
  *
@@ -89,6 +90,16 @@ static void print_slot(unsigned long slot, uint64_t owner, const struct yolizadw
     printf("\n");
 }
 
+/* What the service desk asks: where the slots went. A file has 9 bytes of budget, 17 for each task and 1 of end. */
+static void print_accounts(const struct yolizadwa_state *state, size_t len)
+{
+    const unsigned tasks = (unsigned)((len - 9 - 1) / 17);
+    for (unsigned task = 0; task < tasks; task++) {
+        printf("task %u had %llu slots\n", task, (unsigned long long)state->given[task]);
+    }
+    printf("%llu slots were empty\n", (unsigned long long)state->empty);
+}
+
 /* Where a camera would do the owner's work. Here the work of every third slot ends its job, early or not. */
 static int work(unsigned long slot, uint64_t owner)
 {
@@ -111,6 +122,7 @@ static int run(const uint8_t *file, size_t len, int anyway, unsigned long slots)
         done = !anyway && work(slot, result);
         print_slot(slot, result, &state, done);
     }
+    print_accounts(&state, len);
     return RAN;
 }
 

@@ -11,7 +11,7 @@
 enum { REPORT = YOLIZADWA_REPORT_BYTES, STATE = YOLIZADWA_STATE_BYTES, REFUSED = 65536, NONE = YOLIZADWA_TASKS };
 
 // Where the words behind the waits and the slots left stand in a state.
-enum { LAST = 8 * NONE, LATE = LAST + 4, CLOSED = LAST + 8, LOWEST = LAST + 12 };
+enum { LAST = 8 * NONE, LATE = LAST + 4, CLOSED = LAST + 8, LOWEST = LAST + 12, COUNTS = LAST + 16 };
 
 #define HOLDS(fact)                                                       \
     do {                                                                  \
@@ -36,6 +36,11 @@ static int all(const uint8_t *b, size_t from, size_t to, int with) {
 
 static uint32_t word(const uint8_t *b, size_t at) {
     return b[at] | (uint32_t)b[at + 1] << 8 | (uint32_t)b[at + 2] << 16 | (uint32_t)b[at + 3] << 24;
+}
+
+// The slots of task i, or of none.
+static uint64_t count(const uint8_t *state, size_t i) {
+    return word(state, COUNTS + 8 * i) | (uint64_t)word(state, COUNTS + 8 * i + 4) << 32;
 }
 
 static void put_word(uint8_t *b, size_t at, uint32_t w) {
@@ -73,6 +78,7 @@ static uint64_t step(const uint8_t *file, size_t len, uint8_t *state, uint32_t d
         HOLDS(r <= NONE && word(state, LAST) == r);
         HOLDS((uint64_t)late >> NONE == 0 && closed == (uint32_t)__builtin_popcount(late));
         HOLDS(lowest == (late ? (uint32_t)__builtin_ctz(late) : NONE));
+        for (size_t i = 0; i <= NONE; i++) HOLDS(count(state, i) == count(before, i) + (i == r));
     } else {
         HOLDS(memcmp(state, before, STATE) == 0);
     }
@@ -151,10 +157,12 @@ static void try_file(const uint8_t *bytes, size_t len, const uint8_t *more, size
     }
     free(odd);
 
-    // any bytes as a state
+    // any bytes as a state, and then with no slot counted
     uint8_t *state = block(STATE, 0);
     memcpy(state, more, more_len < STATE ? more_len : STATE);
     step(file, len, state, more_len & 1);
+    memset(state + COUNTS, 0, STATE - COUNTS);
+    HOLDS(step(file, len, state, more_len & 1) >> 16 != 9);
 
     // the start, and steps from it; where the report says passes none is late, whichever steps have a done report
     memset(state, 0xee, STATE);
@@ -166,12 +174,15 @@ static void try_file(const uint8_t *bytes, size_t len, const uint8_t *more, size
     } else {
         int passes = strstr((char *)text, "verdict passes\n") != 0;
         size_t tasks = (len - 10) / 17;
+        uint64_t slots = 0;
         for (int i = 0; i < 200; i++) {
             uint32_t done = more_len ? more[i % more_len] & 1 : 0;
             uint64_t owner = step(file, len, state, done);
             HOLDS(owner == NONE || owner < tasks);
             if (passes) HOLDS(word(state, LATE) == 0);
         }
+        for (size_t i = 0; i <= NONE; i++) slots += count(state, i);
+        HOLDS(slots == 200);
     }
     HOLDS(memcmp(file, kept, len) == 0);
     free(state);

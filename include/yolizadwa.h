@@ -35,7 +35,7 @@ extern "C" {
 
 #define YOLIZADWA_TASKS 32          /* the most tasks a table may have; as a task number: none */
 #define YOLIZADWA_REPORT_BYTES 1024 /* the least length of a report buffer; no report is longer */
-#define YOLIZADWA_STATE_BYTES 272   /* the only length of a state buffer */
+#define YOLIZADWA_STATE_BYTES 536   /* the only length of a state buffer */
 #define YOLIZADWA_LONGEST_FILE 554  /* bytes of the longest file that is not refused */
 
 /*
@@ -54,8 +54,8 @@ enum yolizadwa_kind {
 /*
  * What a refusal's number says, and what its place is. If several hold, the first of this order is told: the length of a
  * report or state buffer (30, 50); the first fault of what is read (20 to 27 of a file, 51 then 52 of words, 60 to 66 or 27 of
- * a text); the number of tasks (1, 2); then task by task 3, 4, 5, 6; then 7; then the state (8), or the budget that is written
- * (27) and the length of the buffer for it (31).
+ * a text); the number of tasks (1, 2); then task by task 3, 4, 5, 6; then 7; then the state (8, 9), or the budget that is
+ * written (27) and the length of the buffer for it (31).
  */
 enum yolizadwa_refusal {
     YOLIZADWA_NO_TASK = 1,          /* the table has no task; place 0 */
@@ -65,7 +65,9 @@ enum yolizadwa_refusal {
     YOLIZADWA_BAD_COST = 5,         /* a cost outside 1 to the deadline; place: the task */
     YOLIZADWA_BAD_OFFSET = 6,       /* an offset above 60,000; place: the task */
     YOLIZADWA_LONG_ROUND = 7,       /* the periods' least common multiple is above 1,000,000,000,000; place 0 */
-    YOLIZADWA_STRANGE_STATE = 8,    /* the state does not fit the table; place: the first task that does not, 32: last */
+    YOLIZADWA_STRANGE_STATE = 8,    /* the state does not fit the table; place: the first task that does not, 32: last,
+                                       33: it counts 2^64 slots or more */
+    YOLIZADWA_FULL_STATE = 9,       /* the state counts 2^64 - 1 slots, and no more can be counted; place 0 */
     YOLIZADWA_CUT_SHORT = 20,       /* the file ends inside a record; place: where the record begins */
     YOLIZADWA_UNKNOWN_KIND = 21,    /* a record of no known kind; place: where it begins */
     YOLIZADWA_NO_BUDGET_FIRST = 22, /* the first record is a task or the end, or the file is empty; place 0 */
@@ -76,7 +78,7 @@ enum yolizadwa_refusal {
     YOLIZADWA_ZERO_BUDGET = 27,     /* the budget is 0; place 0, in a text its line */
     YOLIZADWA_SHORT_REPORT = 30,    /* the report buffer has fewer than 1,024 bytes; place: its length */
     YOLIZADWA_SHORT_BUFFER = 31,    /* the buffer is shorter than what is to be written; place: its length */
-    YOLIZADWA_STATE_LENGTH = 50,    /* the state buffer has not 272 bytes; place: its length, 65,535 if it is longer */
+    YOLIZADWA_STATE_LENGTH = 50,    /* the state buffer has not 536 bytes; place: its length, 65,535 if it is longer */
     YOLIZADWA_BROKEN_ROWS = 51,     /* the words of a table are no whole rows; place: their number, at most 65,535 */
     YOLIZADWA_STRANGE_ROW = 52,     /* a row of a table is no task; place: the first such row, at most 65,535 */
     /* Of a text; place: the line, counted from 1, at most 65,535. */
@@ -210,8 +212,11 @@ uint64_t yolizadwa_quick(const uint8_t *file, size_t file_len);
 uint64_t yolizadwa_distance(const uint8_t *file, size_t file_len);
 
 /*
- * The dispatcher's state: 272 bytes, 68 little-endian words of 32 bits each. On x86-64 this struct is that layout; hand
- * over (uint8_t *)&state and sizeof state. It needs no alignment.
+ * The dispatcher's state: 536 bytes, 68 little-endian words of 32 bits and then 33 of 64 bits. On x86-64 this struct is that
+ * layout; hand over (uint8_t *)&state and sizeof state. It needs no alignment.
+ *
+ * given and empty say where the slots went: after n steps from a start, given[i] is how many of them returned i, empty how
+ * many returned none, and together they are n.
  */
 struct yolizadwa_state {
     uint32_t wait[YOLIZADWA_TASKS]; /* slots until the task's next release */
@@ -220,12 +225,14 @@ struct yolizadwa_state {
     uint32_t late;                  /* bit i: task i's job was closed late in the last step */
     uint32_t closed;                /* how many jobs were closed late in the last step */
     uint32_t lowest;                /* the lowest task among them; 32: none */
+    uint64_t given[YOLIZADWA_TASKS]; /* the slots that the task had since the start */
+    uint64_t empty;                 /* the slots since the start that no task had */
 };
 
 /*
- * Writes the first state of the table: waits are the offsets, no job is open, no task ran. Any table that is not refused
- * may be started, also one that does not pass: its jobs may be closed late. The budget must stand in the file, 1
- * or more, and plays no other part.
+ * Writes the first state of the table: waits are the offsets, no job is open, no task ran, no slot is counted. Any table that
+ * is not refused may be started, also one that does not pass: its jobs may be closed late. The budget must stand in the file,
+ * 1 or more, and plays no other part.
  *
  * The result is 0. Refusals: 50; 20 to 27; 1 and 3 to 7.
  */
@@ -247,12 +254,13 @@ uint64_t yolizadwa_start(const uint8_t *file, size_t file_len, uint8_t *state, s
  *
  * A job that has had its cost gets no more slots, ended or not, and no call tells: the costs in the table must be true.
  *
- * A step reads wait and left of the table's tasks, and last. It does not read late, closed and lowest. What stands in
- * wait and left behind the last task of the table stays.
+ * A step reads wait, left and given of the table's tasks, last and empty. It does not read late, closed and lowest. What
+ * stands in wait, left and given behind the last task of the table stays.
  *
  * Hand over the file that the state was started with. Refusals: 50; 20 to 27; 1 and 3 to 7; 8 for a wait above both
  * offset and period, for an open job with more slots left than its cost, or with a wait below period - deadline or above
- * period - 1, for a last that is neither 32 nor a task, and for nothing else.
+ * period - 1, for a last that is neither 32 nor a task, for counts that add up to 2^64 or more, and for nothing else; 9 for
+ * counts that add up to 2^64 - 1. So from a start 2^64 - 1 steps are taken, and none of them is refused.
  */
 uint64_t yolizadwa_step(const uint8_t *file, size_t file_len, uint8_t *state, size_t state_len, uint32_t done);
 

@@ -116,11 +116,14 @@ pub fn tables(bench: &mut Bench) {
 fn steps_are(bench: &mut Bench, rows: Rows, steps: &[(u32, u32, [u32; 3])]) {
     let file = file_of(1, &table_of(rows));
     let mut buffer = bench.answer(&[Request::start(file.clone())])[0].buffer.clone();
+    let mut had = [0; TASKS + 1];
     for &(done, owner, late) in steps {
         let reply = bench.answer(&[Request::step(file.clone(), buffer, done)]).remove(0);
         let state = State::from_bytes(&reply.buffer);
         let got = (reply.result, state.last, [state.late, state.closed, state.lowest]);
-        let good = reply.intact && got == (u64::from(owner), owner, late);
+        had[owner as usize] += 1;
+        let counted = [&state.given[..], &[state.empty]].concat();
+        let good = reply.intact && got == (u64::from(owner), owner, late) && counted == had;
         bench.count(good, || format!("{rows:?}: {got:?}, not {owner} {late:?}"));
         buffer = reply.buffer;
     }
@@ -201,6 +204,45 @@ fn strange_states() -> Vec<(State, u64)> {
         state
     };
     changes.iter().map(|(change, place)| (changed(change), *place)).collect()
+}
+
+/// Request T-09 on table b, with counts of task 0, of task 1, behind the last task, and of the empty slots: what is refused, and by which
+/// number and place; else the state is stepped, and the counts behind the last task stay.
+pub fn accounts(bench: &mut Bench) {
+    const ALL: u64 = u64::MAX;
+    let b = file_of(38, &table_of(B));
+    let counts = [
+        ([0, 0, ALL, ALL - 1], None),
+        ([ALL - 2, 1, ALL, 0], None),
+        ([0, 0, 0, ALL], Some((9, 0))),
+        ([ALL, 0, ALL, 0], Some((9, 0))),
+        ([1, ALL - 2, 7, 1], Some((9, 0))),
+        ([ALL, 1, 0, 0], Some((8, 33))),
+        ([1, 1, 0, ALL], Some((8, 33))),
+        ([ALL, ALL, 0, ALL], Some((8, 33))),
+        ([1 << 63, 1 << 63, 0, 0], Some((8, 33))),
+    ];
+    for ([first, second, behind, empty], refused) in counts {
+        let mut state = reference::start(&table_of(B));
+        (state.given[0], state.given[1], state.given[2], state.empty) = (first, second, behind, empty);
+        let request = Request::step(b.clone(), state.to_bytes(), 0);
+        match refused {
+            Some((number, place)) => {
+                refused_with(bench, request, number, place);
+                state.last = 2;
+                refused_with(bench, Request::step(b.clone(), state.to_bytes(), 0), 8, 32);
+                state.wait[1] = 6;
+                refused_with(bench, Request::step(b.clone(), state.to_bytes(), 0), 8, 1);
+            }
+            None => {
+                let stepped = State::from_bytes(&bench.answer(&[request.clone()])[0].buffer);
+                let counted = (stepped.given[0], stepped.given[1], stepped.given[2], stepped.empty);
+                bench.count(counted == (first, second + 1, behind, empty), || format!("{counted:?} after slot 0 of b"));
+                bench.ask(request);
+            }
+        }
+    }
+    bench.end_group("document 02's counts of slots");
 }
 
 pub fn refusals(bench: &mut Bench) {

@@ -339,7 +339,20 @@ pub fn fitting_state(rng: &mut Rng, tasks: &[Task]) -> State {
         state.wait[number] = if open { rng.range(due, latest.max(due)) } else { idle_wait(rng, task) };
     }
     state.last = if rng.chance(20) { NONE } else { rng.below(tasks.len() as u64) as u32 };
+    let most = rng.pick(&[1, 1_000, 1 << 32, u64::MAX - 1]);
+    let sum = if rng.chance(20) { most } else { rng.below(most) };
+    count_up(rng, tasks, &mut state, u128::from(sum));
     state
+}
+
+/// Counts of the table's tasks and of the empty slots with a sum of at most 2^64. Those behind the last task stay.
+fn count_up(rng: &mut Rng, tasks: &[Task], state: &mut State, sum: u128) {
+    let mut rest = sum;
+    for slots in &mut state.given[..tasks.len()] {
+        *slots = rng.pick(&[1, rest / 2, rest]).min(rest).min(u128::from(u64::MAX)) as u64;
+        rest -= u128::from(*slots);
+    }
+    state.empty = u64::try_from(rest).expect("the first task had one slot or more");
 }
 
 fn idle_wait(rng: &mut Rng, task: &Task) -> u32 {
@@ -360,6 +373,17 @@ pub fn wild_state(rng: &mut Rng) -> State {
         late: words(),
         closed: words(),
         lowest: words(),
+        given: std::array::from_fn(|_| wild_count(rng)),
+        empty: wild_count(rng),
+    }
+}
+
+fn wild_count(rng: &mut Rng) -> u64 {
+    let size = rng.pick(&[1, 60_000, 1 << 32, u64::MAX]);
+    if rng.chance(10) {
+        size
+    } else {
+        rng.below(size)
     }
 }
 
@@ -369,12 +393,18 @@ pub fn border_state(rng: &mut Rng, tasks: &[Task]) -> State {
     let number = rng.below(tasks.len() as u64) as usize;
     let task = tasks[number];
     let due = task.period - task.deadline;
-    match rng.below(6) {
+    match rng.below(9) {
         0 => state.wait[number] = task.offset.max(task.period) + rng.range(0, 1),
         1 => state.left[number] = task.cost + rng.range(0, 1),
         2 => (state.left[number], state.wait[number]) = (1, due.saturating_sub(rng.range(0, 1))),
         3 => (state.left[number], state.wait[number]) = (task.cost, task.period - rng.range(0, 1)),
         4 => state.left[number] = u32::MAX,
+        5 => {
+            let sum = u128::from(u64::MAX) + u128::from(rng.below(3)) - 1;
+            count_up(rng, tasks, &mut state, sum);
+        }
+        6 => state.given[number] = u64::MAX,
+        7 => state.empty = u64::MAX - rng.below(2),
         _ => state.last = rng.pick(&[0, 1, tasks.len() as u32 - 1, tasks.len() as u32, NONE - 1, NONE, NONE + 1, u32::MAX]),
     }
     state

@@ -7,7 +7,9 @@ use crate::plain;
 pub const TASKS: usize = 32;
 pub const NONE: u32 = TASKS as u32;
 pub const REPORT_BYTES: usize = 1_024;
-pub const STATE_BYTES: usize = 4 * (2 * TASKS + 4);
+/// Where the counts of slots begin in a state, behind the waits, the slots left and four words.
+const COUNTS_AT: usize = 4 * (2 * TASKS + 4);
+pub const STATE_BYTES: usize = COUNTS_AT + 8 * (TASKS + 1);
 /// A budget, as many tasks as there can be, the end.
 pub const LONGEST_FILE: usize = 9 + 17 * TASKS + 1;
 pub const LARGEST_PLACE: usize = 65_535;
@@ -42,6 +44,10 @@ pub fn refuse<T>(number: u64, place: usize) -> Result<T, Refusal> {
 
 fn word(bytes: &[u8], index: usize) -> u32 {
     u32::from_le_bytes(bytes[4 * index..4 * index + 4].try_into().unwrap())
+}
+
+fn long(bytes: &[u8], at: usize) -> u64 {
+    u64::from_le_bytes(bytes[at..at + 8].try_into().unwrap())
 }
 
 fn task_from(body: &[u8]) -> Task {
@@ -490,6 +496,8 @@ pub struct State {
     pub late: u32,
     pub closed: u32,
     pub lowest: u32,
+    pub given: [u64; TASKS],
+    pub empty: u64,
 }
 
 impl State {
@@ -501,12 +509,20 @@ impl State {
             late: word(bytes, 2 * TASKS + 1),
             closed: word(bytes, 2 * TASKS + 2),
             lowest: word(bytes, 2 * TASKS + 3),
+            given: std::array::from_fn(|task| long(bytes, COUNTS_AT + 8 * task)),
+            empty: long(bytes, COUNTS_AT + 8 * TASKS),
         }
     }
 
     pub fn to_bytes(self) -> Vec<u8> {
         let tail = [self.last, self.late, self.closed, self.lowest];
-        self.wait.iter().chain(&self.left).chain(&tail).flat_map(|word| word.to_le_bytes()).collect()
+        let words = self.wait.iter().chain(&self.left).chain(&tail).flat_map(|word| word.to_le_bytes());
+        words.chain(self.given.iter().chain(&[self.empty]).flat_map(|count| count.to_le_bytes())).collect()
+    }
+
+    /// The slots given to the table's tasks, and the empty ones.
+    fn counted(&self, tasks: &[Task]) -> u128 {
+        self.given[..tasks.len()].iter().chain(&[self.empty]).map(|&slots| u128::from(slots)).sum()
     }
 }
 
@@ -515,7 +531,7 @@ pub fn start(tasks: &[Task]) -> State {
     for (number, task) in tasks.iter().enumerate() {
         wait[number] = task.offset;
     }
-    State { wait, left: [0; TASKS], last: NONE, late: 0, closed: 0, lowest: NONE }
+    State { wait, left: [0; TASKS], last: NONE, late: 0, closed: 0, lowest: NONE, given: [0; TASKS], empty: 0 }
 }
 
 fn strange(task: &Task, wait: u32, left: u32) -> bool {
@@ -533,6 +549,9 @@ fn belongs(tasks: &[Task], state: &State) -> Result<(), Refusal> {
     }
     if state.last != NONE && state.last as usize >= tasks.len() {
         return refuse(8, TASKS);
+    }
+    if state.counted(tasks) > u128::from(u64::MAX) {
+        return refuse(8, TASKS + 1);
     }
     Ok(())
 }
@@ -570,8 +589,12 @@ fn give_slot(tasks: &[Task], state: &mut State) {
     let due_in = |task: usize| u64::from(slots_to_deadline(&tasks[task], state.wait[task]));
     let owner = open.min_by_key(|&task| turn(tasks, task, due_in(task)));
     state.last = owner.map_or(NONE, |task| task as u32);
-    if let Some(task) = owner {
-        state.left[task] -= 1;
+    match owner {
+        Some(task) => {
+            state.left[task] -= 1;
+            state.given[task] += 1;
+        }
+        None => state.empty += 1,
     }
     for wait in &mut state.wait[..tasks.len()] {
         *wait -= 1;
@@ -580,6 +603,9 @@ fn give_slot(tasks: &[Task], state: &mut State) {
 
 pub fn step(tasks: &[Task], state: &State, done: bool) -> Result<State, Refusal> {
     belongs(tasks, state)?;
+    if state.counted(tasks) == u128::from(u64::MAX) {
+        return refuse(9, 0);
+    }
     let mut next = *state;
     if done && state.last != NONE {
         next.left[state.last as usize] = 0;

@@ -16,6 +16,8 @@ struct Clock {
     now: u64,
     open: Vec<Job>,
     last: Option<usize>,
+    /// Who had each slot so far.
+    owners: Vec<Option<usize>>,
 }
 
 impl Clock {
@@ -29,6 +31,7 @@ impl Clock {
         self.open.retain(|job| job.deadline > now);
         self.open.extend(released(&self.tasks, now));
         self.last = self.give();
+        self.owners.push(self.last);
         self.now += 1;
         self.seen(&late)
     }
@@ -54,6 +57,9 @@ impl Clock {
         state.late = late.iter().map(|task| 1 << task).sum();
         state.closed = late.len() as u32;
         state.lowest = late.first().map_or(NONE, |&task| task as u32);
+        for &owner in &self.owners {
+            *owner.map_or(&mut state.empty, |task| &mut state.given[task]) += 1;
+        }
         state
     }
 }
@@ -150,7 +156,7 @@ impl Camera {
         Camera {
             promise: promise_of(&replies[0], tasks.len()),
             state: replies[1].buffer.clone(),
-            clock: Clock { tasks: tasks.clone(), now: 0, open: Vec::new(), last: None },
+            clock: Clock { tasks: tasks.clone(), now: 0, open: Vec::new(), last: None, owners: Vec::new() },
             slots: (reference::horizon(&tasks, round) + 2 * round).min(MOST_SLOTS),
             done_percent: rng.pick(&[0, 0, 5, 20, 50, 100]),
             done: 0,
