@@ -3,7 +3,7 @@
 
 pub const TASKS: usize = 32;
 pub const REPORT_BYTES: usize = 1024;
-pub const STATE_BYTES: usize = 4 * (2 * TASKS + 4);
+pub const STATE_BYTES: usize = 4 * (2 * TASKS + 4) + 8 * (TASKS + 1);
 
 #[derive(Clone, Copy)]
 pub struct Task {

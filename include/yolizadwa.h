@@ -219,14 +219,14 @@ uint64_t yolizadwa_distance(const uint8_t *file, size_t file_len);
  * many returned none, and together they are n.
  */
 struct yolizadwa_state {
-    uint32_t wait[YOLIZADWA_TASKS]; /* slots until the task's next release */
-    uint32_t left[YOLIZADWA_TASKS]; /* slots that its open job may still use; 0: no job is open */
-    uint32_t last;                  /* the task that had the last slot; 32: none */
-    uint32_t late;                  /* bit i: task i's job was closed late in the last step */
-    uint32_t closed;                /* how many jobs were closed late in the last step */
-    uint32_t lowest;                /* the lowest task among them; 32: none */
+    uint32_t wait[YOLIZADWA_TASKS];  /* slots until the task's next release */
+    uint32_t left[YOLIZADWA_TASKS];  /* slots that its open job may still use; 0: no job is open */
+    uint32_t last;                   /* the task that had the last slot; 32: none */
+    uint32_t late;                   /* bit i: task i's job was closed late in the last step */
+    uint32_t closed;                 /* how many jobs were closed late in the last step */
+    uint32_t lowest;                 /* the lowest task among them; 32: none */
     uint64_t given[YOLIZADWA_TASKS]; /* the slots that the task had since the start */
-    uint64_t empty;                 /* the slots since the start that no task had */
+    uint64_t empty;                  /* the slots since the start that no task had */
 };
 
 /*

@@ -152,10 +152,12 @@ fn judged(bench: &mut Bench, tasks: &[Task], budget: u64, input: &[u8]) {
     bench.count(good, || format!("judge on {tasks:?} and budget {budget}: {text}"));
 }
 
-/// A run by the reference: of each task the instants and slots in turn, and the jobs that were late.
+/// A run by the reference: of each task the instants and slots in turn, and the jobs that were late; of each task and of none the
+/// slots that it had.
 struct Run {
     rows: Vec<String>,
     late: Vec<Vec<u64>>,
+    had: Vec<u64>,
 }
 
 fn mark(task: &Task, now: u64, late: bool) -> char {
@@ -184,12 +186,13 @@ impl Run {
     }
 
     fn of(tasks: &[Task], slots: u64, early: bool) -> Run {
-        let mut run = Run { rows: vec![String::new(); tasks.len()], late: Vec::new() };
+        let mut run = Run { rows: vec![String::new(); tasks.len()], late: Vec::new(), had: vec![0; tasks.len() + 1] };
         let (mut state, mut done) = (reference::start(tasks), false);
         for now in 0..=slots {
             let next = reference::step(tasks, &state, done).expect("a state of the table");
             run.draw(tasks, now, &state, &next);
             let last = next.last as usize;
+            run.had[last.min(tasks.len())] += (now < slots) as u64;
             done = early && next.last != NONE && 2 * (tasks[last].cost - next.left[last]) >= tasks[last].cost;
             state = next;
         }
@@ -216,6 +219,23 @@ fn rows_of(text: &str, tasks: usize) -> Vec<String> {
     rows.iter().map(|row| row.trim_end().to_string()).collect()
 }
 
+/// The accounts at the end: whose, how many slots, and their share in percent, rounded to tenths.
+fn accounts_of(had: &[u64], slots: u64) -> Vec<String> {
+    let headings = [format!("who had the slots from 0 to {slots}:"), "task slots share".to_string()];
+    let names = (0..had.len() - 1).map(|task| task.to_string()).chain(["empty".to_string()]);
+    let row = |(name, had): (String, &u64)| {
+        let tenths = (2_000 * had + slots) / (2 * slots);
+        format!("{name} {had} {}.{} %", tenths / 10, tenths % 10)
+    };
+    headings.into_iter().chain(names.zip(had).map(row)).collect()
+}
+
+/// The lines from the accounts on, with one blank between words.
+fn accounts_told(text: &str) -> Vec<String> {
+    let lines = text.lines().skip_while(|line| !line.starts_with("who had "));
+    lines.map(|line| line.split_whitespace().collect::<Vec<_>>().join(" ")).collect()
+}
+
 fn charted(bench: &mut Bench, rng: &mut Rng, tasks: &[Task], input: &[u8]) {
     let (slots, early) = (rng.pick(&[1_u64, 34, 35, 36, 70, 100, 211]), rng.chance(30));
     let number = slots.to_string();
@@ -224,6 +244,7 @@ fn charted(bench: &mut Bench, rng: &mut Rng, tasks: &[Task], input: &[u8]) {
     let (text, run) = (said(&output), Run::of(tasks, slots, early));
     let status = if run.late.is_empty() { 0 } else { 3 };
     let good = rows_of(&text, tasks.len()) == run.rows && jobs_listed(&text) == run.late[..run.late.len().min(JOBS_SHOWN)];
+    let good = good && accounts_told(&text) == accounts_of(&run.had, slots);
     bench.count(good && output.status.code() == Some(status), || format!("run of {slots} slots on {tasks:?}:\n{text}"));
 }
 

@@ -68,9 +68,6 @@ one-loading file a b e f = e ∙ sym f
 pub one-start : (t : Table) (a b : Started) → startedOf a ≡ started t → startedOf b ≡ started t → a ≡ b
 one-start t a b e f = one-started a b (e ∙ sym f)
 
-pub one-admission : (t : Table) (d : Dispatcher) (a b : Admission) → a ≡ stateAdmitted t (stateOf d) → b ≡ stateAdmitted t (stateOf d) → a ≡ b
-one-admission t d a b e f = e ∙ sym f
-
 pub one-step : (t : Table) (d : Dispatcher) (done : Bool) (a b : Stepped) → steppedOf a ≡ stepped t (stateOf d) done → steppedOf b ≡ stepped t (stateOf d) done → a ≡ b
 one-step t d done a b e f = one-stepped a b (e ∙ sym f)
 

@@ -11,10 +11,7 @@ use Rattle.dispatch.proofs.step_taken.Tie as tie
 whole : (c : tie.Start) → Whole (stateOf (c .args .d))
 whole c = record { waits = search needs; lefts = search needs }
 
--- The places that were passed before.
-abbrev closing-from : tie.After-serve → tie.After-close-all
-closing-from c = c .before .before .before .before .before .before .before
-
+-- The places that were passed before the slot is counted.
 abbrev late-from : tie.After-close-all → tie.After-late-set
 late-from c = c .before .before
 
@@ -23,6 +20,12 @@ report-from c = c .before .before .before .before
 
 abbrev unpack-from : tie.After-after-report → tie.After-unpack
 unpack-from c = c .before .before .before .before .before .before .before .before
+
+abbrev served-from : tie.After-given2 → tie.After-serve
+served-from c = c .before
+
+abbrev closing-from : tie.After-given2 → tie.After-close-all
+closing-from c = served-from c .before .before .before .before .before .before .before
 
 unpack-requires : tie.Need-unpack-requires
 unpack-requires c κs = search needs
@@ -41,33 +44,36 @@ serve-requires c κs = search needs
 
 count-given-requires : tie.Need-count-given-requires
 count-given-requires c κs =
-    let served = c .before in
-    let closing = closing-from served in
+    let closing = closing-from c in
     let late = late-from closing in
     let report = report-from late in
     let u = unpack-from report in
     let s = u .before .args in
     owner-room (s .t) (stateOf (s .d)) (s .done) (u .before .pre) (whole (u .before))
-    (u .unpack .ensures) (report .after-report .ensures) (late .late-set .ensures) (closing .close-all .ensures) (served .serve .ensures)
+    (u .unpack .ensures) (report .after-report .ensures) (late .late-set .ensures)
+    (closing .close-all .ensures) (served-from c .serve .ensures)
 
 turn-of-requires : tie.Need-turn-of-requires
 turn-of-requires c κs = search needs
 
 count-empty-requires : tie.Need-count-empty-requires
 unfolding slotCount
-count-empty-requires c κs = let u = unpack-from (report-from (late-from (closing-from (c .before .before .before)))) in omega (arith, u .before .pre .room)
+count-empty-requires c κs =
+    let u = unpack-from (report-from (late-from (closing-from (c .before .before)))) in
+    omega (arith, u .before .pre .room)
 
 returns : tie.Need-returns
 returns c =
-    let served = c .before .before .before .before in
-    let closing = closing-from served in
+    let counting = c .before .before in
+    let closing = closing-from (counting .before) in
     let late = late-from closing in
     let report = report-from late in
     let u = unpack-from report in
     let s = u .before .args in
     taken-is (s .t) (stateOf (s .d)) (s .done) (u .before .pre) (whole (u .before))
-    (u .unpack .ensures) (report .after-report .ensures) (late .late-set .ensures) (closing .close-all .ensures) (served .serve .ensures)
-    (c .before .before .count-given .ensures) (c .before .turn-of .ensures) (c .count-empty .ensures)
+    (u .unpack .ensures) (report .after-report .ensures) (late .late-set .ensures)
+    (closing .close-all .ensures) (served-from (counting .before) .serve .ensures)
+    (counting .count-given .ensures) (c .before .turn-of .ensures) (c .count-empty .ensures)
 
 pub step-taken-spec : {M : Type 1} → statement M
 step-taken-spec =
