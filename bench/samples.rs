@@ -89,7 +89,8 @@ pub fn tiny_tables() -> Vec<(&'static str, Vec<Task>)> {
     ]
 }
 
-// 32 tasks whose periods are divisors of 963,761,198,400, which is their least common multiple: a load of 0.92. The last is late in the end.
+// 32 tasks whose periods are divisors of 963,761,198,400, which is their least common multiple: a load of 0.92. With short deadlines the
+// last is late, after a while.
 pub fn longest_rounds() -> Vec<(&'static str, Vec<Task>)> {
     let slow = [
         20160, 20748, 21216, 21840, 22176, 22572, 23023, 24640, 25300, 27300, 28152, 29925, 31920, 32604, 32725, 36432, 36960, 37050, 38038,
@@ -100,7 +101,6 @@ pub fn longest_rounds() -> Vec<(&'static str, Vec<Task>)> {
         14400, 15470, 16632, 17472, 18216, 18354, 19320, 19635, 19665, 19734, 19760,
     ];
     let table = |periods: [u32; 32]| (0..).zip(periods).map(|(i, period)| task(i * 7919 % 60001, period * 3 / 104, period, period)).collect::<Vec<_>>();
-    let mut late = table(slow);
-    late[31].deadline = 36000;
+    let late = table(slow).into_iter().map(|k| task(k.offset, k.cost, k.period * 44 / 100, k.period)).collect();
     vec![("32 tasks, periods 20,160 to 55,692", table(slow)), ("32 tasks, periods 4,158 to 19,760", table(fast)), ("late, 32 tasks, periods 20,160 to 55,692", late)]
 }

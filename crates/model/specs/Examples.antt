@@ -437,16 +437,17 @@ in-order :
 unfolding steps startOf after turn ownerNow choose fill bits sum count first
 in-order = (refl, refl, refl)
 
--- Two jobs closed at once, and the most; where none is closed the lowest number is none.
+-- Two jobs closed at once, the most, and that of the last task alone; where none is closed the lowest number is none.
 abbrev both-late : State
 both-late = uncounted (padded 0 (1 ∷ 1 ∷ [])) (padded 0 (1 ∷ 1 ∷ [])) taskLimit
 
 closings :
     (turn table-f both-late false ≡ record { owner = taskLimit; late = 3; closed = 2; lowest = 0 })
     × (turn (tableOf (replicate taskLimit (of 0 1 1 2))) (uncounted (padded 1 []) (padded 1 []) taskLimit) false ≡ record { owner = taskLimit; late = 2 ^ taskLimit - 1; closed = taskLimit; lowest = 0 })
+    × (turn (tableOf (replicate taskLimit (of 0 1 1 2))) (uncounted (padded 1 []) (replicate (taskLimit - 1) 0 ++ (1 ∷ [])) taskLimit) false ≡ record { owner = taskLimit; late = 2 ^ (taskLimit - 1); closed = 1; lowest = taskLimit - 1 })
     × (turn table-g (startOf table-g) true ≡ record { owner = 0; late = 0; closed = 0; lowest = taskLimit })
 unfolding turn startOf ownerNow choose fill bits sum count first
-closings = (refl, refl, refl)
+closings = (refl, refl, refl, refl)
 
 -- A start on a table: the waits are the offsets; a refused start; a step taken.
 starts :
