@@ -3,12 +3,14 @@ use mathlib.Core.Path.{_≡_, refl}
 use mathlib.Core.Logic.{inr, _⊎_, _↔_}
 use mathlib.Core.List.{[], _∷_}
 use mathlib.Core.Bool.{Bool, false, true}
-use Prim.Native.Nat.{ℕ, suc, _+_, _-_, _≤_, _<_}
+use Prim.Native.Nat.{ℕ, zero, suc, _+_, _-_, _≤_, _<_}
 use native.Mathlib.Omega.{arith}
 use lib.ListN.{getD}
 use lib.Dec.{T, lit≤, lit<, eqb}
 use Rattle.model.specs.Notation.{sum, largest, count, first, last, fill, Least}
+use Rattle.values.specs.declared.Table.{Table}
 use Rattle.values.specs.declared.Verdict.{Verdict}
+use Rattle.values.specs.declared.Easing.{Easing}
 use Rattle.values.specs.declared.Given.{Given}
 use Rattle.values.specs.declared.Answer.{Answer}
 use Rattle.values.specs.declared.Outcome.{Outcome}
@@ -20,7 +22,9 @@ use Rattle.model.specs.Run.{Order, choose, run, Worst}
 use Rattle.model.specs.Verdict.{needed, lateStart, verdict, settledBy, Worsts, Permitted}
 use Rattle.model.specs.Dispatcher.{State, Stepped, givenOf, slotCount, firstStrange, startOf, isLate, ownerNow, after, turn, refuseStep, stepped}
 use Rattle.model.specs.History.{stateAt, ownerAt, had, Finished}
-use Rattle.model.specs.Examples.{padded, table-b, table-c, table-d, table-f, table-g, table-i}
+use Rattle.model.specs.TableFile.{tableOf}
+use Rattle.model.specs.Easing.{Eased, Lowered, easing}
+use Rattle.model.specs.Examples.{padded, of, table-b, table-c, table-d, table-f, table-g, table-i}
 use Rattle.model.specs.Schedule.{none, job}
 use Rattle.wellformed.specs.Ranges.{Ranged}
 use Rattle.wellformed.specs.WellFormed.{well-formed}
@@ -28,6 +32,7 @@ use Rattle.backlog.specs.Queue.{backlog, Busy, busy-from, backlog-mono}
 use Rattle.backlog.specs.Streams.{released, Run, left}
 use Rattle.backlog.specs.RunUnique.{run-unique}
 use Rattle.backlog.specs.Finish.{DoneFirst, finish}
+use Rattle.backlog.specs.Ever.{ends-ever}
 use Rattle.backlog.specs.Criterion.{Met}
 use Rattle.backlog.specs.NoneLate.{none-late}
 use Rattle.backlog.specs.RunHistory.{run-history}
@@ -48,6 +53,9 @@ use Rattle.backlog.specs.Verdicts.{undecided-iff, overload-iff}
 use Rattle.backlog.specs.Longer.{longer}
 use Rattle.backlog.specs.Passes.{passes-iff, overload-infeasible, late-infeasible}
 use Rattle.backlog.specs.PassedWorst.{met-of-passed, worst-of}
+use Rattle.backlog.specs.Eased.{eased-passes}
+use Rattle.backlog.specs.FirstChoice.{eased-told}
+use Rattle.backlog.specs.Lowered.{lowered-worst}
 use Rattle.backlog.specs.Unique.{permitted-unique}
 use Rattle.backlog.specs.AnswersSay.{answers-say}
 use Rattle.backlog.specs.Taken.{Belongs, belongs-after, slots-after}
@@ -110,6 +118,53 @@ b-worst-by rank = worst-of table-b b-ranged 38 b-passes rank 0 (lit< tt)
 -- In its run a job finishes where, first after its release, no work up to its key is left.
 b-finish : (j u : ℕ) → DoneFirst (jobs b-system) (servedOf b-system) 0 j u ↔ Least (λ u. (release (task table-b 0) j < u) × (left (jobs b-system) (servedOf b-system) (keyOf b-system 0 j) u ≡ 0)) u
 b-finish j = finish (jobs b-system) (servedOf b-system) (model-run b-system) 0 j (lit< tt)
+
+-- Table b eased: task 0 is left out, and the other costs 1 less and is due 1 later. It passes with a budget of 10, and is told to be an easing.
+abbrev b-rest : Table
+b-rest = tableOf (of 0 1 3 5 ∷ [])
+
+b-eased : Eased table-b b-rest
+b-eased = record {
+  kept = λ i. suc i;
+  in-order = λ i k l m. omega arith;
+  of-before = λ i l. omega arith;
+  each = λ i. elim i [
+    | zero ↦ λ l. record { same-offset = refl; same-period = refl; lower-cost = lit≤ tt; longer-deadline = lit≤ tt }
+    | suc k ↦ λ l. absurd (omega arith)
+  ];
+}
+
+b-rest-ranged : Ranged b-rest
+unfolding judged firstFaulty taskFault first round load horizon largest sum count
+b-rest-ranged = well-formed b-rest (record { round = 5; load = 1; horizon = 10 }) refl .ranged
+
+b-rest-passes : verdict b-rest 10 ≡ Verdict.Passes
+unfolding horizon largest round first count
+b-rest-passes = eased-passes table-b b-rest b-eased b-ranged b-rest-ranged 38 10 b-passes (lit≤ tt)
+
+b-rest-told : (set : ℕ) × (easing table-b b-rest ≡ Easing.Kept set)
+b-rest-told = eased-told table-b b-rest b-eased
+
+-- With cost 4 of task 0 its worst response does not grow, in any order of the tasks.
+abbrev b-lower : Table
+b-lower = tableOf (of 8 4 7 15 ∷ of 0 2 2 5 ∷ [])
+
+b-lowered : Lowered table-b b-lower
+b-lowered = record {
+  same-count = refl;
+  each = λ i. elim i [
+    | zero ↦ λ l. record { same-offset = refl; same-period = refl; lower-cost = lit≤ tt; longer-deadline = lit≤ tt }
+    | suc k ↦ λ l. record { same-offset = refl; same-period = refl; lower-cost = omega arith; longer-deadline = omega arith }
+  ];
+  same-deadline = λ i. elim i [ zero ↦ λ l. refl | suc k ↦ λ l. refl ];
+}
+
+b-lower-ranged : Ranged b-lower
+unfolding judged firstFaulty taskFault first round load horizon largest sum count
+b-lower-ranged = well-formed b-lower (record { round = 15; load = 10; horizon = 38 }) refl .ranged
+
+b-no-slower : (rank : Order) (w w' : ℕ) → Worst table-b rank 0 w → Worst b-lower rank 0 w' → w' ≤ w
+b-no-slower rank w w' = lowered-worst table-b b-lower b-ranged b-lower-ranged b-lowered rank rank (λ i l. refl) 0 w w' (lit< tt)
 
 -- There is no other run of its streams.
 b-one-run : (s : ℕ → ℕ → ℕ) → Run (jobs b-system) s → (u i : ℕ) → i < 2 → s u i ≡ servedOf b-system u i
@@ -175,6 +230,10 @@ i-ranged = well-formed table-i (record { round = 5; load = 6; horizon = 12 }) re
 i-overload : (to : ℕ) × T (lateAt table-i to)
 unfolding first round load sum count
 i-overload = overload-late table-i i-ranged (lit< tt)
+
+-- Every job of it finishes, some of them late.
+i-ends : (j : ℕ) → let S = tieSystem table-i i-ranged in (f : ℕ) × DoneFirst (jobs S) (servedOf S) 0 j f
+i-ends j = ends-ever (jobs (tieSystem table-i i-ranged)) _ (model-run (tieSystem table-i i-ranged)) 0 j (lit< tt)
 
 i-said : verdict table-i 0 ≡ Verdict.Overload
 unfolding first round load sum count

@@ -4,6 +4,7 @@ pub mod Streams
 pub mod Left
 pub mod RunUnique
 pub mod Finish
+pub mod Ever
 pub mod Criterion
 -- Dispatchers of any streams that are told of early ends.
 pub mod Domination
@@ -37,6 +38,9 @@ pub mod Verdicts
 pub mod Longer
 pub mod Passes
 pub mod PassedWorst
+pub mod Eased
+pub mod FirstChoice
+pub mod Lowered
 pub mod Unique
 pub mod AnswersSay
 -- What the dispatcher does, in the model's words.

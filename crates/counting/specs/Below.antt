@@ -67,6 +67,10 @@ module _ (f : ℕ → ℕ) (g : Grows f) where
 pub below-below : (f g : ℕ → ℕ) → Grows f → Grows g → (x y : ℕ) → ((j : ℕ) → f j < x → g j < y) → below f x ≤ below g y
 below-below f g p q x y h = below-most f p x (below g y) (λ j l. lt-below g q y j .1 (h j l))
 
+-- Two sequences that agree have as many members below a bound.
+pub below-eq : (f g : ℕ → ℕ) → Grows f → Grows g → ((j : ℕ) → f j ≡ g j) → (x : ℕ) → below f x ≡ below g x
+below-eq f g F G e x = omega (arith, below-below f g F G x x (λ j h. omega (arith, e j)), below-below g f G F x x (λ j h. omega (arith, e j)))
+
 module _ (f : ℕ → ℕ) (g : Grows f) where
   pub below-mono : (x y : ℕ) → x ≤ y → below f x ≤ below f y
   below-mono x y h = below-below f f g g x y (λ j l. omega arith)

@@ -158,6 +158,12 @@ unfolding largest
 largest-le zero f b h = omega arith
 largest-le (suc n) f b h = omega (arith, largest-le n f b (λ i l. h i (le-step l)), h n (le-refl (suc n)))
 
+-- Equal values, one largest.
+pub largest-eq : (n : ℕ) (f g : ℕ → ℕ) → ((i : ℕ) → i < n → f i ≡ g i) → largest n f ≡ largest n g
+unfolding largest
+largest-eq zero f g h = refl
+largest-eq (suc n) f g h = omega (arith, largest-eq n f g (λ i l. h i (le-step l)), h n (le-refl (suc n)))
+
 -- The largest is one of the values.
 largest-attained : (n : ℕ) (f : ℕ → ℕ) → 0 < n → (i : ℕ) × (i < n) × (f i ≡ largest n f)
 unfolding largest

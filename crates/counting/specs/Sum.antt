@@ -3,7 +3,7 @@ use mathlib.Core.Path.{_≡_, refl, ap₂}
 use mathlib.Core.Logic.{_⊎_, inl, inr, _≢_}
 use Prim.Native.Nat.{ℕ, zero, suc, _+_, _*_, _≤_, _<_}
 use native.Mathlib.Nat.{eq-zero-or-pos, le-refl, le-step}
-use native.Mathlib.Decide.{ℕ-discrete, decLt}
+use native.Mathlib.Decide.{ℕ-discrete, decLt, le-ind}
 use native.Mathlib.Numerals.{add-one}
 use native.Mathlib.Omega.{arith}
 use Rattle.model.specs.Notation.{sum}
@@ -81,6 +81,17 @@ sum-bound (suc n) f b h = omega (arith, sum-bound n f b (λ i l. h i (le-step l)
 -- Terms that are all 0.
 pub sum-zero : (n : ℕ) (f : ℕ → ℕ) → ((i : ℕ) → i < n → f i ≡ 0) → sum n f ≡ 0
 sum-zero n f h = omega (arith, sum-bound n f 0 (λ i l. omega (arith, h i l)))
+
+-- Some of the terms, each once and in their order, make no more than all of them.
+pub sum-kept : (m n : ℕ) (f kept : ℕ → ℕ) → ((i k : ℕ) → i < k → k < m → kept i < kept k) → ((i : ℕ) → i < m → kept i < n) → sum m (λ i. f (kept i)) ≤ sum n f
+unfolding sum
+sum-kept zero n f kept up low = omega arith
+sum-kept (suc m) n f kept up low =
+    omega (
+      arith,
+      sum-kept m (kept m) f kept (λ i k a b. up i k a (le-step b)) (λ i l. up i m l (le-refl (suc m))),
+      le-ind (λ (x : ℕ). sum (suc (kept m)) f ≤ sum x f) (omega arith) (λ x l ih. omega arith) n (low m (le-refl (suc m))),
+    )
 
 -- The start of a loop that adds up.
 pub sum-none : (f : ℕ → ℕ) → 0 ≡ sum 0 f

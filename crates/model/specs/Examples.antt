@@ -4,9 +4,10 @@ use mathlib.Core.List.{List, [], _∷_, _++_, map}
 use mathlib.Core.Logic.{inl, inr}
 use mathlib.Core.Bool.{Bool, true, false}
 use Prim.Native.Nat.{ℕ, zero, suc, _+_, _-_, _*_, _/_, _%_, _^_}
+use native.Mathlib.Omega.{arith}
 use lib.Dec.{eqb, lit≤, lit<}
 use lib.ListN.{length, getD, replicate}
-use Rattle.model.specs.Values.{Task, Table, Measure, Judgement, Verdict, Outcome, Admission, Given, Writing, refusal, verdictSaid, judgementSaid, admissionSaid, givenSaid, outcomeSaid}
+use Rattle.model.specs.Values.{Task, Table, Measure, Judgement, Verdict, Outcome, Easing, Admission, Given, Writing, refusal, verdictSaid, judgementSaid, admissionSaid, givenSaid, outcomeSaid}
 use Rattle.model.specs.Notation.{pos, negsuc, sum, largest, count, first, last, bits, fill, text, digits, decimal}
 use Rattle.model.specs.Limits.{taskLimit, slotLimit, roundLimit, reportBytes, longestFile, longestText, slotCountLimit, sumPlace}
 use Rattle.model.specs.Tasks.{task, taskFault, firstFaulty, round, load, horizon, measure, judgedBy, judged}
@@ -23,6 +24,7 @@ use Rattle.model.specs.Report.{worstLines, reportOf, refused, written, C
 use Rattle.model.specs.StateBuffer.{stateBytes, halves, bufferOf, stateIn, startExported, stepExported, handed}
 use Rattle.model.specs.Writer.{fileWritten, firstStranger, tableIn, writeExported}
 use Rattle.model.specs.PlainText.{split, filled, allDigits, valueAfter, numbersFault, same, budgetLine, taskLine, lineOf, readLines, textForm, textLoaded, taskTexts, textOf, textWritten, fromTextExported, toTextExported}
+use Rattle.model.specs.Easing.{Lowered, searchedFrom, easing, easedExported}
 
 -- The limits, and what follows from them: the longest file, the longest text and the bytes of a state buffer; the slots that can be counted
 -- and the last place of 8.
@@ -741,3 +743,56 @@ tasksOfOne (suc n) = text "task 0 1 1 1\n" ++ tasksOfOne n
 many-lines : (textLoaded (text "budget 1\n" ++ tasksOfOne taskLimit) .admission ≡ Admission.Admitted) × (textLoaded (text "budget 1\n" ++ tasksOfOne taskLimit ++ text "task x") .admission ≡ at 66 (taskLimit + 2))
 unfolding tasksOfOne textLoaded textForm readLines lineOf budgetLine taskLine numbersFault valueAfter allDigits same filled split text judged firstFaulty taskFault first round load horizon largest sum count
 many-lines = (refl, refl)
+
+-- ---- easing
+
+-- A longer period is no easing: table e passes, and with the second period 3 it is late at 4.
+abbrev slower-e : Table
+slower-e = tableOf (of 1 1 1 2 ∷ of 0 1 1 3 ∷ [])
+
+longer-period : (verdict table-e 1000 ≡ Verdict.Passes) × (verdict slower-e 1000 ≡ Verdict.Late 3 4 2) × (easing table-e slower-e ≡ Easing.Unmatched 1)
+unfolding easing searchedFrom verdict needed lateStart lateAt first last round load horizon largest sum count demand jobsIn
+longer-period = (refl, refl, refl)
+
+-- A longer deadline is an easing, but no lowering, and its task may become slower: with 3 for 1 task 0 has slot 1, and no more slot 0.
+abbrev pub two-due : ℕ → Table
+two-due d = tableOf (of 0 1 d 4 ∷ of 0 1 2 4 ∷ [])
+
+longer-deadline : (easing (two-due 1) (two-due 3) ≡ Easing.Kept 3) × (map (λ d. owner (two-due d) (tieOrder (two-due d)) 0) (1 ∷ 3 ∷ []) ≡ 0 ∷ 1 ∷ [])
+unfolding easing bits searchedFrom first sum count owner served ownerOf choose
+longer-deadline = (refl, refl)
+
+not-lowered : Lowered (two-due 1) (two-due 3) → ⊥
+not-lowered e = absurd (omega (arith, e .same-deadline 0 (lit< tt)))
+
+-- Of b: as it is; a cost lowered and a deadline made longer; each task alone; nothing may be higher, shorter, added or in another order.
+easings :
+    map (easing table-b) (
+    table-b ∷ tableOf (of 8 4 7 15 ∷ of 0 2 3 5 ∷ []) ∷ tableOf (of 8 5 7 15 ∷ []) ∷ tableOf (of 0 2 2 5 ∷ [])
+    ∷ table-c ∷ table-d ∷ tableOf (of 8 5 6 15 ∷ []) ∷ tableOf (of 8 5 7 15 ∷ of 0 1 1 5 ∷ []) ∷ tableOf (of 0 2 2 5 ∷ of 8 5 7 15 ∷ []) ∷ tableOf (of 8 5 7 15 ∷ of 0 2 2 5 ∷ of 0 2 2 5 ∷ []) ∷ []
+    )
+    ≡ Easing.Kept 3 ∷ Easing.Kept 3 ∷ Easing.Kept 1 ∷ Easing.Kept 2
+    ∷ Easing.Unmatched 0 ∷ Easing.Unmatched 0 ∷ Easing.Unmatched 0 ∷ Easing.Unmatched 1 ∷ Easing.Unmatched 1 ∷ Easing.Unmatched 2 ∷ []
+unfolding easing bits searchedFrom first sum count
+easings = refl
+
+-- Of several choices the first in order is told: of four tasks that differ in cost alone, the first that costs enough, behind the one before.
+abbrev four-alike : Table
+four-alike = tableOf (of 0 1 4 8 ∷ of 0 2 4 8 ∷ of 0 2 4 8 ∷ of 0 3 4 8 ∷ [])
+
+first-choices :
+    map (easing four-alike) (tableOf (of 0 1 4 8 ∷ of 0 2 4 8 ∷ []) ∷ tableOf (of 0 2 4 8 ∷ of 0 1 4 8 ∷ []) ∷ tableOf (of 0 1 4 8 ∷ of 0 3 4 8 ∷ []) ∷ [])
+    ≡ Easing.Kept 3 ∷ Easing.Kept 6 ∷ Easing.Kept 9 ∷ []
+unfolding easing bits searchedFrom first sum count
+first-choices = refl
+
+-- As numbers: 4 · set + 1 for an easing, 4 · task for none; the old file's refusal, with 2 added, comes before the new one's, with 3 added.
+eased-numbers :
+    (easedExported file-b file-b ≡ 13)
+    × (easedExported file-b file-g ≡ 0)
+    × (easedExported file-g file-b ≡ 0)
+    × (easedExported (9 ∷ []) [] ≡ 4 * 1376256 + 2)
+    × (easedExported file-b [] ≡ 4 * 1441792 + 3)
+    × (easedExported (budgetOf 1 ++ (3 ∷ [])) file-b ≡ 4 * 65536 + 2)
+unfolding easing bits searchedFrom loadedFrom formOf readFrom judged firstFaulty taskFault first round load horizon largest sum count
+eased-numbers = (refl, refl, refl, refl, refl, refl)

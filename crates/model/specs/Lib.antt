@@ -16,4 +16,5 @@ pub mod Report
 pub mod StateBuffer
 pub mod Writer
 pub mod PlainText
+pub mod Easing
 pub mod Examples

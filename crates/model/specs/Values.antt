@@ -10,6 +10,7 @@ pub use Rattle.values.specs.declared.Outcome.{Outcome}
 pub use Rattle.values.specs.declared.Answer.{Answer}
 pub use Rattle.values.specs.declared.QuickAnswer.{QuickAnswer}
 pub use Rattle.values.specs.declared.DistanceAnswer.{DistanceAnswer}
+pub use Rattle.values.specs.declared.Easing.{Easing}
 pub use Rattle.values.specs.declared.Admission.{Admission}
 pub use Rattle.values.specs.declared.Loaded.{Loaded}
 pub use Rattle.values.specs.declared.Writing.{Writing}

@@ -86,6 +86,13 @@ pub enum DistanceAnswer {
     NoAnswer,
 }
 
+// Whether one table is an easing of another: the first of its tasks that is none, or the tasks of the other that are kept, as a
+// set of bits.
+pub enum Easing {
+    Unmatched(u32),
+    Kept(u32),
+}
+
 // Whether a buffer, a file, or a table to start with, is taken.
 pub enum Admission {
     Refused(Refusal),
