@@ -19,7 +19,7 @@ use Rattle.counting.specs.Search.{first-from, first-le, first-before, first-pas
 use Rattle.counting.specs.Bits.{bits-at}
 
 -- The test of a task is the statement.
-eases-iff : (a b : Task) → T (eases a b) ↔ EasedTask a b
+pub eases-iff : (a b : Task) → T (eases a b) ↔ EasedTask a b
 eases-iff a b = (
   λ h. let w = simp and-iff at h in record { same-offset = omega tests; same-period = omega tests; lower-cost = omega tests; longer-deadline = omega tests },
   λ e. simp and-iff (eq→eqb _ _ (e .same-offset), (eq→eqb _ _ (e .same-period), (omega (tests, e .lower-cost), omega (tests, e .longer-deadline)))),
@@ -27,11 +27,11 @@ eases-iff a b = (
 
 module _ (before after : Table) where
   -- What is found stands where its search begins, or later.
-  from-le : (i : ℕ) → searchedFrom before after i ≤ keptAs before after i
+  pub from-le : (i : ℕ) → searchedFrom before after i ≤ keptAs before after i
   from-le i = first-from _ _ _
 
   -- The next search begins behind it, and so does every later one.
-  behind : (i k : ℕ) → i < k → keptAs before after i < searchedFrom before after k
+  pub behind : (i k : ℕ) → i < k → keptAs before after i < searchedFrom before after k
   unfolding searchedFrom
   behind i zero l = absurd (omega arith)
   behind i (suc k) l = elim (ℕ-discrete i k) [ yes e ↦ rw e (le-refl _) | no n ↦ omega (arith, behind i k (omega arith), from-le k) ]

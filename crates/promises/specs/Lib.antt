@@ -9,5 +9,6 @@ pub mod PlainText
 pub mod FileNumbers
 pub mod QuickTests
 pub mod DistanceTest
+pub mod Easing
 pub mod Engines
 pub mod Ties
