@@ -15,7 +15,7 @@ use Rattle.model.specs.Notation.{bit, some}
 use Rattle.model.specs.Tasks.{task}
 use Rattle.model.specs.Easing.{EasedTask, Eased, eases, searchedFrom, keptAs, unmatched, keptSet, easing, firstTasks}
 use Rattle.counting.specs.Count.{tests, and-iff, eq→eqb}
-use Rattle.counting.specs.Search.{first-from, first-le, first-before, first-passes}
+use Rattle.counting.specs.Search.{first-from, first-before, first-passes}
 use Rattle.counting.specs.Bits.{bits-at}
 
 -- The test of a task is the statement.

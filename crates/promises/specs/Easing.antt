@@ -26,7 +26,7 @@ use Rattle.model.specs.Dispatcher.{startOf, ownerNow, after}
 use Rattle.model.specs.History.{stateAt}
 use Rattle.model.specs.TableFile.{loadedFrom}
 use Rattle.model.specs.Report.{refusalNumber}
-use Rattle.model.specs.Easing.{Eased, Lowered, easing, firstTasks, easingNumber, easedNumber, easedExported}
+use Rattle.model.specs.Easing.{Eased, Lowered, easing, firstTasks, easedNumber, easedExported}
 use Rattle.model.specs.Examples.{two-due}
 use Rattle.wellformed.specs.WellFormed.{well-formed}
 use Rattle.backlog.specs.Eased.{eased-passes, eased-again, eased-of-lowered}

@@ -1,11 +1,12 @@
-// The exported calls: the check of a table file into a report buffer, the quick test and the distance test of one, the writer of
-// one, texts, and the start and the step of a camera's own loop.
+// The exported calls: the check of a table file into a report buffer, the quick test and the distance test of one, whether one is an
+// easing of another, the writer of one, texts, and the start and the step of a camera's own loop.
 ghost use mathlib.Core.Path.{_≡_};
 ghost use mathlib.Core.Bool.{not};
 ghost use Prim.Native.Nat.{_+_, _*_, _<_, _≤_, min};
 ghost use lib.Dec.{eqb};
 ghost use lib.ListN.{length};
 ghost use Rattle.model.specs.Limits.{taskLimit, reportBytes};
+ghost use Rattle.values.specs.declared.Admission.{Admission};
 ghost use Rattle.model.specs.Verdict.{Permitted};
 ghost use Rattle.model.specs.TableFile.{loadedFrom};
 ghost use Rattle.model.specs.Dispatcher.{started, stepped};
@@ -13,6 +14,7 @@ ghost use Rattle.model.specs.Report.{quickNumber, quickExported, distanceNumber
 ghost use Rattle.model.specs.StateBuffer.{stateBytes, stateIn, quiet, startWritten, stepWritten, startExported, stepExported};
 ghost use Rattle.model.specs.Writer.{writeExported};
 ghost use Rattle.model.specs.PlainText.{fromTextExported, toTextExported};
+ghost use Rattle.model.specs.Easing.{easingNumber, easedNumber, easedExported};
 ghost use Rattle.report.specs.Put.{exported};
 ghost use Rattle.yolizadwa.specs.Outcomes.{FileExported, exportOf, ToldAs};
 use dispatch::Dispatcher;
@@ -20,6 +22,7 @@ use slots::NO_TASK;
 use values::Admission;
 use values::Answer;
 use values::DistanceAnswer;
+use values::Easing;
 use values::Given;
 use values::Outcome;
 use values::QuickAnswer;
@@ -39,6 +42,10 @@ const BROKEN_ROWS: u32 = 51;
 const STRANGE_ROW: u32 = 52;
 
 const LARGEST_PLACE: usize = 65535;
+
+const OLD_REFUSED: u64 = 2;
+
+const NEW_REFUSED: u64 = 3;
 
 fn refused(why: Refusal) -> u64
     ensures { λ r. ⌜ r ≡ 65536 * why .number + why .place ⌝ }
@@ -172,6 +179,54 @@ pub extern "C" fn yolizadwa_distance(file: &[u8]) -> u64
         Admission::Admitted => {
             let table = form.table;
             distance_number(distance::test(table))
+        }
+    }
+}
+
+// What is told of one of two files by its refusal: `which` is a remainder by 4.
+fn refused_file(why: Refusal, which: u64) -> u64
+    requires { ⌜ which < 4 ⌝ }
+    ensures { λ r. ⌜ r ≡ 4 * (65536 * why .number + why .place) + which ⌝ }
+{
+    4 * refused(why) + which
+}
+
+fn easing_number(told: Easing) -> u64
+    ensures { λ r. ⌜ r ≡ easingNumber told ⌝ }
+{
+    match told {
+        Easing::Unmatched(task) => 4 * (task as u64),
+        Easing::Kept(tasks) => 4 * (tasks as u64) + 1,
+    }
+}
+
+fn eased_from(table: Table, new: &[u8]) -> u64
+    requires { ⌜ table .count ≤ taskLimit ⌝ }
+    ensures { λ r. ⌜ r ≡ easedNumber table (loadedFrom (now (new .entry)) .table) Admission.Admitted (loadedFrom (now (new .entry)) .admission) ⌝ }
+{
+    let loaded = tablefile::load(new);
+    let admission = loaded.admission;
+    match admission {
+        Admission::Refused(why) => refused_file(why, NEW_REFUSED),
+        Admission::Admitted => {
+            let eased = loaded.table;
+            easing_number(easing::compare(table, eased))
+        }
+    }
+}
+
+// Any two files: all that is wrong with the old one comes before what is wrong with the new one.
+#[no_mangle]
+pub extern "C" fn yolizadwa_eased(old: &[u8], new: &[u8]) -> u64
+    ensures { λ r. ⌜ r ≡ easedExported (now (old .entry)) (now (new .entry)) ⌝ }
+{
+    let loaded = tablefile::load(old);
+    let admission = loaded.admission;
+    match admission {
+        Admission::Refused(why) => refused_file(why, OLD_REFUSED),
+        Admission::Admitted => {
+            let table = loaded.table;
+            eased_from(table, new)
         }
     }
 }
