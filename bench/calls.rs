@@ -19,6 +19,7 @@ extern "C" {
     fn yolizadwa_check_plainly(file: *const u8, file_len: usize, report: *mut u8, report_len: usize) -> u64;
     fn yolizadwa_quick(file: *const u8, file_len: usize) -> u64;
     fn yolizadwa_distance(file: *const u8, file_len: usize) -> u64;
+    fn yolizadwa_eased(before: *const u8, before_len: usize, after: *const u8, after_len: usize) -> u64;
     fn yolizadwa_start(file: *const u8, file_len: usize, state: *mut u8, state_len: usize) -> u64;
     fn yolizadwa_step(file: *const u8, file_len: usize, state: *mut u8, state_len: usize, done: u32) -> u64;
 }
@@ -40,6 +41,10 @@ pub fn quick(file: &[u8]) -> u64 {
 
 pub fn distance(file: &[u8]) -> u64 {
     unsafe { yolizadwa_distance(file.as_ptr(), file.len()) }
+}
+
+pub fn eased(before: &[u8], after: &[u8]) -> u64 {
+    unsafe { yolizadwa_eased(before.as_ptr(), before.len(), after.as_ptr(), after.len()) }
 }
 
 pub fn start(file: &[u8], state: &mut [u8; STATE_BYTES]) -> u64 {

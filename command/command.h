@@ -61,6 +61,7 @@ uint64_t budget_of(const struct table *table);
 void replace_budget(struct table *table, uint64_t budget);
 void lighten(struct table *table);
 void overload(struct table *table);
+void keep_first(struct table *table, unsigned tasks);
 unsigned task_count(const struct table *table);
 struct task task_at(const struct table *table, unsigned number);
 
@@ -85,6 +86,7 @@ void print_job(const struct job *job, int columns);
 int judge(const struct request *request);
 int quick(const struct request *request);
 int distance(const struct request *request);
+int eased(const struct request *request);
 int make(const struct request *request);
 int show(const struct request *request);
 int run(const struct request *request);

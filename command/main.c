@@ -28,6 +28,7 @@ static const struct word words[] = {
     {"judge", "judge FILE [--all] [--plainly]", 1, {"--all", "--plainly"}, judge},
     {"quick", "quick FILE", 1, {NULL, NULL}, quick},
     {"distance", "distance FILE", 1, {NULL, NULL}, distance},
+    {"eased", "eased OLD NEW", 2, {NULL, NULL}, eased},
     {"run", "run FILE [--slots N] [--early]", 1, {"--slots", "--early"}, run},
     {"show", "show FILE", 1, {NULL, NULL}, show},
     {"make", "make TEXT FILE", 2, {NULL, NULL}, make},
@@ -134,7 +135,7 @@ static int help(const char *word)
     if (print_page(stdout, word)) {
         return DONE;
     }
-    return trouble("no help for %s; there is help for judge, quick, distance, run, show, make and text", word);
+    return trouble("no help for %s; there is help for judge, quick, distance, eased, run, show, make and text", word);
 }
 
 static int version(void)
@@ -165,7 +166,7 @@ static int obey(char **arguments)
     if (strcmp(first, "--version") == 0) {
         return arguments[1] != NULL ? too_many(arguments[1]) : version();
     }
-    return trouble("%s is none of judge, quick, distance, run, show, make, help; to judge a table: yolizadwa judge FILE", first);
+    return trouble("%s is none of judge, quick, distance, eased, run, show, make, help; to judge a table: yolizadwa judge FILE", first);
 }
 
 int main(int argc, char **argv)

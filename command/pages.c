@@ -13,6 +13,7 @@ static const char usage[] =
     "  yolizadwa judge FILE [--all] [--plainly]   whether every job is in time\n"
     "  yolizadwa quick FILE                       an answer at once, or none\n"
     "  yolizadwa distance FILE                    an answer by the offsets, or none\n"
+    "  yolizadwa eased OLD NEW                    whether NEW needs a new test\n"
     "  yolizadwa run FILE [--slots N] [--early]   a chart of who has each slot\n"
     "  yolizadwa show FILE                        the table as plain text\n"
     "  yolizadwa make TEXT FILE                   the table file of a text\n"
@@ -69,6 +70,22 @@ static const char page_distance[] =
     "Ends with 0 if the answer is pass, 3 on overload, 4 if there is no answer, 2 if\n"
     "the table is refused.\n";
 
+static const char page_eased[] =
+    "yolizadwa eased OLD NEW\n"
+    "\n"
+    "Tells whether the table NEW is an easing of the table OLD: whether it is OLD\n"
+    "with costs lowered, deadlines made longer, tasks left out, or several of these.\n"
+    "Offsets, periods and the order of the tasks stay. eased yes: if OLD passes, so\n"
+    "does NEW with any budget that reaches its horizon, and needs no new test. It\n"
+    "says which task was which, and what was lowered or lengthened; of several ways\n"
+    "the first in order. If costs alone are lower, no worst response grows; a longer\n"
+    "deadline may make one grow. eased no: the first task of NEW that is none of\n"
+    "OLD's, and the number that stands in the way; judge tells whether NEW passes.\n"
+    "No budget counts, and whether OLD passes is not looked at. One of the two may\n"
+    "be - for standard input.\n"
+    "\n"
+    "Ends with 0 if the answer is yes, 4 if it is no, 2 if a table is refused.\n";
+
 static const char page_run[] =
     "yolizadwa run FILE [--slots N] [--early]\n"
     "\n"
@@ -124,7 +141,7 @@ static const char page_text[] =
     "  budget     from 1; the horizon is enough; 2,000,000,060,000 is for every table\n";
 
 static const struct page pages[] = {
-    {"judge", page_judge}, {"quick", page_quick}, {"distance", page_distance}, {"run", page_run},
+    {"judge", page_judge}, {"quick", page_quick}, {"distance", page_distance}, {"eased", page_eased}, {"run", page_run},
     {"show", page_show},   {"make", page_make},   {"text", page_text},         {"help", usage},
 };
 

@@ -91,6 +91,13 @@ void overload(struct table *table)
     }
 }
 
+/* Without the tasks from this one on; at least one stays. */
+void keep_first(struct table *table, unsigned tasks)
+{
+    table->len = TASKS_AT + TASK_BYTES * (size_t)tasks + 1;
+    table->file[table->len - 1] = YOLIZADWA_KIND_END;
+}
+
 unsigned task_count(const struct table *table)
 {
     return (unsigned)((table->len - TASKS_AT) / TASK_BYTES);

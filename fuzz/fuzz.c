@@ -148,6 +148,18 @@ static void try_file(const uint8_t *bytes, size_t len, const uint8_t *more, size
         if (d == 1) HOLDS(!strstr((char *)text, "verdict late\n"));
     }
 
+    // a table is an easing of itself, with every task kept; of any bytes as the other file no number means two things
+    uint64_t self = yolizadwa_eased(file, len, file, len);
+    if (r >= REFUSED) HOLDS(self == 4 * r + YOLIZADWA_OLD_REFUSED);
+    else HOLDS(self == 4 * ((UINT64_C(1) << (len - 10) / 17) - 1) + YOLIZADWA_EASED);
+    uint8_t *other = block(more_len, 0);
+    memcpy(other, more, more_len);
+    uint64_t to = yolizadwa_eased(file, len, other, more_len), from = yolizadwa_eased(other, more_len, file, len);
+    HOLDS((yolizadwa_eased_case(to) == YOLIZADWA_OLD_REFUSED) == (r >= REFUSED));
+    if (yolizadwa_eased_case(to) == YOLIZADWA_NEW_REFUSED) HOLDS(from == to - YOLIZADWA_NEW_REFUSED + YOLIZADWA_OLD_REFUSED);
+    HOLDS(memcmp(other, more, more_len) == 0);
+    free(other);
+
     size_t strange = more_len ? more[0] : STATE - 1;
     uint8_t *odd = block(strange, 0x5a);
     if (strange != STATE) {

@@ -1,7 +1,7 @@
 /*
  * Yolizadwa for C (from C99 on) and C++: judge a table of tasks, then give out time slot by slot.
  *
- * Nine calls, in the static library that `rt staticlib yolizadwa` writes for x86-64:
+ * Ten calls, in the static library that `rt staticlib yolizadwa` writes for x86-64:
  *
  *   yolizadwa_write          writes a table file from the numbers of its tasks
  *   yolizadwa_from_text      writes the table file of a table in plain text
@@ -10,13 +10,15 @@
  *   yolizadwa_check_plainly  does the same slot by slot
  *   yolizadwa_quick          judges it in short, with all tasks started at once: pass, or no answer
  *   yolizadwa_distance       judges it in short, with its offsets: pass, overload, or no answer
+ *   yolizadwa_eased          tells whether a table file is an easing of another one, and so needs no new test
  *   yolizadwa_start          makes the dispatcher's first state for a table file
  *   yolizadwa_step           gives out one slot and makes the next state
  *
- * What holds for all nine:
+ * What holds for all ten:
  *   - They keep nothing between calls, allocate nothing, and may run in several threads at once on different buffers.
  *   - Of the C library they need memcpy and memset alone. The host tests hold the stack of each call to 16 KiB.
  *   - A result below 65,536 is an answer. Any other is a refusal: 65,536 x number + place. A refusal changes no byte.
+ *     (yolizadwa_eased tells of two files, and has results of its own.)
  *   - No pointer may be NULL, not even with length 0.
  *   - What a call only reads (the const pointer: file, text or words) is read where it lies and never written, and must not
  *     overlap what the call writes. Words lie aligned, as a uint32_t does; nothing else needs to.
@@ -210,6 +212,40 @@ uint64_t yolizadwa_quick(const uint8_t *file, size_t file_len);
  * Refusals: 20 to 27; 1 and 3 to 7.
  */
 uint64_t yolizadwa_distance(const uint8_t *file, size_t file_len);
+
+/*
+ * Whether one table is an easing of another: whether it is that one with costs lowered, deadlines made longer, tasks left out, or
+ * several of these. Offsets, periods and the order of the tasks stay. `before` is the file of the old table, `after` that of the
+ * new one; both are only read, and may overlap.
+ *
+ * The result is 4 x value + case, told by the two functions below:
+ *
+ *   YOLIZADWA_EASED        an easing; value: the old table's tasks that are kept, as a set, bit i for task i. The kept ones, in
+ *                          their order, are the tasks 0, 1, .. of the new table.
+ *   YOLIZADWA_NOT_EASED    none; value: the first task of the new table that is none of the old ones eased, of those behind what
+ *                          the tasks before it were found to be
+ *   YOLIZADWA_OLD_REFUSED  value: the refusal of the old file, as the other calls return it
+ *   YOLIZADWA_NEW_REFUSED  value: the refusal of the new file; the old one has none
+ *
+ * If several sets of kept tasks would do, the first in order is told: each new task is taken for the first old one behind the
+ * last, of which it is the eased one; if there is any set at all, this finds one.
+ *
+ * An easing of a table that passes passes: a check of the new file, with any budget that reaches its horizon, says `verdict passes`.
+ * Whether the old table does is not looked at, and the budgets in the files play no part. With costs alone lowered no worst
+ * response grows; a longer deadline may make one grow. A longer period is no easing: with (1,1,1,2),(0,1,1,2), which passes, and the
+ * second period 3 a job is late.
+ *
+ * No slot is looked at: the time does not depend on the tables' rounds. Refusals, of either file: 20 to 27; 1 and 3 to 7.
+ */
+enum yolizadwa_easing {
+    YOLIZADWA_NOT_EASED = 0,
+    YOLIZADWA_EASED = 1,
+    YOLIZADWA_OLD_REFUSED = 2,
+    YOLIZADWA_NEW_REFUSED = 3
+};
+static inline uint32_t yolizadwa_eased_case(uint64_t result) { return (uint32_t)(result % 4); }
+static inline uint64_t yolizadwa_eased_value(uint64_t result) { return result / 4; }
+uint64_t yolizadwa_eased(const uint8_t *before, size_t before_len, const uint8_t *after, size_t after_len);
 
 /*
  * The dispatcher's state: 536 bytes, 68 little-endian words of 32 bits and then 33 of 64 bits. On x86-64 this struct is that

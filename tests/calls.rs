@@ -17,9 +17,10 @@ pub enum Call {
     Quick,
     Distance,
     CheckPlainly,
+    Eased,
 }
 
-pub const CALLS: [(Call, &str); 9] = [
+pub const CALLS: [(Call, &str); 10] = [
     (Call::Check, "check"),
     (Call::Start, "start"),
     (Call::Step, "step"),
@@ -29,6 +30,7 @@ pub const CALLS: [(Call, &str); 9] = [
     (Call::Quick, "quick"),
     (Call::Distance, "distance"),
     (Call::CheckPlainly, "check plainly"),
+    (Call::Eased, "eased"),
 ];
 
 #[derive(Clone, Debug)]
@@ -36,6 +38,7 @@ pub struct Request {
     pub call: Call,
     /// What is read: a file, a text, or to write the bytes of the words.
     pub file: Vec<u8>,
+    /// What is written, or the second file that is read, and then must stay.
     pub buffer: Vec<u8>,
     /// A step's done, the budget to write.
     pub number: u64,
@@ -78,6 +81,10 @@ impl Request {
 
     pub fn distance(file: Vec<u8>) -> Request {
         Request { call: Call::Distance, file, buffer: Vec::new(), number: 0 }
+    }
+
+    pub fn eased(old: Vec<u8>, new: Vec<u8>) -> Request {
+        Request { call: Call::Eased, file: old, buffer: new, number: 0 }
     }
 }
 

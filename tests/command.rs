@@ -2,6 +2,7 @@
 
 use crate::bench::Bench;
 use crate::document::B;
+use crate::easing;
 use crate::inputs::*;
 use crate::judge::fed;
 use crate::plain;
@@ -262,6 +263,21 @@ fn by_distance(bench: &mut Bench, tasks: &[Task], input: &[u8]) {
     bench.count(good, || format!("distance on {tasks:?}: {output:?}"));
 }
 
+/// The old table on standard input, the new one in a file; what each kept task was, or the first that is none.
+fn compared(bench: &mut Bench, old: &[Task], new: &[Task], input: &[u8]) {
+    const NEW: &str = "target/host/new.table";
+    std::fs::write(NEW, file_of(1, new)).expect("target/host can be written");
+    let output = asked(&["eased", "-", NEW], input);
+    let (text, told) = (said(&output), reference::eased(old, new));
+    let was = |line: &str| line.strip_prefix("task ")?.split_once(" was ")?.1.split_once(':')?.0.parse().ok();
+    let good = match &told {
+        Ok(kept) => text.starts_with("eased yes\n") && text.lines().filter_map(was).collect::<Vec<usize>>() == *kept,
+        Err(task) => text.starts_with(&format!("eased no\n\nno: task {task} is none of ")),
+    };
+    let status = if told.is_ok() { 0 } else { 4 };
+    bench.count(good && output.status.code() == Some(status), || format!("eased on {old:?} and {new:?}: {output:?}"));
+}
+
 fn made_and_shown(bench: &mut Bench, tasks: &[Task], budget: u64, text: &str) {
     let made = asked(&["make", "-", "-"], text.as_bytes());
     let file = file_of(budget, tasks);
@@ -297,6 +313,10 @@ pub fn at_random(bench: &mut Bench, rng: &mut Rng) {
         quickly(bench, &tasks, other);
         by_distance(bench, &tasks, one);
         charted(bench, rng, &tasks, other);
+        let new = easing::changed(rng, &tasks);
+        if reference::judge(&new).is_ok() {
+            compared(bench, &tasks, &new, one);
+        }
         made_and_shown(bench, &tasks, budget, &text);
     }
     (0..REFUSED).for_each(|_| refused(bench, rng));

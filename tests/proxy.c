@@ -137,3 +137,17 @@ uint64_t yolizadwa_distance(const uint8_t *file, size_t file_len)
     uint8_t nothing = 0;
     return forward(DISTANCE, file, file_len, &nothing, 0, 0);
 }
+
+/* From a copy, since the bridge hands every buffer back. */
+uint64_t yolizadwa_eased(const uint8_t *before, size_t before_len, const uint8_t *after, size_t after_len)
+{
+    uint8_t *copy = malloc(after_len + 1);
+    uint64_t result;
+    if (copy == NULL) {
+        fail("no memory");
+    }
+    memcpy(copy, after, after_len);
+    result = forward(EASED, before, before_len, copy, after_len, 0);
+    free(copy);
+    return result;
+}

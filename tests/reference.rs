@@ -416,6 +416,68 @@ pub fn by_distance(tasks: &[Task]) -> u64 {
     by_distance_within(tasks, u64::MAX).expect("each run is caught up within a round")
 }
 
+// What may be eased.
+
+/// Released as before, a cost that is no higher, a deadline that is no shorter.
+pub fn task_eased(old: &Task, new: &Task) -> bool {
+    (new.offset, new.period) == (old.offset, old.period) && new.cost <= old.cost && new.deadline >= old.deadline
+}
+
+/// Of every part of the old tasks and the new ones, both from some task on, whether the new ones are an easing; from the ends back.
+fn rest_eased(old: &[Task], new: &[Task]) -> Vec<Vec<bool>> {
+    let mut eased = vec![vec![false; new.len() + 1]; old.len() + 1];
+    eased.iter_mut().for_each(|row| row[new.len()] = true);
+    for was in (0..old.len()).rev() {
+        for is in (0..new.len()).rev() {
+            eased[was][is] = eased[was + 1][is] || task_eased(&old[was], &new[is]) && eased[was + 1][is + 1];
+        }
+    }
+    eased
+}
+
+/// The old tasks that are kept, of several choices the first in order; or the first new task that none is left for.
+pub fn eased(old: &[Task], new: &[Task]) -> Result<Vec<usize>, usize> {
+    if let Some(stranger) = (0..new.len()).find(|&last| !rest_eased(old, &new[..=last])[0][0]) {
+        return Err(stranger);
+    }
+    let (rest, mut kept) = (rest_eased(old, new), Vec::new());
+    for (was, task) in old.iter().enumerate() {
+        let is = kept.len();
+        if is < new.len() && task_eased(task, &new[is]) && rest[was + 1][is + 1] {
+            kept.push(was);
+        }
+    }
+    Ok(kept)
+}
+
+/// The same by the definition: every choice of kept tasks is looked at. For small tables only.
+pub fn eased_by_definition(old: &[Task], new: &[Task]) -> Result<Vec<usize>, usize> {
+    let chosen = |set: u32| (0..old.len()).filter(|task| set >> task & 1 == 1).collect::<Vec<usize>>();
+    let choices: Vec<Vec<usize>> = (0..1 << old.len()).map(chosen).collect();
+    let of_first = |count: usize| {
+        let fits =
+            |kept: &&Vec<usize>| kept.len() == count && kept.iter().zip(new).all(|(&was, is)| task_eased(&old[was], is));
+        choices.iter().filter(fits).min().cloned()
+    };
+    match (0..new.len()).find(|&last| of_first(last + 1).is_none()) {
+        Some(stranger) => Err(stranger),
+        None => Ok(of_first(new.len()).unwrap()),
+    }
+}
+
+/// 4 x task, 4 x set + 1, or a file's refusal: 4 x refusal + 2 of the old one, + 3 of the new one.
+fn eased_files(request: &Request) -> u64 {
+    let table = |file: &[u8]| read_file(file).and_then(|(_, tasks)| judge(&tasks).map(|()| tasks));
+    match (table(&request.file), table(&request.buffer)) {
+        (Err(refusal), _) => 4 * refusal.result() + 2,
+        (_, Err(refusal)) => 4 * refusal.result() + 3,
+        (Ok(old), Ok(new)) => match eased(&old, &new) {
+            Ok(kept) => 4 * kept.iter().map(|task| 1 << task).sum::<u64>() + 1,
+            Err(stranger) => 4 * stranger as u64,
+        },
+    }
+}
+
 // The verdict.
 
 #[derive(Clone, PartialEq, Eq, Debug)]
@@ -691,6 +753,7 @@ fn answered(request: &Request) -> Result<(u64, Vec<u8>), Refusal> {
         }
         Call::Quick => Ok((u64::from(quick(&read_table(request)?.1)), Vec::new())),
         Call::Distance => Ok((by_distance(&read_table(request)?.1), Vec::new())),
+        Call::Eased => Ok((eased_files(request), Vec::new())),
     }
 }
 

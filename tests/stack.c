@@ -49,6 +49,7 @@ uint64_t plain_call(uint32_t call, const uint8_t *file, size_t file_len, uint8_t
     case TO_TEXT: return yolizadwa_to_text(file, file_len, buffer, buffer_len);
     case QUICK: return yolizadwa_quick(file, file_len);
     case DISTANCE: return yolizadwa_distance(file, file_len);
+    case EASED: return yolizadwa_eased(file, file_len, buffer, buffer_len);
     default: return yolizadwa_check_plainly(file, file_len, buffer, buffer_len);
     }
 }

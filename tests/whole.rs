@@ -73,12 +73,18 @@ pub fn stack(bench: &mut Bench) {
     deepest(bench, "check plainly", &checks.into_iter().map(Request::plainly).collect::<Vec<_>>());
     deepest(bench, "quick", &files.iter().cloned().map(Request::quick).collect::<Vec<_>>());
     deepest(bench, "distance", &files.iter().cloned().map(Request::distance).collect::<Vec<_>>());
+    deepest(bench, "eased", &hard_pairs(&files));
     deepest(bench, "start", &starts);
     deepest(bench, "step", &steps);
     deepest(bench, "write", &writes);
     deepest(bench, "from text", &hard_texts());
     deepest(bench, "to text", &files.into_iter().map(Request::to_text).collect::<Vec<_>>());
     bench.end_group("stack of each call, on the hardest inputs");
+}
+
+/// Each hard file as the old one of each.
+fn hard_pairs(files: &[Vec<u8>]) -> Vec<Request> {
+    files.iter().flat_map(|old| files.iter().map(|new| Request::eased(old.clone(), new.clone()))).collect()
 }
 
 /// From the start, from a state with every job at its deadline, from one that is refused.

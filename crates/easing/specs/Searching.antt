@@ -56,17 +56,17 @@ module _ (before after : Table) where
     kept-below : {k : ℕ} → k ≡ keptAs before after i → kept ≡ bits (foundBy before after i) k
     kept-below e = past (omega (arith, from-le before after i, s .from-is))
 
-    pub kept-lt : {k : ℕ} → k ≡ keptAs before after i → kept < 2 ^ k
-    kept-lt {k} e = rw (kept-below e) (bits-lt (foundBy before after i) k)
+    pub kept-lt : {k x : ℕ} → k ≡ keptAs before after i → x ≡ k → kept < 2 ^ x
+    kept-lt {k} e same = rw (same, kept-below e) (bits-lt (foundBy before after i) k)
 
     -- A turn.
-    pub turn : {k more : ℕ} → k ≡ keptAs before after i → k < before .count → more ≡ kept + 2 ^ k → Searching before after (i + 1) more (k + 1)
+    pub turn : {k more next : ℕ} → k ≡ keptAs before after i → k < before .count → more ≡ kept + 2 ^ k → next ≡ k + 1 → Searching before after (i + 1) more next
     unfolding searchedFrom
-    turn {k} {more} e l m = record {
+    turn {k} {more} e l m behind-it = record {
       from-is = rw (add-one i) (omega arith);
       within = omega arith;
       all = below-more (λ (j : ℕ). keptAs before after j < before .count) i (s .all) (omega arith);
-      kept-is = bits-more (foundBy before after (i + 1)) k (kept-below e ∙ bits-eq (foundBy before after i) (foundBy before after (i + 1)) k same) (rw (bit-yes (foundBy before after (i + 1) k) here) (omega arith));
+      kept-is = rw behind-it (bits-more (foundBy before after (i + 1)) k (kept-below e ∙ bits-eq (foundBy before after i) (foundBy before after (i + 1)) k same) (rw (bit-yes (foundBy before after (i + 1) k) here) (omega arith)));
     }
       where
         here : T (foundBy before after (i + 1) k)

@@ -2,7 +2,7 @@
 -- fewer tasks, all of that together too, given a budget that reaches the new horizon; with costs alone lowered no worst response grows.
 use mathlib.Core.Path.{_≡_, refl, sym, ap, subst, _∙_}
 use mathlib.Core.Logic.{_⊎_, inl, inr, _↔_}
-use mathlib.Core.List.{List}
+use mathlib.Core.List.{List, [], _∷_}
 use Prim.Native.Nat.{ℕ, zero, suc, _+_, _*_, _/_, _%_, _^_, _≤_, _<_}
 use native.Mathlib.Omega.{arith}
 use lib.Dec.{eqb, lit≤}
@@ -24,10 +24,10 @@ use Rattle.model.specs.Idle.{idleAt, firstIdle}
 use Rattle.model.specs.Verdict.{needed, lateStart, verdict, settledBy, Permitted}
 use Rattle.model.specs.Dispatcher.{startOf, ownerNow, after}
 use Rattle.model.specs.History.{stateAt}
-use Rattle.model.specs.TableFile.{loadedFrom}
+use Rattle.model.specs.TableFile.{tableOf, loadedFrom}
 use Rattle.model.specs.Report.{refusalNumber}
 use Rattle.model.specs.Easing.{Eased, Lowered, easing, firstTasks, easedNumber, easedExported}
-use Rattle.model.specs.Examples.{two-due}
+use Rattle.model.specs.Examples.{of, table-e, two-due}
 use Rattle.wellformed.specs.WellFormed.{well-formed}
 use Rattle.backlog.specs.Eased.{eased-passes, eased-again, eased-of-lowered}
 use Rattle.backlog.specs.FirstChoice.{Told, first-choice, eased-told}
@@ -48,11 +48,13 @@ lowering-eases = eased-of-lowered
 
 module _ (before after : Table) (m n : Measure) (well : judged before ≡ Judgement.WellFormed m) (well-after : judged after ≡ Judgement.WellFormed n) where
   -- If a table passes, with whatever budget, so does every well-formed table eased from it, with every budget that reaches its horizon.
-  pub easing-is-safe : Eased before after → (budget budget' : ℕ) → verdict before budget ≡ Verdict.Passes → horizon after ≤ budget' → verdict after budget' ≡ Verdict.Passes
+  pub easing-is-safe : Eased before after → (budget budget' : ℕ)
+      → verdict before budget ≡ Verdict.Passes → horizon after ≤ budget' → verdict after budget' ≡ Verdict.Passes
   easing-is-safe e = eased-passes before after e (well-formed before m well .ranged) (well-formed after n well-after .ranged)
 
   -- With costs alone lowered no worst response grows.
-  pub lowering-slows-none : Lowered before after → (i w w' : ℕ) → i < before .count → Worst before (tieOrder before) i w → Worst after (tieOrder after) i w' → w' ≤ w
+  pub lowering-slows-none : Lowered before after → (i w w' : ℕ) → i < before .count
+      → Worst before (tieOrder before) i w → Worst after (tieOrder after) i w' → w' ≤ w
   lowering-slows-none e = lowered-worst before after (well-formed before m well .ranged) (well-formed after n well-after .ranged) e _ _ (λ i l. e .each i l .same-period)
 
   -- So none that is reported grows.
@@ -64,8 +66,16 @@ module _ (before after : Table) (m n : Measure) (well : judged before ≡ Judgem
       let (v', w', u') = passed-exactly after budget' a' p' o' in
       lowering-slows-none e i (getD (a .worst) i 0) (getD (a' .worst) i 0) l (w .worst i l) (w' .worst i (omega (arith, e .same-count)))
 
--- Longer deadlines may slow a task: of these two tables, of which the second is the first with one deadline longer, the worst response of task 0 grows from 1 to 2.
-pub longer-deadline-slows : Eased (two-due 1) (two-due 3) × ((a a' : Answer) → Permitted (two-due 1) 8 a → Permitted (two-due 3) 8 a' → (getD (a .worst) 0 0 ≡ 1) × (getD (a' .worst) 0 0 ≡ 2))
+-- A longer period is no easing: document 02's table passes, and with the second period 3 it is late at 4.
+pub longer-period-late :
+    (verdict table-e 1000 ≡ Verdict.Passes) × (verdict (tableOf (of 1 1 1 2 ∷ of 0 1 1 3 ∷ [])) 1000 ≡ Verdict.Late 3 4 2)
+unfolding verdict needed lateStart lateAt first last round load horizon largest sum count demand jobsIn
+longer-period-late = (refl, refl)
+
+-- Longer deadlines may slow a task: with deadline 3 for 1, and else the same table, the worst response of task 0 grows from 1 to 2.
+pub longer-deadline-slows :
+    Eased (two-due 1) (two-due 3)
+    × ((a a' : Answer) → Permitted (two-due 1) 8 a → Permitted (two-due 3) 8 a' → (getD (a .worst) 0 0 ≡ 1) × (getD (a' .worst) 0 0 ≡ 2))
 unfolding answerOf judged firstFaulty taskFault first last round load horizon largest sum count verdict settledBy needed lateStart lateAt demand jobsIn worstBy stateAt startOf after ownerNow choose fill firstIdle idleAt ownerOf served
 longer-deadline-slows = (
   record {
@@ -95,7 +105,8 @@ module _ (before after : Table) where
   kept-exactly set e = subst (Told before after) e (first-choice before after)
 
   -- The task that is told to be none is the first: the tasks before it are an easing, and with it they are not.
-  pub unmatched-exactly : (i : ℕ) → easing before after ≡ Easing.Unmatched i → (i < after .count) × Eased before (firstTasks after i) × (Eased before (firstTasks after (suc i)) → ⊥)
+  pub unmatched-exactly : (i : ℕ) → easing before after ≡ Easing.Unmatched i
+      → (i < after .count) × Eased before (firstTasks after i) × (Eased before (firstTasks after (suc i)) → ⊥)
   unmatched-exactly i e = subst (Told before after) e (first-choice before after)
 
 -- The exported call has one result for every old and new file.
@@ -127,15 +138,21 @@ eased-means old new = go (loadedFrom old .admission) (loadedFrom new .admission)
     go Admission.Admitted Admission.Admitted p q h g (Easing.Unmatched i) e = let v : (4 * i) / 4 ≡ i = omega arith in rw e (inl (omega arith, p, q, rw v refl))
     go Admission.Admitted Admission.Admitted p q h g (Easing.Kept set) e = let v : (4 * set + 1) / 4 ≡ set = omega arith in rw e (inr (inl (omega arith, p, q, rw v refl)))
 
--- So where it says that the new file's table is an easing of the old one's, and that one passed, the new one needs no test.
-pub eased-files-pass : (old new : List ℕ) → easedExported old new % 4 ≡ 1 → (budget budget' : ℕ) → verdict (loadedFrom old .table) budget ≡ Verdict.Passes → horizon (loadedFrom new .table) ≤ budget' → verdict (loadedFrom new .table) budget' ≡ Verdict.Passes
-eased-files-pass old new one = go (eased-means old new)
+-- Where it says that the new file's table is an easing of the old one's, it is one.
+told-eased : (old new : List ℕ) → easedExported old new % 4 ≡ 1 → Read old × Read new × Eased (loadedFrom old .table) (loadedFrom new .table)
+told-eased old new one = go (eased-means old new)
   where
-    go : EasedMeans old new (easedExported old new % 4) (easedExported old new / 4) → (budget budget' : ℕ) → verdict (loadedFrom old .table) budget ≡ Verdict.Passes → horizon (loadedFrom new .table) ≤ budget' → verdict (loadedFrom new .table) budget' ≡ Verdict.Passes
+    go : EasedMeans old new (easedExported old new % 4) (easedExported old new / 4) → Read old × Read new × Eased (loadedFrom old .table) (loadedFrom new .table)
     go (inl x) = absurd (omega (arith, x .0))
+    go (inr (inl (r, p, q, e))) = (p, q, easing-exactly (loadedFrom old .table) (loadedFrom new .table) .0 (_, e))
     go (inr (inr (inl x))) = absurd (omega (arith, x .0))
     go (inr (inr (inr x))) = absurd (omega (arith, x .0))
-    go (inr (inl (r, p, q, e))) =
-        let (m, well) = well-table old refl p in
-        let (n, well-after) = well-table new refl q in
-        easing-is-safe (loadedFrom old .table) (loadedFrom new .table) m n well well-after (easing-exactly (loadedFrom old .table) (loadedFrom new .table) .0 (_, e))
+
+-- So if the old one passes, the new one needs no test.
+pub eased-files-pass : (old new : List ℕ) → easedExported old new % 4 ≡ 1 → (budget budget' : ℕ)
+    → verdict (loadedFrom old .table) budget ≡ Verdict.Passes → horizon (loadedFrom new .table) ≤ budget' → verdict (loadedFrom new .table) budget' ≡ Verdict.Passes
+eased-files-pass old new one =
+    let (p, q, e) = told-eased old new one in
+    let (m, well) = well-table old refl p in
+    let (n, well-after) = well-table new refl q in
+    easing-is-safe (loadedFrom old .table) (loadedFrom new .table) m n well well-after e

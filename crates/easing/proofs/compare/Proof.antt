@@ -36,12 +36,12 @@ cast-t15 c = omega (arith, c .before .before .before .before .before .pre)
 returns : tie.Need-returns Inv-loop μ-loop
 returns c =
     let a = c .before .before .before .before in
-    sym (ended-none (a .before .args .old) (a .before .args .t2) (a .loop .inv .3) (found (c .before)) (c .before .before .before .loop-test .taken) (c .if1 .taken))
+    sym (ended-none (a .before .args .old) (a .before .args .t2) (a .loop .inv .3) (found (c .before)) (c .before .before .before .loop-test .taken) (omega (arith, c .if1 .taken)))
 
 with-task-requires : tie.Need-with-task-requires Inv-loop μ-loop
 with-task-requires c κs =
     let a = c .before .before .before .before in
-    (omega (arith, a .before .pre .0, c .if1 .left), kept-lt (a .before .args .old) (a .before .args .t2) (a .loop .inv .3) (found (c .before)))
+    (omega (arith, a .before .pre .0, c .if1 .left), kept-lt (a .before .args .old) (a .before .args .t2) (a .loop .inv .3) (found (c .before)) (omega arith))
 
 add-from : tie.Need-add-from Inv-loop μ-loop
 add-from c = omega (arith, c .before .before .before .before .before .before .pre .0, c .before .if1 .left)
@@ -55,7 +55,7 @@ loop-less c = search needs
 loop-again : tie.Need-loop-again Inv-loop μ-loop
 loop-again c =
     let a = c .before .before .before .before .before in
-    (refl, refl, omega arith, turn (a .before .args .old) (a .before .args .t2) (a .loop .inv .3) (found (c .before .before)) (c .before .if1 .left) (c .with-task .ensures))
+    (refl, refl, omega arith, turn (a .before .args .old) (a .before .args .t2) (a .loop .inv .3) (found (c .before .before)) (c .before .if1 .left) (c .with-task .ensures) (omega arith))
 
 returns-2 : tie.Need-returns-2 Inv-loop μ-loop
 returns-2 c =
