@@ -178,7 +178,7 @@ static void print_accounts(const struct chart *chart)
 {
     char whose[12];
     int wide = columns_for(chart->slots) > 5 ? columns_for(chart->slots) : 5;
-    printf("\nwho had the slots from 0 to %lu:\n   task  %*s    share\n", chart->slots, wide, "slots");
+    printf("\nwho had the slots, %lu in all:\n   task  %*s    share\n", chart->slots, wide, "slots");
     for (unsigned number = 0; number < chart->tasks; number++) {
         snprintf(whose, sizeof whose, "%u", number);
         print_share(whose, chart->ended.given[number], chart->slots, wide);

@@ -18,26 +18,34 @@ static int say_change(const char *name, uint64_t was, uint64_t is, int others)
 
 static void say_kept(unsigned now, const struct task *is, unsigned then, const struct task *was)
 {
-    printf("task %u was %u:", now, then);
+    printf("task %u was old task %u:", now, then);
     int changes = say_change("cost", was->cost, is->cost, 0);
     changes = say_change("deadline", was->deadline, is->deadline, changes);
-    puts(changes == 0 ? " as it was" : "");
+    puts(changes == 0 ? " unchanged" : "");
 }
 
-static int costs_alone(const struct table *before, const struct table *after)
+/* How many costs of an easing are lower, if it changed nothing else. */
+static unsigned lowered_alone(const struct table *before, const struct table *after)
 {
-    int same = task_count(before) == task_count(after);
-    for (unsigned task = 0; same && task < task_count(before); task++) {
-        same = task_at(before, task).deadline == task_at(after, task).deadline;
+    unsigned lower = 0;
+    if (task_count(before) != task_count(after)) {
+        return 0;
     }
-    return same;
+    for (unsigned number = 0; number < task_count(before); number++) {
+        struct task was = task_at(before, number), is = task_at(after, number);
+        if (was.deadline != is.deadline) {
+            return 0;
+        }
+        lower += was.cost != is.cost;
+    }
+    return lower;
 }
 
 static int say_eased(const struct table *before, const struct table *after, uint64_t kept)
 {
     unsigned now = 0;
-    printf("eased yes\n\nyes: if the old table passes, so does the new one with a budget that reaches its horizon: no new test needed\n");
-    if (costs_alone(before, after)) {
+    printf("eased yes\n\nyes: if the old table passes, so does the new one with any budget that reaches its horizon, and needs no new test\n");
+    if (lowered_alone(before, after) > 0) {
         printf("with costs alone lowered no worst response grows\n");
     }
     for (unsigned then = 0; then < task_count(before); then++) {
@@ -103,30 +111,43 @@ static void say_number(unsigned number, const struct task *was, const struct tas
            (unsigned long long)now[which], rules[which]);
 }
 
-/* Whether the task is that of the old table eased. */
-static int could_be(const struct table *before, unsigned task, const struct task *is)
+/* The nearest old task stands before the one that the new task before this one was. */
+static void say_too_early(unsigned number, const struct task *was, const struct task *is, unsigned task, unsigned last)
 {
-    struct task was = task_at(before, task);
-    return in_the_way(&was, is) == ALIKE;
+    if (in_the_way(was, is) == ALIKE) {
+        printf("it could be old task %u, but task %u was old task %u, and tasks have to keep their order\n", number, task - 1, last);
+    } else {
+        say_number(number, was, is);
+        printf("and task %u was old task %u already: tasks have to keep their order\n", task - 1, last);
+    }
 }
 
 static int say_not_eased(const struct table *before, const struct table *after, unsigned task)
 {
-    struct task is = task_at(after, task);
+    struct task is = task_at(after, task), was;
     uint64_t kept = kept_before(before, after, task);
     unsigned from = 0, count = task_count(before);
     while (kept >> from != 0) {
         from++;
     }
     unsigned earlier = nearest(before, 0, from, kept, &is), later = nearest(before, from, count, kept, &is);
-    printf("eased no\n\nno: task %u is none of the old table's tasks eased, so the new table needs a test: judge tells\n", task);
-    if (earlier < from && could_be(before, earlier, &is)) {
-        printf("it could be old task %u, but task %u was %u, and tasks have to keep their order\n", earlier, task - 1, from - 1);
-    } else if (later == count) {
-        printf("no task of the old table is left for it\n");
-    } else {
-        struct task was = task_at(before, later);
+    int way = -1;
+    printf("eased no\n\nno: task %u is no old task made easier, so the new table needs a test: judge tells\n", task);
+    if (later < count) {
+        was = task_at(before, later);
+        way = in_the_way(&was, &is);
+    }
+    if (earlier < from) {
+        struct task early = task_at(before, earlier);
+        if (in_the_way(&early, &is) > way) {
+            say_too_early(earlier, &early, &is, task, from - 1);
+            return UNDECIDED;
+        }
+    }
+    if (later < count) {
         say_number(later, &was, &is);
+    } else {
+        printf("no task of the old table is left for it\n");
     }
     return UNDECIDED;
 }
@@ -135,7 +156,7 @@ static int open_one(const char *name, const char *which, struct table *table)
 {
     int status = open_table(name, stdout, table);
     if (status == REFUSED) {
-        printf("that is the %s table, %s\n", which, name);
+        printf("that is the %s table, %s\n", which, strcmp(name, "-") == 0 ? "standard input" : name);
     }
     return status;
 }

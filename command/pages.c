@@ -13,7 +13,7 @@ static const char usage[] =
     "  yolizadwa judge FILE [--all] [--plainly]   whether every job is in time\n"
     "  yolizadwa quick FILE                       an answer at once, or none\n"
     "  yolizadwa distance FILE                    an answer by the offsets, or none\n"
-    "  yolizadwa eased OLD NEW                    whether NEW needs a new test\n"
+    "  yolizadwa eased OLD NEW                    whether NEW is OLD made easier\n"
     "  yolizadwa run FILE [--slots N] [--early]   a chart of who has each slot\n"
     "  yolizadwa show FILE                        the table as plain text\n"
     "  yolizadwa make TEXT FILE                   the table file of a text\n"
@@ -29,7 +29,7 @@ static const char usage[] =
     "  task 0 2 2 5\n"
     "\n"
     "Ends with 0: passes, or done; 1: cannot be done; 2: refused; 3: late or\n"
-    "overload; 4: undecided, or no answer.\n";
+    "overload; 4: undecided, no answer, or no easing.\n";
 
 static const char page_judge[] =
     "yolizadwa judge FILE [--all] [--plainly]\n"

@@ -95,9 +95,9 @@ static void print_accounts(const struct yolizadwa_state *state, size_t len)
 {
     const unsigned tasks = (unsigned)((len - 9 - 1) / 17);
     for (unsigned task = 0; task < tasks; task++) {
-        printf("task %u had %llu slots\n", task, (unsigned long long)state->given[task]);
+        printf("slots of task %u: %llu\n", task, (unsigned long long)state->given[task]);
     }
-    printf("%llu slots were empty\n", (unsigned long long)state->empty);
+    printf("empty slots: %llu\n", (unsigned long long)state->empty);
 }
 
 /* Where a camera would do the owner's work. Here the work of every third slot ends its job, early or not. */

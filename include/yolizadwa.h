@@ -18,12 +18,12 @@
  *   - They keep nothing between calls, allocate nothing, and may run in several threads at once on different buffers.
  *   - Of the C library they need memcpy and memset alone. The host tests hold the stack of each call to 16 KiB.
  *   - A result below 65,536 is an answer. Any other is a refusal: 65,536 x number + place. A refusal changes no byte.
- *     (yolizadwa_eased tells of two files, and has results of its own.)
+ *     (yolizadwa_eased tells of two files, and has results of its own: yolizadwa_refused does not fit them.)
  *   - No pointer may be NULL, not even with length 0.
  *   - What a call only reads (the const pointer: file, text or words) is read where it lies and never written, and must not
  *     overlap what the call writes. Words lie aligned, as a uint32_t does; nothing else needs to.
- *   - Any bytes may be handed over as a file or a state. What is no good file is refused. Of a state only what refusal 8
- *     lists is refused: a state of another table may be taken.
+ *   - Any bytes may be handed over as a file or a state. What is no good file is refused. Of a state only what refusals
+ *     8 and 9 list is refused: a state of another table may be taken.
  */
 #ifndef YOLIZADWA_H
 #define YOLIZADWA_H
@@ -94,7 +94,10 @@ enum yolizadwa_refusal {
     YOLIZADWA_TASK_TOO_MANY = 66    /* a thirty-third task */
 };
 
-/* Whether a result is a refusal, and then its number and its place. */
+/*
+ * Whether a result is a refusal, and then its number and its place. Of every call but yolizadwa_eased, whose result goes
+ * through yolizadwa_eased_case and yolizadwa_eased_value first.
+ */
 static inline int yolizadwa_refused(uint64_t result) { return result >= 65536; }
 static inline uint32_t yolizadwa_number(uint64_t result) { return (uint32_t)(result / 65536); }
 static inline uint32_t yolizadwa_place(uint64_t result) { return (uint32_t)(result % 65536); }
@@ -222,8 +225,8 @@ uint64_t yolizadwa_distance(const uint8_t *file, size_t file_len);
  *
  *   YOLIZADWA_EASED        an easing; value: the old table's tasks that are kept, as a set, bit i for task i. The kept ones, in
  *                          their order, are the tasks 0, 1, .. of the new table.
- *   YOLIZADWA_NOT_EASED    none; value: the first task of the new table that is none of the old ones eased, of those behind what
- *                          the tasks before it were found to be
+ *   YOLIZADWA_NOT_EASED    none; value: the first task of the new table that is no old task made easier; only old tasks behind
+ *                          those that the new tasks before it were found to be count
  *   YOLIZADWA_OLD_REFUSED  value: the refusal of the old file, as the other calls return it
  *   YOLIZADWA_NEW_REFUSED  value: the refusal of the new file; the old one has none
  *
@@ -232,8 +235,8 @@ uint64_t yolizadwa_distance(const uint8_t *file, size_t file_len);
  *
  * An easing of a table that passes passes: a check of the new file, with any budget that reaches its horizon, says `verdict passes`.
  * Whether the old table does is not looked at, and the budgets in the files play no part. With costs alone lowered no worst
- * response grows; a longer deadline may make one grow. A longer period is no easing: with (1,1,1,2),(0,1,1,2), which passes, and the
- * second period 3 a job is late.
+ * response grows; a longer deadline may make one grow. A longer period is no easing: (1,1,1,2),(0,1,1,2)
+ * passes, and if the second period is 3, a job is late.
  *
  * No slot is looked at: the time does not depend on the tables' rounds. Refusals, of either file: 20 to 27; 1 and 3 to 7.
  */

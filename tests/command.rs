@@ -222,7 +222,7 @@ fn rows_of(text: &str, tasks: usize) -> Vec<String> {
 
 /// The accounts at the end: whose, how many slots, and their share in percent, rounded to tenths.
 fn accounts_of(had: &[u64], slots: u64) -> Vec<String> {
-    let headings = [format!("who had the slots from 0 to {slots}:"), "task slots share".to_string()];
+    let headings = [format!("who had the slots, {slots} in all:"), "task slots share".to_string()];
     let names = (0..had.len() - 1).map(|task| task.to_string()).chain(["empty".to_string()]);
     let row = |(name, had): (String, &u64)| {
         let tenths = (2_000 * had + slots) / (2 * slots);
@@ -269,10 +269,10 @@ fn compared(bench: &mut Bench, old: &[Task], new: &[Task], input: &[u8]) {
     std::fs::write(NEW, file_of(1, new)).expect("target/host can be written");
     let output = asked(&["eased", "-", NEW], input);
     let (text, told) = (said(&output), reference::eased(old, new));
-    let was = |line: &str| line.strip_prefix("task ")?.split_once(" was ")?.1.split_once(':')?.0.parse().ok();
+    let was = |line: &str| line.strip_prefix("task ")?.split_once(" was old task ")?.1.split_once(':')?.0.parse().ok();
     let good = match &told {
         Ok(kept) => text.starts_with("eased yes\n") && text.lines().filter_map(was).collect::<Vec<usize>>() == *kept,
-        Err(task) => text.starts_with(&format!("eased no\n\nno: task {task} is none of ")),
+        Err(task) => text.starts_with(&format!("eased no\n\nno: task {task} is no old task made easier, ")),
     };
     let status = if told.is_ok() { 0 } else { 4 };
     bench.count(good && output.status.code() == Some(status), || format!("eased on {old:?} and {new:?}: {output:?}"));

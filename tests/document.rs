@@ -208,6 +208,47 @@ fn strange_states() -> Vec<(State, u64)> {
 
 /// Request T-09 on table b, with counts of task 0, of task 1, behind the last task, and of the empty slots: what is refused, and by which
 /// number and place; else the state is stepped, and the counts behind the last task stay.
+/// With as many tasks as there can be, about the last slot that can be counted, had by the last task or by none.
+fn full_tables(bench: &mut Bench) {
+    let tasks = [Task { offset: 5, cost: 1, deadline: 60, period: 60 }; TASKS];
+    let file = file_of(1, &tasks);
+    for (wait, had) in [(0, Some(TASKS - 1)), (5, None)] {
+        let mut state = reference::start(&tasks);
+        state.wait[TASKS - 1] = wait;
+        state.given[..TASKS - 1].fill(1);
+        for (empty, refused) in [(u64::MAX - TASKS as u64, None), (u64::MAX - TASKS as u64 + 1, Some((9, 0))), (u64::MAX - TASKS as u64 + 2, Some((8, 33)))] {
+            state.empty = empty;
+            let request = Request::step(file.clone(), state.to_bytes(), 0);
+            if let Some((number, place)) = refused {
+                refused_with(bench, request, number, place);
+                continue;
+            }
+            let stepped = State::from_bytes(&bench.answer(&[request.clone()])[0].buffer);
+            let counted = had.map_or(stepped.empty - empty, |task| stepped.given[task]);
+            bench.count(counted == 1, || format!("{counted} slots counted of {had:?}"));
+            bench.ask(request);
+            refused_with(bench, Request::step(file.clone(), stepped.to_bytes(), 0), 9, 0);
+        }
+    }
+}
+
+/// Jobs of the last tasks alone, and of all, closed late in one step.
+pub fn late_sets(bench: &mut Bench) {
+    let tasks = [Task { offset: 0, cost: 1, deadline: 1, period: 2 }; TASKS];
+    let file = file_of(1, &tasks);
+    for (first, late) in [(0, [u32::MAX, 32, 0]), (16, [0xFFFF_0000, 16, 16]), (31, [0x8000_0000, 1, 31])] {
+        let mut state = reference::start(&tasks);
+        state.wait.fill(1);
+        state.left[first..].fill(1);
+        let request = Request::step(file.clone(), state.to_bytes(), 0);
+        let stepped = State::from_bytes(&bench.answer(&[request.clone()])[0].buffer);
+        let told = [stepped.late, stepped.closed, stepped.lowest];
+        bench.count(told == late, || format!("{told:?} closed late, not {late:?}"));
+        bench.ask(request);
+    }
+    bench.end_group("late sets of up to 32 tasks");
+}
+
 pub fn accounts(bench: &mut Bench) {
     const ALL: u64 = u64::MAX;
     let b = file_of(38, &table_of(B));
@@ -239,9 +280,11 @@ pub fn accounts(bench: &mut Bench) {
                 let counted = (stepped.given[0], stepped.given[1], stepped.given[2], stepped.empty);
                 bench.count(counted == (first, second + 1, behind, empty), || format!("{counted:?} after slot 0 of b"));
                 bench.ask(request);
+                refused_with(bench, Request::step(b.clone(), stepped.to_bytes(), 0), 9, 0);
             }
         }
     }
+    full_tables(bench);
     bench.end_group("document 02's counts of slots");
 }
 

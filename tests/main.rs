@@ -46,6 +46,7 @@ fn judging(bench: &mut Bench, rng: &mut Rng, count: u64) {
     document::steps(bench);
     document::refusals(bench);
     document::accounts(bench);
+    document::late_sets(bench);
     randoms::reference_itself(bench, rng);
     randoms::field_borders(bench);
     files::damaged_one_by_one(bench, rng);

@@ -10,6 +10,7 @@
 #include "yolizadwa.h"
 
 _Static_assert(YOLIZADWA_LONGEST_FILE == 554 && YOLIZADWA_LONGEST_TEXT == 956 && YOLIZADWA_ROW_WORDS == 5, "as document 02 and the tests have it");
+_Static_assert(sizeof(struct yolizadwa_state) == YOLIZADWA_STATE_BYTES && offsetof(struct yolizadwa_state, given) == 272, "as the library lays a state out");
 
 enum { ROOM = 1 << 18, MOST_WORDS = 400000 };
 

@@ -75,6 +75,10 @@ module _ (given : List ℕ) (empty n i room : ℕ) (e : Left given empty i room)
 unfoldable pub counted : List ℕ → ℕ → List ℕ
 counted given owner = cond (ltb owner taskLimit) (set given owner (getD given owner 0 + 1)) given
 
+pub counted-owner : (given : List ℕ) (owner slots : ℕ) → owner < taskLimit → slots ≡ getD given owner 0 + 1 → set given owner slots ≡ counted given owner
+unfolding counted
+counted-owner given owner slots l e = rw (lt-ltb owner taskLimit l, e)
+
 -- A slot that is counted, among the n tasks.
 pub counted-fill : (n : ℕ) (given : List ℕ) (owner : ℕ) → n ≤ taskLimit → (owner ≡ taskLimit) ⊎ (owner < n) → counted given owner ≡ fill n (λ i. getD given i 0 + bit (eqb owner i)) given
 unfolding counted

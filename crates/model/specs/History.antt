@@ -1,4 +1,5 @@
--- Histories: what the dispatcher does step after step from a start, under any pattern of done reports.
+-- Histories: what the dispatcher does step after step from a start, under any pattern of done reports, by its rules for ever; that a step is
+-- taken is promised for as many as can be counted.
 use Rattle.model.specs.Notation.{_≡_, _⊎_, Bool, _&&_, ℕ, zero, suc, min, _≤_, _<_, T, leb, eqb, count}
 use Rattle.model.specs.Values.{Table}
 use Rattle.model.specs.Tasks.{task, release}

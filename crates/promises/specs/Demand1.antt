@@ -55,7 +55,7 @@ use Rattle.report.specs.Permitted.{Fitting, permitted-fits}
 use Rattle.statebuffer.specs.Told.{Apart}
 use Rattle.promises.specs.Demand2.{answer-exactly}
 
--- Judging a table, reading a file's form, loading it, starting, admitting a state and stepping have one permitted result each, for every input.
+-- Judging a table, reading a file's form, loading it, starting and stepping have one permitted result each, for every input.
 pub one-judgement : (t : Table) (a b : Judgement) → a ≡ judged t → b ≡ judged t → a ≡ b
 one-judgement t a b e f = e ∙ sym f
 

@@ -31,7 +31,8 @@ use Rattle.backlog.specs.InTime.{in-time}
 use Rattle.backlog.specs.NoneWaits.{none-waits}
 use Rattle.promises.specs.Demand2.{passed-exactly}
 
--- A history: a start on a well-formed table, and steps with any done reports. `stateAt t done n` is the state after n steps.
+-- A history: a start on a well-formed table, and steps with any done reports. `stateAt t done n` is the state after n steps,
+-- as many as can be counted; beyond, what the rules would give.
 module _ (t : Table) (m : Measure) (well : judged t ≡ Judgement.WellFormed m) (done : ℕ → Bool) where
   pub starts : _≡_ {A = Started} (started t) (record { admission = Admission.Admitted; state = stateAt t done 0 })
   unfolding started stateAt

@@ -2,10 +2,11 @@
 -- fewer tasks, all of that together too, given a budget that reaches the new horizon; with costs alone lowered no worst response grows.
 use mathlib.Core.Path.{_≡_, refl, sym, ap, subst, _∙_}
 use mathlib.Core.Logic.{_⊎_, inl, inr, _↔_}
+use mathlib.Core.Bool.{Bool, true, false, cond}
 use mathlib.Core.List.{List, [], _∷_}
 use Prim.Native.Nat.{ℕ, zero, suc, _+_, _*_, _/_, _%_, _^_, _≤_, _<_}
 use native.Mathlib.Omega.{arith}
-use lib.Dec.{eqb, lit≤}
+use lib.Dec.{ltb, eqb, lit≤}
 use lib.ListN.{getD}
 use Rattle.values.specs.declared.Table.{Table}
 use Rattle.values.specs.declared.Refusal.{Refusal}
@@ -26,8 +27,9 @@ use Rattle.model.specs.Dispatcher.{startOf, ownerNow, after}
 use Rattle.model.specs.History.{stateAt}
 use Rattle.model.specs.TableFile.{tableOf, loadedFrom}
 use Rattle.model.specs.Report.{refusalNumber}
-use Rattle.model.specs.Easing.{Eased, Lowered, easing, firstTasks, easedNumber, easedExported}
+use Rattle.model.specs.Easing.{Eased, Lowered, unmatched, keptSet, easing, firstTasks, easedNumber, easedExported}
 use Rattle.model.specs.Examples.{of, table-e, two-due}
+use Rattle.counting.specs.Bits.{bits-lt}
 use Rattle.wellformed.specs.WellFormed.{well-formed}
 use Rattle.backlog.specs.Eased.{eased-passes, eased-again, eased-of-lowered}
 use Rattle.backlog.specs.FirstChoice.{Told, first-choice, eased-told}
@@ -103,6 +105,22 @@ module _ (before after : Table) where
       × ((d : Eased before after) (i : ℕ) → i < after .count → e .kept i ≤ d .kept i)
       × ((k : ℕ) → k < before .count → set / 2 ^ k % 2 ≡ bit (some (λ i. eqb (e .kept i) k) (after .count)))
   kept-exactly set e = subst (Told before after) e (first-choice before after)
+
+  -- The set has no other members: it is one of the old table's tasks.
+  abbrev Within : Easing → Type 0
+  Within (Easing.Unmatched i) = i ≡ i
+  Within (Easing.Kept set) = set < 2 ^ before .count
+
+  told-within : Within (easing before after)
+  unfolding easing
+  told-within = go (ltb (unmatched before after) (after .count))
+    where
+      go : (b : Bool) → Within (cond b (Easing.Unmatched (unmatched before after)) (Easing.Kept (keptSet before after)))
+      go true = refl
+      go false = bits-lt _ (before .count)
+
+  pub kept-within : (set : ℕ) → easing before after ≡ Easing.Kept set → set < 2 ^ before .count
+  kept-within set e = subst Within e told-within
 
   -- The task that is told to be none is the first: the tasks before it are an easing, and with it they are not.
   pub unmatched-exactly : (i : ℕ) → easing before after ≡ Easing.Unmatched i

@@ -1,8 +1,8 @@
 -- The owner is a task, or none.
 use borrow.Author.Needs.{needs}
-use borrow.Author.Tests.{lt-ltb, le-ltb}
+use borrow.Author.Tests.{le-ltb}
 use native.Mathlib.Omega.{arith}
-use Rattle.dispatch.specs.Accounts.{counted}
+use Rattle.dispatch.specs.Accounts.{counted, counted-owner}
 use Rattle.dispatch.proofs.count_given.Statement.{statement}
 use Rattle.dispatch.proofs.count_given.Tie as tie
 
@@ -22,8 +22,7 @@ element-write-given : tie.Need-element-write-given
 element-write-given c = search needs
 
 returns : tie.Need-returns
-unfolding counted
-returns c = simp (lt-ltb _ _ (c .before .if1 .taken))
+returns c = counted-owner _ _ _ (c .before .if1 .taken) (omega arith)
 
 returns-2 : tie.Need-returns-2
 unfolding counted
