@@ -270,34 +270,38 @@ refused-answer t budget r a e p = rw e at p
 pub refused-answer-said : (t : Table) (budget : ℕ) (r : Refusal) (a : Answer) → judged t ≡ Judgement.Refused r → Permitted t budget a → outcomeSaid (a .outcome) ≡ refusalSaid r
 refused-answer-said t budget r a e p = ap (λ (x : Answer). outcomeSaid (x .outcome)) (refused-answer t budget r a e p)
 
--- A state that does not belong to the table is refused by 8 with the first such task, with `taskLimit` for the last-run number, or with
--- `sumPlace` for more slots than can be counted; one that can count no slot more is refused by 9.
-pub strange-state : (t : Table) (m : Measure) (d : State) (done : Bool) → judged t ≡ Judgement.WellFormed m → firstStrange t d < t .count → givenSaid (stepped t d done .given) ≡ 8 ∷ firstStrange t d ∷ []
-unfolding stepped stateAdmitted
-strange-state t m d done well h = rw (well, lt-ltb (firstStrange t d) (t .count) h) refl
+-- A state that does not belong to a well-formed table is refused by 8 with the first such task, with `taskLimit` for the last-run number, or
+-- with `sumPlace` for more slots than can be counted; one that can count no slot more is refused by 9.
+module _ (t : Table) (m : Measure) (d : State) (done : Bool) (well : judged t ≡ Judgement.WellFormed m) where
+  pub strange-state : firstStrange t d < t .count → givenSaid (stepped t d done .given) ≡ 8 ∷ firstStrange t d ∷ []
+  unfolding stepped stateAdmitted
+  strange-state h = rw (well, lt-ltb (firstStrange t d) (t .count) h) refl
 
-pub strange-last : (t : Table) (m : Measure) (d : State) (done : Bool) → judged t ≡ Judgement.WellFormed m → t .count ≤ firstStrange t d → lastStrange t d ≡ true → givenSaid (stepped t d done .given) ≡ 8 ∷ taskLimit ∷ []
-unfolding stepped stateAdmitted
-strange-last t m d done well h last = rw (well, le-ltb (firstStrange t d) (t .count) h, last) refl
+  module _ (each : t .count ≤ firstStrange t d) where
+    pub strange-last : lastStrange t d ≡ true → givenSaid (stepped t d done .given) ≡ 8 ∷ taskLimit ∷ []
+    unfolding stepped stateAdmitted
+    strange-last last = rw (well, le-ltb (firstStrange t d) (t .count) each, last) refl
 
-pub strange-sum : (t : Table) (m : Measure) (d : State) (done : Bool) → judged t ≡ Judgement.WellFormed m → t .count ≤ firstStrange t d → lastStrange t d ≡ false → slotCountLimit < slotCount t d → givenSaid (stepped t d done .given) ≡ 8 ∷ sumPlace ∷ []
-unfolding stepped stateAdmitted
-strange-sum t m d done well h last more = rw (well, le-ltb (firstStrange t d) (t .count) h, last, lt-ltb slotCountLimit (slotCount t d) more) refl
+    pub strange-sum : lastStrange t d ≡ false → slotCountLimit < slotCount t d → givenSaid (stepped t d done .given) ≡ 8 ∷ sumPlace ∷ []
+    unfolding stepped stateAdmitted
+    strange-sum last more = rw (well, le-ltb (firstStrange t d) (t .count) each, last, lt-ltb slotCountLimit (slotCount t d) more) refl
 
-pub full-state : (t : Table) (m : Measure) (d : State) (done : Bool) → judged t ≡ Judgement.WellFormed m → t .count ≤ firstStrange t d → lastStrange t d ≡ false → slotCount t d ≡ slotCountLimit → givenSaid (stepped t d done .given) ≡ 9 ∷ 0 ∷ []
-unfolding stepped stateAdmitted
-full-state t m d done well h last full = rw (well, le-ltb (firstStrange t d) (t .count) h, last, le-ltb slotCountLimit (slotCount t d) (omega arith), eq-eqb (slotCount t d) slotCountLimit full) refl
+    pub full-state : lastStrange t d ≡ false → slotCount t d ≡ slotCountLimit → givenSaid (stepped t d done .given) ≡ 9 ∷ 0 ∷ []
+    unfolding stepped stateAdmitted
+    full-state last full =
+        rw (well, le-ltb (firstStrange t d) (t .count) each, last, le-ltb slotCountLimit (slotCount t d) (omega arith), eq-eqb (slotCount t d) slotCountLimit full) refl
 
--- Every other state is taken.
-pub taken-state : (t : Table) (m : Measure) (d : State) (done : Bool) → judged t ≡ Judgement.WellFormed m → t .count ≤ firstStrange t d → lastStrange t d ≡ false → slotCount t d < slotCountLimit → stepped t d done ≡ record { given = Given.Slot (turn t d done); state = after t d done }
-unfolding stepped stateAdmitted
-taken-state t m d done well h last room = rw (well, le-ltb (firstStrange t d) (t .count) h, last, le-ltb slotCountLimit (slotCount t d) (omega arith), ne-eqb (slotCount t d) slotCountLimit (λ e. absurd (omega arith))) refl
+    -- Every other state is taken.
+    pub taken-state : lastStrange t d ≡ false → slotCount t d < slotCountLimit → stepped t d done ≡ record { given = Given.Slot (turn t d done); state = after t d done }
+    unfolding stepped stateAdmitted
+    taken-state last room =
+        rw (well, le-ltb (firstStrange t d) (t .count) each, last, le-ltb slotCountLimit (slotCount t d) (omega arith), ne-eqb (slotCount t d) slotCountLimit (λ e. absurd (omega arith))) refl
 
--- The answer is then 0 with the owner, the tasks closed late as a set of bits, how many, and the lowest of them or none.
-pub taken-said : (t : Table) (m : Measure) (d : State) (done : Bool) → judged t ≡ Judgement.WellFormed m → t .count ≤ firstStrange t d → lastStrange t d ≡ false → slotCount t d < slotCountLimit
-    → givenSaid (stepped t d done .given) ≡ 0 ∷ ownerNow t d done ∷ bits (isLate t d done) taskLimit ∷ count (isLate t d done) taskLimit ∷ first (isLate t d done) 0 taskLimit ∷ []
-unfolding turn
-taken-said t m d done well h last room = rw (taken-state t m d done well h last room) refl
+    -- The answer is then 0 with the owner, the tasks closed late as a set of bits, how many, and the lowest of them or none.
+    pub taken-said : lastStrange t d ≡ false → slotCount t d < slotCountLimit
+        → givenSaid (stepped t d done .given) ≡ 0 ∷ ownerNow t d done ∷ bits (isLate t d done) taskLimit ∷ count (isLate t d done) taskLimit ∷ first (isLate t d done) 0 taskLimit ∷ []
+    unfolding turn
+    taken-said last room = rw (taken-state last room) refl
 
 -- A state that is taken leads to one that counts one slot more and that 8 does not refuse, whoever made it: once a step is not refused, none
 -- after it is until no slot more can be counted. A state has `taskLimit` entries in each list.
