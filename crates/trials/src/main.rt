@@ -1,9 +1,6 @@
-// Runs document 01's vectors through the public calls, a line for each; `stdout` says what document 01 demands of them.
-mod calls;
+// Runs document 01's tables and states through judge, test and dispatcher, a line for each; `stdout` says what it demands of them.
 mod dispatching;
-mod files;
 mod judging;
-mod loading;
 mod say;
 mod tables;
 mod testing;
@@ -14,12 +11,6 @@ fn main() {
     judging::order();
     judging::rounds();
     judging::measures();
-    loading::first_records();
-    loading::later_records();
-    loading::ends();
-    loading::many_tasks();
-    loading::refused_tables();
-    loading::taken();
     dispatching::on_g();
     dispatching::on_f();
     dispatching::waits();
@@ -29,9 +20,4 @@ fn main() {
     dispatching::refused_tables();
     testing::verdicts();
     testing::budgets();
-    calls::checks();
-    calls::lengths();
-    calls::on_g();
-    calls::on_f();
-    calls::refusals();
 }

@@ -4,8 +4,6 @@ use slots::Numbers;
 use values::Measure;
 use values::Refusal;
 use values::TASK_LIMIT;
-use values::Table;
-use values::Task;
 
 pub fn words(s: &[u8]) {
     io::write_all(STDOUT_FILENO, s);
@@ -42,27 +40,6 @@ pub fn measure(m: Measure) {
     number(m.round);
     words(b", horizon ");
     number(m.horizon);
-}
-
-pub fn task(k: Task) {
-    words(b"(");
-    small(k.offset);
-    words(b",");
-    small(k.cost);
-    words(b",");
-    small(k.deadline);
-    words(b",");
-    small(k.period);
-    words(b")");
-}
-
-pub fn tasks(t: Table) {
-    for i in 0..TASK_LIMIT {
-        if i < t.count {
-            words(b" ");
-            task(t.tasks[i]);
-        }
-    }
 }
 
 // Of a number for each task the first three and the last: what follows a table of two tasks is seen.
