@@ -1,6 +1,8 @@
 // The plain walk that the proved one is compared with: slot by slot, the released job with the earliest deadline, ties to the
 // shorter period and then to the lower number; worst responses, the first idle instant after 0, and the first deadline that a job
-// misses. It is written in two ways.
+// misses. It is written in two ways. No program uses all of it.
+#![allow(dead_code)]
+
 use crate::calls::{Task, TASKS};
 
 #[derive(Clone, Copy, Debug, PartialEq)]
