@@ -24,6 +24,7 @@ use Rattle.model.specs.Dispatcher.{State, Stepped, givenOf, slotCount, firstStr
 use Rattle.model.specs.History.{stateAt, ownerAt, had, Finished}
 use Rattle.model.specs.TableFile.{tableOf}
 use Rattle.model.specs.Easing.{Eased, Lowered, easing}
+use Rattle.model.specs.Largest.{withCost, largestCost}
 use Rattle.model.specs.Examples.{padded, of, table-b, table-c, table-d, table-f, table-g, table-i}
 use Rattle.model.specs.Schedule.{none, job}
 use Rattle.wellformed.specs.Ranges.{Ranged}
@@ -56,6 +57,7 @@ use Rattle.backlog.specs.PassedWorst.{met-of-passed, worst-of}
 use Rattle.backlog.specs.Eased.{eased-passes}
 use Rattle.backlog.specs.FirstChoice.{eased-told}
 use Rattle.backlog.specs.Lowered.{lowered-worst}
+use Rattle.backlog.specs.Largest.{largest-cost}
 use Rattle.backlog.specs.Unique.{permitted-unique}
 use Rattle.backlog.specs.AnswersSay.{answers-say}
 use Rattle.backlog.specs.Taken.{Belongs, belongs-after, slots-after}
@@ -165,6 +167,10 @@ b-lower-ranged = well-formed b-lower (record { round = 15; load = 10; horizon = 
 
 b-no-slower : (rank : Order) (w w' : ℕ) → Worst table-b rank 0 w → Worst b-lower rank 0 w' → w' ≤ w
 b-no-slower rank w w' = lowered-worst table-b b-lower b-ranged b-lower-ranged b-lowered rank rank (λ i l. refl) 0 w w' (lit< tt)
+
+-- On b task 0 has a largest cost, and with it b passes.
+b-largest : verdict (withCost table-b 0 (largestCost table-b 0 38)) 38 ≡ Verdict.Passes
+b-largest = largest-cost table-b b-ranged 0 (lit< tt) 38 b-passes .2
 
 -- There is no other run of its streams.
 b-one-run : (s : ℕ → ℕ → ℕ) → Run (jobs b-system) s → (u i : ℕ) → i < 2 → s u i ≡ servedOf b-system u i

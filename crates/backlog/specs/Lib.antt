@@ -41,6 +41,7 @@ pub mod PassedWorst
 pub mod Eased
 pub mod FirstChoice
 pub mod Lowered
+pub mod Largest
 pub mod Unique
 pub mod AnswersSay
 -- What the dispatcher does, in the model's words.

@@ -126,7 +126,7 @@ is-last p (suc n) = go (p n) refl (is-last p n)
         }
 
 -- The last is below n.
-last-lt : (p : ℕ → Bool) (n : ℕ) → 0 < n → last p n < n
+pub last-lt : (p : ℕ → Bool) (n : ℕ) → 0 < n → last p n < n
 last-lt p n h = omega (arith, is-last p n .upto)
 
 -- No number behind the last passes.

@@ -7,7 +7,7 @@ use Prim.Native.Nat.{ℕ, zero, suc, _+_, _-_, _*_, _/_, _%_, _^_}
 use native.Mathlib.Omega.{arith}
 use lib.Dec.{eqb, lit≤, lit<}
 use lib.ListN.{length, getD, replicate}
-use Rattle.model.specs.Values.{Task, Table, Measure, Judgement, Verdict, Outcome, Easing, Admission, Given, Writing, refusal, verdictSaid, judgementSaid, admissionSaid, givenSaid, outcomeSaid}
+use Rattle.model.specs.Values.{Task, Table, Measure, Judgement, Verdict, Outcome, Easing, Admission, Given, Writing, refusal, verdictSaid, judgementSaid, admissionSaid, givenSaid, outcomeSaid, costSaid}
 use Rattle.model.specs.Notation.{pos, negsuc, sum, largest, count, first, last, bits, fill, text, digits, decimal}
 use Rattle.model.specs.Limits.{taskLimit, slotLimit, roundLimit, reportBytes, longestFile, longestText, slotCountLimit, sumPlace}
 use Rattle.model.specs.Tasks.{task, taskFault, firstFaulty, round, load, horizon, measure, judgedBy, judged}
@@ -24,6 +24,7 @@ use Rattle.model.specs.Report.{worstLines, reportOf, refused, written, C
 use Rattle.model.specs.StateBuffer.{stateBytes, halves, bufferOf, stateIn, startExported, stepExported, handed}
 use Rattle.model.specs.Writer.{fileWritten, firstStranger, tableIn, writeExported}
 use Rattle.model.specs.PlainText.{split, filled, allDigits, valueAfter, numbersFault, same, budgetLine, taskLine, lineOf, readLines, textForm, textLoaded, taskTexts, textOf, textWritten, fromTextExported, toTextExported}
+use Rattle.model.specs.Largest.{largestCost, costAnswer}
 use Rattle.model.specs.Easing.{Lowered, searchedFrom, easing, easedExported}
 
 -- The limits, and what follows from them: the longest file, the longest text and the bytes of a state buffer; the slots that can be counted
@@ -796,3 +797,17 @@ eased-numbers :
     × (easedExported (budgetOf 1 ++ (3 ∷ [])) file-b ≡ 4 * 65536 + 2)
 unfolding easing bits searchedFrom loadedFrom formOf readFrom judged firstFaulty taskFault first round load horizon largest sum count
 eased-numbers = (refl, refl, refl, refl, refl, refl)
+
+-- ---- the largest cost
+
+-- On b task 0 can take 5, as it has, and task 1 can take 2; without task 1 task 0 could take its deadline.
+largest-costs : map (λ i. largestCost table-b i 38) (0 ∷ 1 ∷ []) ++ (largestCost (tableOf (of 8 5 7 15 ∷ [])) 0 38 ∷ []) ≡ 5 ∷ 2 ∷ 7 ∷ []
+unfolding largestCost verdict needed lateStart lateAt first last round load horizon largest sum count demand jobsIn
+largest-costs = refl
+
+-- The order: the table's refusal, 12, overload, late and undecided by the budget, and then the number.
+cost-answers :
+    map costSaid (costAnswer (tableOf []) 3 0 ∷ costAnswer table-b 2 0 ∷ costAnswer table-i 0 0 ∷ costAnswer table-c 0 15 ∷ costAnswer table-c 0 14 ∷ costAnswer table-b 0 37 ∷ costAnswer table-b 0 38 ∷ [])
+    ≡ (1 ∷ 0 ∷ []) ∷ (12 ∷ 2 ∷ []) ∷ (1 ∷ []) ∷ (3 ∷ []) ∷ (2 ∷ []) ∷ (2 ∷ []) ∷ (0 ∷ 5 ∷ []) ∷ []
+unfolding costAnswer largestCost judged firstFaulty taskFault verdict needed lateStart lateAt first last round load horizon largest sum count demand jobsIn
+cost-answers = refl

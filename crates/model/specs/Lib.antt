@@ -17,4 +17,5 @@ pub mod StateBuffer
 pub mod Writer
 pub mod PlainText
 pub mod Easing
+pub mod Largest
 pub mod Examples

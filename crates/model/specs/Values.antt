@@ -7,6 +7,7 @@ pub use Rattle.values.specs.declared.Measure.{Measure}
 pub use Rattle.values.specs.declared.Judgement.{Judgement}
 pub use Rattle.values.specs.declared.Verdict.{Verdict}
 pub use Rattle.values.specs.declared.Outcome.{Outcome}
+pub use Rattle.values.specs.declared.LargestCost.{LargestCost}
 pub use Rattle.values.specs.declared.Answer.{Answer}
 pub use Rattle.values.specs.declared.QuickAnswer.{QuickAnswer}
 pub use Rattle.values.specs.declared.DistanceAnswer.{DistanceAnswer}
@@ -66,3 +67,11 @@ distanceSaid DistanceAnswer.NoAnswer = 0 ∷ 0 ∷ []
 abbrev pub givenSaid : Given → List ℕ
 givenSaid (Given.Refused r) = refusalSaid r
 givenSaid (Given.Slot s) = 0 ∷ s .owner ∷ s .late ∷ s .closed ∷ s .lowest ∷ []
+
+-- Of the largest cost: a refusal, of two entries; the verdict's number alone, where the table does not pass; or 0 with that cost.
+abbrev pub costSaid : LargestCost → List ℕ
+costSaid (LargestCost.Refused r) = refusalSaid r
+costSaid LargestCost.Overload = 1 ∷ []
+costSaid LargestCost.Undecided = 2 ∷ []
+costSaid LargestCost.Late = 3 ∷ []
+costSaid (LargestCost.Cost c) = 0 ∷ c ∷ []

@@ -10,5 +10,6 @@ pub mod FileNumbers
 pub mod QuickTests
 pub mod DistanceTest
 pub mod Easing
+pub mod Largest
 pub mod Engines
 pub mod Ties

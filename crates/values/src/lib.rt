@@ -62,6 +62,15 @@ pub enum Outcome {
     Tested(Verdict),
 }
 
+// The largest cost of a task with which its table passes: a refusal, why the table does not pass as it is, or that cost.
+pub enum LargestCost {
+    Refused(Refusal),
+    Overload,
+    Late,
+    Undecided,
+    Cost(u32),
+}
+
 // All that the exact test says: the first idle instant after 0 stands last. What the outcome leaves nothing to say of is 0.
 pub struct Answer {
     pub outcome: Outcome,

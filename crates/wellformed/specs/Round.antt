@@ -56,6 +56,13 @@ module _ (t : Table) (ranged : Ranged t) where
   pub told-above : (i : ℕ) {r : ℕ} → i ≤ t .count → r ≡ lcmAll i (period t) → roundLimit < r → RoundTold t r
   told-above i l e h = record { exact = λ k. absurd (omega arith); above = λ k. omega (arith, round-lcm, lcmAll-mono i (t .count) (period t) l periods-pos) }
 
+-- Tables with the same periods have the same H.
+pub round-same : (t u : Table) → Ranged t → Ranged u → u .count ≡ t .count → ((i : ℕ) → i < t .count → period u i ≡ period t i) → round u ≡ round t
+round-same t u r q n e = omega (arith, below t u r q n e, below u t q r (sym n) (λ i l. sym (e i (omega arith))))
+  where
+    below : (a b : Table) → Ranged a → Ranged b → b .count ≡ a .count → ((i : ℕ) → i < a .count → period b i ≡ period a i) → round b ≤ round a
+    below a b x y m f = round-least b y (round a) (round-pos a x) (λ i l. rw (f i (omega arith)) (period-divides a x i (omega arith)))
+
 -- The next multiple of a number up to the limit and of a period.
 pub multiple-le : (r g p : ℕ) → r ≤ roundLimit → p ≤ slotLimit → r / g * p ≤ roundLimit * slotLimit
 multiple-le r g p a b = mul-le-mul (le-trans (div-le-self r g) a) b

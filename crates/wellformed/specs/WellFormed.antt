@@ -10,12 +10,13 @@ use Rattle.values.specs.declared.Task.{Task}
 use Rattle.values.specs.declared.Table.{Table}
 use Rattle.values.specs.declared.Measure.{Measure}
 use Rattle.values.specs.declared.Judgement.{Judgement}
+use Rattle.model.specs.Notation.{largest}
 use Rattle.model.specs.Values.{refusal}
 use Rattle.model.specs.Limits.{taskLimit, slotLimit, roundLimit}
 use Rattle.model.specs.Tasks.{task, taskFault, firstFaulty, round, load, horizon, measure, judged}
 use Rattle.counting.specs.Search.{le-largest, largest-le}
 use Rattle.wellformed.specs.Ranges.{Ranged, ranged, none-faulty}
-use Rattle.wellformed.specs.Round.{round-pos, period-divides, round-least}
+use Rattle.wellformed.specs.Round.{round-pos, period-divides, round-least, round-same}
 
 -- The largest horizon of a well-formed table.
 abbrev pub horizonLimit : ℕ
@@ -58,6 +59,14 @@ horizon-bound t r h = omega (arith, largest-le (t .count) (λ i. task t i .offse
 offset-bound : (t : Table) (i : ℕ) → i < t .count → task t i .offset + 2 * round t ≤ horizon t
 unfolding horizon
 offset-bound t i l = omega (arith, le-largest (t .count) (λ j. task t j .offset) i l)
+
+-- Tables with the same offsets and periods have the same horizon.
+pub horizon-same : (t u : Table) → Ranged t → Ranged u → u .count ≡ t .count → ((i : ℕ) → i < t .count → (task u i .offset ≡ task t i .offset) × (task u i .period ≡ task t i .period)) → horizon u ≡ horizon t
+unfolding horizon
+horizon-same t u r q n e = omega (arith, round-same t u r q n (λ i l. e i l .1), largest-le (u .count) (λ i. task u i .offset) (offsets t) (λ i l. omega (arith, e i (omega arith) .0, le-largest (t .count) (λ k. task t k .offset) i (omega arith))), largest-le (t .count) (λ i. task t i .offset) (offsets u) (λ i l. omega (arith, e i l .0, le-largest (u .count) (λ k. task u k .offset) i (omega arith))))
+  where
+    offsets : Table → ℕ
+    offsets a = largest (a .count) (λ k. task a k .offset)
 
 -- EXACTLY: a table is judged well-formed if it keeps its ranges and H its limit, and its measure is told.
 pub judged-iff : (t : Table) (m : Measure) → (judged t ≡ Judgement.WellFormed m) ↔ (Ranged t × (round t ≤ roundLimit) × (m ≡ measure t))

@@ -15,6 +15,7 @@ ghost use Rattle.model.specs.StateBuffer.{stateBytes, stateIn, quiet, startWrit
 ghost use Rattle.model.specs.Writer.{writeExported};
 ghost use Rattle.model.specs.PlainText.{fromTextExported, toTextExported};
 ghost use Rattle.model.specs.Easing.{easingNumber, easedNumber, easedExported};
+ghost use Rattle.model.specs.Largest.{costNumber, largestExported};
 ghost use Rattle.report.specs.Put.{exported};
 ghost use Rattle.yolizadwa.specs.Outcomes.{FileExported, exportOf, ToldAs};
 use dispatch::Dispatcher;
@@ -24,6 +25,7 @@ use values::Answer;
 use values::DistanceAnswer;
 use values::Easing;
 use values::Given;
+use values::LargestCost;
 use values::Outcome;
 use values::QuickAnswer;
 use values::REPORT_BYTES;
@@ -42,6 +44,8 @@ const BROKEN_ROWS: u32 = 51;
 const STRANGE_ROW: u32 = 52;
 
 const LARGEST_PLACE: usize = 65535;
+
+const LARGEST_TASK: u32 = 65535;
 
 const OLD_REFUSED: u64 = 2;
 
@@ -179,6 +183,45 @@ pub extern "C" fn yolizadwa_distance(file: &[u8]) -> u64
         Admission::Admitted => {
             let table = form.table;
             distance_number(distance::test(table))
+        }
+    }
+}
+
+fn cost_number(answer: LargestCost) -> u64
+    ensures { λ r. ⌜ r ≡ costNumber answer ⌝ }
+{
+    match answer {
+        LargestCost::Refused(why) => refused(why),
+        LargestCost::Overload => 60_001,
+        LargestCost::Undecided => 60_002,
+        LargestCost::Late => 60_003,
+        LargestCost::Cost(cost) => cost as u64,
+    }
+}
+
+// No table has a task with the largest place as its number, so that it stands for every larger one.
+fn tellable_task(task: u32) -> u32
+    ensures { λ r. ⌜ r ≡ min task 65535 ⌝ }
+{
+    if task < LARGEST_TASK {
+        task
+    } else {
+        LARGEST_TASK
+    }
+}
+
+// Any file and any task number: the file's form is looked at before its table, and that before the number.
+#[no_mangle]
+pub extern "C" fn yolizadwa_largest(file: &[u8], task: u32) -> u64
+    ensures { λ r. ⌜ r ≡ largestExported (now (file .entry)) task ⌝ }
+{
+    let form = tablefile::form_of(file);
+    let admission = form.admission;
+    match admission {
+        Admission::Refused(why) => refused(why),
+        Admission::Admitted => {
+            let table = form.table;
+            cost_number(largest::largest_cost(table, tellable_task(task), form.budget))
         }
     }
 }

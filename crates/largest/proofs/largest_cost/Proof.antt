@@ -1,0 +1,49 @@
+-- By what the table is judged to be, and whether the number is one of its tasks.
+use mathlib.Core.Path.{sym, _∙_}
+use native.Mathlib.Omega.{arith}
+use borrow.Author.Needs.{needs}
+use borrow.Author.Tests.{lt-ltb, le-ltb}
+use Rattle.largest.specs.Halving.{well-of}
+use Rattle.model.specs.Largest.{costAnswer}
+use Rattle.largest.proofs.largest_cost.Statement.{statement}
+use Rattle.largest.proofs.largest_cost.Tie as tie
+
+judge-requires : tie.Need-judge-requires
+judge-requires c κs = search needs
+
+enum-known-why : tie.Need-enum-known-why
+enum-known-why c = search needs
+
+enum-told : tie.Need-enum-told
+enum-told c = search needs
+
+told-requires : tie.Need-told-requires
+told-requires c κs =
+    let a = c .before .before in
+    (well-of (a .before .before .before .args .t) _ (sym (a .before .before .judge .ensures) ∙ a .enum-told .given .1), omega arith)
+
+refused-task-requires : tie.Need-refused-task-requires
+refused-task-requires c κs = search needs
+
+returns : tie.Need-returns
+unfolding costAnswer
+returns c = rw (← c .before .before .before .judge .ensures, c .before .why .given .1)
+
+returns-2 : tie.Need-returns-2
+unfolding costAnswer
+returns-2 c =
+    let a = c .before .before .before in
+    let s = a .before .before .before .args in
+    rw (← a .before .before .judge .ensures, a .enum-told .given .1, lt-ltb (s .task) (s .t .count) (omega arith)) (c .told .ensures)
+
+returns-3 : tie.Need-returns-3
+unfolding costAnswer
+returns-3 c =
+    let a = c .before .before .before in
+    let s = a .before .before .before .args in
+    rw (← a .before .before .judge .ensures, a .enum-told .given .1, le-ltb (s .task) (s .t .count) (omega arith)) (c .refused-task .ensures)
+
+pub largest-cost-spec : {M : Type 1} → statement M
+largest-cost-spec =
+    tie.close
+    (tie.spec judge-requires enum-known-why enum-told told-requires refused-task-requires returns returns-2 returns-3)

@@ -1,0 +1,33 @@
+-- The permitted answer to a well-formed table says its verdict.
+use mathlib.Core.Path.{_≡_}
+use Prim.Native.Nat.{ℕ}
+use native.Mathlib.Omega.{arith}
+use borrow.Author.Needs.{needs}
+use Rattle.largest.specs.Halving.{says}
+use Rattle.largest.proofs.verdict_on.Statement.{statement}
+use Rattle.largest.proofs.verdict_on.Tie as tie
+
+test-requires : tie.Need-test-requires
+test-requires c κs = search needs
+
+enum-told : tie.Need-enum-told
+enum-told c = search needs
+
+enum-known-outcome : tie.Need-enum-known-outcome
+enum-known-outcome c = search needs
+
+returns : tie.Need-returns
+returns c =
+    let a = c .before .before in
+    let e = says (a .before .args .t) (a .before .pre) (a .before .args .budget) (a .test .result) (a .test .ensures) in
+    let z : _≡_ {A = ℕ} 0 1 = cc in
+    absurd (omega arith)
+
+returns-2 : tie.Need-returns-2
+returns-2 c =
+    let a = c .before .before .before in
+    let e = says (a .before .args .t) (a .before .pre) (a .before .args .budget) (a .test .result) (a .test .ensures) in
+    cc
+
+pub verdict-on-spec : {M : Type 1} → statement M
+verdict-on-spec = tie.close (tie.spec test-requires enum-told enum-known-outcome returns returns-2)
