@@ -38,15 +38,10 @@ static unsigned slots_of_a_block(void)
     return (columns() - LABEL_COLUMNS - 1) / 2 / RULER_STEP * RULER_STEP;
 }
 
-/* The horizon, which the library tells whatever the costs and the budget, within what is good to look at. */
+/* The horizon, within what is good to look at. */
 static unsigned long usual_slots(const struct table *table)
 {
-    struct table full = *table;
-    struct report report;
-    overload(&full);
-    replace_budget(&full, 1);
-    check_table(&full, 0, &report);
-    uint64_t horizon = report_number(&report, "\nhorizon ");
+    uint64_t horizon = horizon_of(table);
     return horizon < LEAST_USUAL ? LEAST_USUAL : horizon > MOST_USUAL ? MOST_USUAL : (unsigned long)horizon;
 }
 

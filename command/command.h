@@ -23,6 +23,8 @@ struct request {
     int early;
     int plainly;
     unsigned long slots; /* 0: as many as is usual */
+    int one_task;        /* else of every task */
+    uint32_t task;
 };
 
 /* The bytes of a FILE as they were found, text or table file. */
@@ -67,11 +69,13 @@ struct task task_at(const struct table *table, unsigned number);
 
 /* Refusals in words, and for a text the line. */
 int say_refusal(FILE *to, const struct input *input, uint64_t result);
+int say_no_task(FILE *to, const struct table *table, uint32_t task, uint64_t result);
 
 /* Reports. */
 void check_table(const struct table *table, int plainly, struct report *report);
 uint64_t report_number(const struct report *report, const char *words);
 int report_verdict(const struct report *report, const char *verdict);
+uint64_t horizon_of(const struct table *table);
 
 /* A row of jobs, under a heading whose last column is what the caller makes it; times need so many columns. */
 struct job {
@@ -87,12 +91,13 @@ int judge(const struct request *request);
 int quick(const struct request *request);
 int distance(const struct request *request);
 int eased(const struct request *request);
+int largest(const struct request *request);
 int make(const struct request *request);
 int show(const struct request *request);
 int run(const struct request *request);
 
-/* Around a call that may take long: a check of up to so many slots, or of none, and so many walks to an idle instant. */
-void begin_progress(const struct table *table, uint64_t budget, unsigned walks, int plainly);
+/* Around what may take long: so many checks by the table's budget, and so many walks to an idle instant. */
+void begin_progress(const struct table *table, unsigned checks, unsigned walks, int plainly);
 void end_progress(void);
 
 /* Pages: NULL names the page of the command itself. 0 if there is no such page. */

@@ -162,7 +162,7 @@ int judge(const struct request *request)
     if (status != DONE) {
         return status;
     }
-    begin_progress(&table, budget_of(&table), request->plainly ? 0 : 1, request->plainly);
+    begin_progress(&table, 1, request->plainly ? 0 : 1, request->plainly);
     check_table(&table, request->plainly, &report);
     end_progress();
     fputs(report.text, stdout);

@@ -20,18 +20,20 @@ struct word {
     const char *name;
     const char *form;
     int files;
+    int task; /* whether the number of a task may follow */
     const char *options[2];
     int (*act)(const struct request *request);
 };
 
 static const struct word words[] = {
-    {"judge", "judge FILE [--all] [--plainly]", 1, {"--all", "--plainly"}, judge},
-    {"quick", "quick FILE", 1, {NULL, NULL}, quick},
-    {"distance", "distance FILE", 1, {NULL, NULL}, distance},
-    {"eased", "eased OLD NEW", 2, {NULL, NULL}, eased},
-    {"run", "run FILE [--slots N] [--early]", 1, {"--slots", "--early"}, run},
-    {"show", "show FILE", 1, {NULL, NULL}, show},
-    {"make", "make TEXT FILE", 2, {NULL, NULL}, make},
+    {"judge", "judge FILE [--all] [--plainly]", 1, 0, {"--all", "--plainly"}, judge},
+    {"quick", "quick FILE", 1, 0, {NULL, NULL}, quick},
+    {"distance", "distance FILE", 1, 0, {NULL, NULL}, distance},
+    {"eased", "eased OLD NEW", 2, 0, {NULL, NULL}, eased},
+    {"largest", "largest FILE [TASK]", 1, 1, {NULL, NULL}, largest},
+    {"run", "run FILE [--slots N] [--early]", 1, 0, {"--slots", "--early"}, run},
+    {"show", "show FILE", 1, 0, {NULL, NULL}, show},
+    {"make", "make TEXT FILE", 2, 0, {NULL, NULL}, make},
 };
 
 static const struct word *word_named(const char *name)
@@ -59,20 +61,22 @@ static int misuse(const struct word *word, const char *what, const char *which)
     return trouble("%s%s; use: yolizadwa %s", what, which, word->form);
 }
 
-/* Digits alone, since strtoul would take a sign, and nothing at all as 0. */
-static int read_slots(const char *digits, unsigned long *slots)
+/* Digits alone, since strtoul would take a sign, and nothing at all as 0. Tells whether the number is in its range. */
+static int read_number(const char *digits, uint64_t least, uint64_t most, uint64_t *number)
 {
-    *slots = 0;
-    for (; *digits >= '0' && *digits <= '9' && *slots <= MOST_SLOTS; digits++) {
-        *slots = 10 * *slots + (unsigned long)(*digits - '0');
+    int some = *digits != '\0';
+    *number = 0;
+    for (; *digits >= '0' && *digits <= '9' && *number <= most; digits++) {
+        *number = 10 * *number + (uint64_t)(*digits - '0');
     }
-    return *digits == '\0' && *slots >= 1 && *slots <= MOST_SLOTS;
+    return some && *digits == '\0' && *number >= least && *number <= most;
 }
 
 /* Tells how many arguments the option is, or 0 if it cannot be taken. */
 static int take_option(const struct word *word, char **arguments, struct request *request)
 {
     const char *option = arguments[0];
+    uint64_t slots;
     if (!takes(word, option)) {
         misuse(word, "there is no such option here: ", option);
         return 0;
@@ -83,11 +87,25 @@ static int take_option(const struct word *word, char **arguments, struct request
         request->plainly |= strcmp(option, "--plainly") == 0;
         return 1;
     }
-    if (arguments[1] == NULL || !read_slots(arguments[1], &request->slots)) {
+    if (arguments[1] == NULL || !read_number(arguments[1], 1, MOST_SLOTS, &slots)) {
         misuse(word, "--slots needs a number from 1 to 1000000", "");
         return 0;
     }
+    request->slots = (unsigned long)slots;
     return 2;
+}
+
+/* Any number that the library takes: it says whether the table has such a task. */
+static int take_task(const struct word *word, const char *argument, struct request *request)
+{
+    uint64_t task;
+    if (!read_number(argument, 0, UINT32_MAX, &task)) {
+        misuse(word, "a TASK is a number from 0 to 4294967295, and this is none: ", argument);
+        return 0;
+    }
+    request->task = (uint32_t)task;
+    request->one_task = 1;
+    return 1;
 }
 
 static int is_option(const char *argument)
@@ -101,6 +119,9 @@ static int take(const struct word *word, char **arguments, struct request *reque
     if (is_option(arguments[0])) {
         return take_option(word, arguments, request);
     }
+    if (*files == word->files && word->task && !request->one_task) {
+        return take_task(word, arguments[0], request);
+    }
     if (*files == word->files) {
         misuse(word, "one argument too many: ", arguments[0]);
         return 0;
@@ -111,7 +132,7 @@ static int take(const struct word *word, char **arguments, struct request *reque
 
 static int do_word(const struct word *word, char **arguments)
 {
-    struct request request = {{NULL, NULL}, 0, 0, 0, 0};
+    struct request request = {{NULL, NULL}, 0, 0, 0, 0, 0, 0};
     int files = 0;
     while (*arguments != NULL) {
         if (strcmp(*arguments, "--help") == 0) {
@@ -135,7 +156,7 @@ static int help(const char *word)
     if (print_page(stdout, word)) {
         return DONE;
     }
-    return trouble("no help for %s; there is help for judge, quick, distance, eased, run, show, make and text", word);
+    return trouble("no help for %s; there is help for judge, quick, distance, eased, largest, run, show, make and text", word);
 }
 
 static int version(void)
@@ -166,7 +187,7 @@ static int obey(char **arguments)
     if (strcmp(first, "--version") == 0) {
         return arguments[1] != NULL ? too_many(arguments[1]) : version();
     }
-    return trouble("%s is none of judge, quick, distance, eased, run, show, make, help; to judge a table: yolizadwa judge FILE", first);
+    return trouble("%s is none of judge, quick, distance, eased, largest, run, show, make, help; to judge a table: yolizadwa judge FILE", first);
 }
 
 int main(int argc, char **argv)

@@ -14,6 +14,7 @@ static const char usage[] =
     "  yolizadwa quick FILE                       an answer at once, or none\n"
     "  yolizadwa distance FILE                    an answer by the offsets, or none\n"
     "  yolizadwa eased OLD NEW                    whether NEW is OLD made easier\n"
+    "  yolizadwa largest FILE [TASK]              how far a cost may grow\n"
     "  yolizadwa run FILE [--slots N] [--early]   a chart of who has each slot\n"
     "  yolizadwa show FILE                        the table as plain text\n"
     "  yolizadwa make TEXT FILE                   the table file of a text\n"
@@ -86,6 +87,21 @@ static const char page_eased[] =
     "\n"
     "Ends with 0 if the answer is yes, 4 if it is no, 2 if a table is refused.\n";
 
+static const char page_largest[] =
+    "yolizadwa largest FILE [TASK]\n"
+    "\n"
+    "Tells how much lens the table can take: for each task, or for TASK alone, its\n"
+    "cost now, the largest cost up to its deadline with which the table still\n"
+    "passes, how many slots more that is, and its deadline. Each cost is raised\n"
+    "alone, with the others as they are; with two raised the table may not pass.\n"
+    "Of a table that does not pass there is no number: largest overload, largest\n"
+    "late, or largest undecided if its budget ends before the answer is known; a\n"
+    "budget that reaches the horizon always tells. Tasks are numbered from 0. It\n"
+    "takes up to 17 times as long for each task as judge.\n"
+    "\n"
+    "Ends with 0 if it is told, 2 if the table is refused or has no such task, 3 if\n"
+    "it is late or overloaded, 4 if it is undecided.\n";
+
 static const char page_run[] =
     "yolizadwa run FILE [--slots N] [--early]\n"
     "\n"
@@ -141,8 +157,8 @@ static const char page_text[] =
     "  budget     from 1; the horizon is enough; 2,000,000,060,000 is for every table\n";
 
 static const struct page pages[] = {
-    {"judge", page_judge}, {"quick", page_quick}, {"distance", page_distance}, {"eased", page_eased}, {"run", page_run},
-    {"show", page_show},   {"make", page_make},   {"text", page_text},         {"help", usage},
+    {"judge", page_judge}, {"quick", page_quick}, {"distance", page_distance}, {"eased", page_eased}, {"largest", page_largest},
+    {"run", page_run},     {"show", page_show},   {"make", page_make},         {"text", page_text},   {"help", usage},
 };
 
 int print_page(FILE *to, const char *word)

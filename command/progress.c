@@ -71,7 +71,7 @@ static double quick_slots(const struct table *table, double round)
  * From a check of the first slots with costs of 1: what a slot took, times the slots that are looked at if no deadline is late
  * before, and those of the walks to an idle instant. Where even that check would take long, nothing is foretold.
  */
-static void estimate(const struct table *table, uint64_t budget, unsigned walks, int plainly)
+static void estimate(const struct table *table, unsigned checks, unsigned walks, int plainly)
 {
     struct table probe = *table;
     struct report report;
@@ -85,16 +85,17 @@ static void estimate(const struct table *table, uint64_t budget, unsigned walks,
     check_table(&probe, plainly, &report);
     double took = now() - began;
     uint64_t horizon = report_number(&report, "\nhorizon "), settled = report_number(&report, "\nsettled ");
-    double slots = (double)(budget < horizon ? budget : horizon) + walks * quick_slots(table, (double)horizon / 2);
+    uint64_t looked = budget_of(table) < horizon ? budget_of(table) : horizon;
+    double slots = checks * (double)looked + walks * quick_slots(table, (double)horizon / 2);
     double expected = settled > 0 ? took * slots / (double)settled : 0;
     outlook_length = (size_t)snprintf(outlook, sizeof outlook, " s; it may take about %.0f s", expected < 1 ? 1 : expected);
 }
 
 /* The outlook is made before the handler may read it. */
-void begin_progress(const struct table *table, uint64_t budget, unsigned walks, int plainly)
+void begin_progress(const struct table *table, unsigned checks, unsigned walks, int plainly)
 {
     if (isatty(STDERR_FILENO)) {
-        estimate(table, budget, walks, plainly);
+        estimate(table, checks, walks, plainly);
         seconds = 0;
         over = 0;
         signal(SIGALRM, tell);

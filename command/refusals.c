@@ -149,3 +149,17 @@ int say_refusal(FILE *to, const struct input *input, uint64_t result)
     hint_at_mark(to, input);
     return REFUSED;
 }
+
+/* A fault of the question and of no line; the number as it was asked for, since a place ends at 65,535. */
+int say_no_task(FILE *to, const struct table *table, uint32_t task, uint64_t result)
+{
+    unsigned tasks = task_count(table);
+    fprintf(to, "refused %u at %u: the table has no task %lu; ", (unsigned)yolizadwa_number(result), (unsigned)yolizadwa_place(result),
+            (unsigned long)task);
+    if (tasks == 1) {
+        fprintf(to, "its one task is task 0\n");
+    } else {
+        fprintf(to, "they are numbered from 0 to %u\n", tasks - 1);
+    }
+    return REFUSED;
+}

@@ -26,3 +26,14 @@ int report_verdict(const struct report *report, const char *verdict)
     size_t length = strlen(verdict);
     return found != NULL && strncmp(found + sizeof words - 1, verdict, length) == 0 && found[sizeof words - 1 + length] == '\n';
 }
+
+/* The library tells it whatever the costs and the budget, so with those that need no walk. */
+uint64_t horizon_of(const struct table *table)
+{
+    struct table full = *table;
+    struct report report;
+    overload(&full);
+    replace_budget(&full, 1);
+    check_table(&full, 0, &report);
+    return report_number(&report, "\nhorizon ");
+}

@@ -1,7 +1,7 @@
 /*
  * Yolizadwa for C (from C99 on) and C++: judge a table of tasks, then give out time slot by slot.
  *
- * Ten calls, in the static library that `rt staticlib yolizadwa` writes for x86-64:
+ * Eleven calls, in the static library that `rt staticlib yolizadwa` writes for x86-64:
  *
  *   yolizadwa_write          writes a table file from the numbers of its tasks
  *   yolizadwa_from_text      writes the table file of a table in plain text
@@ -11,10 +11,11 @@
  *   yolizadwa_quick          judges it in short, with all tasks started at once: pass, or no answer
  *   yolizadwa_distance       judges it in short, with its offsets: pass, overload, or no answer
  *   yolizadwa_eased          tells whether a table file is an easing of another one, and so needs no new test
+ *   yolizadwa_largest        tells how much the cost of one task may grow before the table no longer passes
  *   yolizadwa_start          makes the dispatcher's first state for a table file
  *   yolizadwa_step           gives out one slot and makes the next state
  *
- * What holds for all ten:
+ * What holds for all eleven:
  *   - They keep nothing between calls, allocate nothing, and may run in several threads at once on different buffers.
  *   - Of the C library they need memcpy and memset alone. The host tests hold the stack of each call to 16 KiB.
  *   - A result below 65,536 is an answer. Any other is a refusal: 65,536 x number + place. A refusal changes no byte.
@@ -56,8 +57,8 @@ enum yolizadwa_kind {
 /*
  * What a refusal's number says, and what its place is. If several hold, the first of this order is told: the length of a
  * report or state buffer (30, 50); the first fault of what is read (20 to 27 of a file, 51 then 52 of words, 60 to 66 or 27 of
- * a text); the number of tasks (1, 2); then task by task 3, 4, 5, 6; then 7; then the state (8, 9), or the budget that is
- * written (27) and the length of the buffer for it (31).
+ * a text); the number of tasks (1, 2); then task by task 3, 4, 5, 6; then 7; then the state (8, 9), the task that is asked for (12),
+ * or the budget that is written (27) and the length of the buffer for it (31).
  */
 enum yolizadwa_refusal {
     YOLIZADWA_NO_TASK = 1,          /* the table has no task; place 0 */
@@ -70,6 +71,7 @@ enum yolizadwa_refusal {
     YOLIZADWA_STRANGE_STATE = 8,    /* the state does not fit the table; place: the first task that does not, 32: last,
                                        33: it counts 2^64 slots or more */
     YOLIZADWA_FULL_STATE = 9,       /* the state counts 2^64 - 1 slots, and no more can be counted; place 0 */
+    YOLIZADWA_NO_SUCH_TASK = 12,    /* the table has no task of this number; place: the number, 65,535 if it is larger */
     YOLIZADWA_CUT_SHORT = 20,       /* the file ends inside a record; place: where the record begins */
     YOLIZADWA_UNKNOWN_KIND = 21,    /* a record of no known kind; place: where it begins */
     YOLIZADWA_NO_BUDGET_FIRST = 22, /* the first record is a task or the end, or the file is empty; place 0 */
@@ -249,6 +251,32 @@ enum yolizadwa_easing {
 static inline uint32_t yolizadwa_eased_case(uint64_t result) { return (uint32_t)(result % 4); }
 static inline uint64_t yolizadwa_eased_value(uint64_t result) { return result / 4; }
 uint64_t yolizadwa_eased(const uint8_t *before, size_t before_len, const uint8_t *after, size_t after_len);
+
+/*
+ * How much lens it can take: the largest cost of one task, up to its deadline, at which the table with that one cost changed still
+ * passes. Tasks are numbered from 0. For (8,5,7,15),(0,2,2,5) it is 5 for task 0 and 2 for task 1.
+ *
+ * If the table passes, the result is that cost, 1 to 60,000, and never below the one that it has. A check of the table with that cost,
+ * and the same budget, says `verdict passes`, and with no larger one up to the deadline does it. Each cost is raised alone: two
+ * largest ones together mostly do not pass.
+ *
+ * If the table does not pass, the result is what a check of it says, and there is no number:
+ *
+ *   YOLIZADWA_LARGEST_OVERLOAD   more slots are asked for than there are; said first, whatever the budget
+ *   YOLIZADWA_LARGEST_UNDECIDED  the budget ends before the answer is known; a longer one would tell
+ *   YOLIZADWA_LARGEST_LATE       a job is late, at a deadline that the budget reaches
+ *
+ * Neither the round nor the horizon depends on a cost, so a budget that decides the table decides every trial. The cost is found by
+ * halving, in at most 17 tests; each takes the time of a check without its quick test. No call can stop it.
+ *
+ * Refusals: 20 to 27; 1 and 3 to 7; 12 for a task that the table does not have, whether it passes or not.
+ */
+enum yolizadwa_no_largest {
+    YOLIZADWA_LARGEST_OVERLOAD = 60001,
+    YOLIZADWA_LARGEST_UNDECIDED = 60002,
+    YOLIZADWA_LARGEST_LATE = 60003
+};
+uint64_t yolizadwa_largest(const uint8_t *file, size_t file_len, uint32_t task);
 
 /*
  * The dispatcher's state: 536 bytes, 68 little-endian words of 32 bits and then 33 of 64 bits. On x86-64 this struct is that

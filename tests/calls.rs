@@ -18,9 +18,10 @@ pub enum Call {
     Distance,
     CheckPlainly,
     Eased,
+    Largest,
 }
 
-pub const CALLS: [(Call, &str); 10] = [
+pub const CALLS: [(Call, &str); 11] = [
     (Call::Check, "check"),
     (Call::Start, "start"),
     (Call::Step, "step"),
@@ -31,6 +32,7 @@ pub const CALLS: [(Call, &str); 10] = [
     (Call::Distance, "distance"),
     (Call::CheckPlainly, "check plainly"),
     (Call::Eased, "eased"),
+    (Call::Largest, "largest"),
 ];
 
 #[derive(Clone, Debug)]
@@ -40,7 +42,7 @@ pub struct Request {
     pub file: Vec<u8>,
     /// What is written, or the second file that is read, and then must stay.
     pub buffer: Vec<u8>,
-    /// A step's done, the budget to write.
+    /// A step's done, the budget to write, the task that is asked for.
     pub number: u64,
 }
 
@@ -85,6 +87,10 @@ impl Request {
 
     pub fn eased(old: Vec<u8>, new: Vec<u8>) -> Request {
         Request { call: Call::Eased, file: old, buffer: new, number: 0 }
+    }
+
+    pub fn largest(file: Vec<u8>, task: u32) -> Request {
+        Request { call: Call::Largest, file, buffer: Vec::new(), number: u64::from(task) }
     }
 }
 

@@ -7,7 +7,7 @@ use crate::inputs::*;
 use crate::judge::fed;
 use crate::plain;
 use crate::program;
-use crate::reference::{self, Late, State, Task, Verdict, NONE};
+use crate::reference::{self, Late, State, Task, Verdict, NONE, OVERLOAD, UNDECIDED};
 use std::path::Path;
 use std::process::{Command, Output, Stdio};
 
@@ -315,6 +315,56 @@ fn compared(bench: &mut Bench, old: &[Task], new: &[Task], input: &[u8]) {
     bench.count(good && output.status.code() == Some(status), || format!("eased on {old:?} and {new:?}: {output:?}"));
 }
 
+/// All that is said where the table does not pass, and the status.
+fn no_largest_text(tasks: &[Task], budget: u64, told: u64) -> (String, i32) {
+    let horizon = reference::horizon(tasks, reference::round(tasks).unwrap());
+    let late = "late: the table does not pass as it is, so no cost can grow; judge tells which jobs ask for too much";
+    let overload = "overload: the table does not pass as it is: more slots are asked for than there are, so no cost can grow";
+    let ended = format!("undecided: the budget, {budget}, ended before it was known whether the table passes;");
+    match told {
+        OVERLOAD => (format!("largest overload\n\n{overload}\n"), 3),
+        UNDECIDED => (format!("largest undecided\n\n{ended} the horizon, {horizon}, is\nalways enough\n"), 4),
+        _ => (format!("largest late\n\n{late}\n"), 3),
+    }
+}
+
+/// All that is said of the largest costs of some tasks.
+fn largest_text(tasks: &[Task], budget: u64, asked: std::ops::Range<usize>) -> (String, i32) {
+    let first = reference::largest(tasks, asked.start, budget);
+    if first >= OVERLOAD {
+        return no_largest_text(tasks, budget, first);
+    }
+    let mut text = "  task   cost  largest   more  deadline\n".to_string();
+    let raised = if asked.len() == 1 { "this cost raised to its largest" } else { "any one cost raised to its largest; with two it may not" };
+    for number in asked {
+        let (Task { cost, deadline, .. }, largest) = (tasks[number], reference::largest(tasks, number, budget));
+        text += &format!("  {number:>4}  {cost:>5}  {largest:>7}  {:>5}  {deadline:>8}\n", largest - u64::from(cost));
+    }
+    (text + &format!("\nthe table passes, and still does with {raised}\n"), 0)
+}
+
+fn no_task_text(tasks: usize, asked: usize) -> String {
+    let all = if tasks == 1 { "its one task is task 0".to_string() } else { format!("they are numbered from 0 to {}", tasks - 1) };
+    format!("refused 12 at {asked}: the table has no task {asked}; {all}\n")
+}
+
+/// Of every task, of one, or of one that the table has not.
+fn lens_taken(bench: &mut Bench, rng: &mut Rng, tasks: &[Task], budget: u64, input: &[u8]) {
+    let one = if rng.chance(50) { Some(rng.below(tasks.len() as u64 + 1) as usize) } else { None };
+    let rows = one.map_or(0..tasks.len(), |task| task..task + 1);
+    if !rows.clone().all(|task| triable(budget, tasks, task)) {
+        return;
+    }
+    let number = one.map_or(String::new(), |task| task.to_string());
+    let output = asked(&["largest", "-", &number][..2 + one.is_some() as usize], input);
+    let (text, status) = match one {
+        Some(task) if task == tasks.len() => (no_task_text(tasks.len(), task), 2),
+        _ => largest_text(tasks, budget, rows),
+    };
+    let good = said(&output) == text && output.status.code() == Some(status);
+    bench.count(good, || format!("largest {number} on {tasks:?} and budget {budget}: {output:?}, not {text}"));
+}
+
 fn made_and_shown(bench: &mut Bench, tasks: &[Task], budget: u64, text: &str) {
     let made = asked(&["make", "-", "-"], text.as_bytes());
     let file = file_of(budget, tasks);
@@ -354,6 +404,7 @@ pub fn at_random(bench: &mut Bench, rng: &mut Rng) {
         if reference::judge(&new).is_ok() {
             compared(bench, &tasks, &new, one);
         }
+        lens_taken(bench, rng, &tasks, budget, other);
         made_and_shown(bench, &tasks, budget, &text);
     }
     (0..REFUSED).for_each(|_| refused(bench, rng));
@@ -376,7 +427,7 @@ pub fn junk_under_sanitizers(bench: &mut Bench, rng: &mut Rng) {
     }
     for input in (0..JUNK).map(|_| junk(rng)).collect::<Vec<_>>().into_iter().filter(|input| affordable(input)) {
         let mut command = Command::new(SANITIZED);
-        sanitized(&mut command).args([rng.pick(&["judge", "show", "run"]), "-"]);
+        sanitized(&mut command).args([rng.pick(&["judge", "show", "run", "largest"]), "-"]);
         let output = fed(command, &input);
         let quiet = !String::from_utf8_lossy(&output.stderr).contains("anitizer");
         let known = output.status.code().map_or(false, |code| [0, 2, 3, 4].contains(&code));

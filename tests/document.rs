@@ -4,7 +4,7 @@ use crate::bench::Bench;
 use crate::calls::Request;
 use crate::files::ask_all;
 use crate::inputs::{budget_record, file_of, rows_of, table_of};
-use crate::reference::{self, State, Task, LONGEST_FILE, NONE, REPORT_BYTES, STATE_BYTES, TASKS};
+use crate::reference::{self, State, Task, LATE, LONGEST_FILE, NONE, OVERLOAD, REPORT_BYTES, STATE_BYTES, TASKS, UNDECIDED};
 
 type Rows = &'static [(u32, u32, u32, u32)];
 
@@ -79,6 +79,63 @@ const ANSWERS: &[(Rows, u64, u64)] = &[
     (NOT_FROM_0, 0, 0),
     (NOT_BY_DISTANCE, 0, 0),
 ];
+
+/// T-12: tables with a budget and a task, and its largest cost, or what is said where there is none.
+const LARGEST_COSTS: &[(Rows, u64, u32, u64)] = &[
+    (A, 1_000, 0, 1),
+    (B, 1_000, 0, 5),
+    (B, 1_000, 1, 2),
+    (B, 38, 0, 5),
+    (B, 37, 0, UNDECIDED),
+    (B, 37, 1, UNDECIDED),
+    (C, 1_000, 0, LATE),
+    (C, 15, 1, LATE),
+    (C, 14, 1, UNDECIDED),
+    (D, 7, 0, LATE),
+    (D, 6, 0, UNDECIDED),
+    (E, 1_000, 0, 1),
+    (G, 1_000, 0, 2),
+    (I, 1_000, 0, OVERLOAD),
+    (I, 1, 1, OVERLOAD),
+    (J, 8, 0, 1),
+    (J, 7, 0, UNDECIDED),
+    (LAMP, 1_000, 0, 4),
+    (LAMP, 1_000, 1, 1),
+    (LONGEST, 10, 2, UNDECIDED),
+    (&[(0, 1, 60_000, 60_000)], 120_000, 0, 60_000),
+    (&[(0, 1, 60_000, 60_000)], 119_999, 0, UNDECIDED),
+    (&[(0, 1, 59_999, 60_000), (0, 1, 60_000, 60_000)], 120_000, 0, 59_999),
+    (&[(0, 1, 59_999, 60_000), (0, 1, 60_000, 60_000)], 120_000, 1, 59_999),
+];
+
+/// A task that the table has not is told behind the table's refusals and before any verdict.
+fn no_such_tasks(bench: &mut Bench) {
+    for rows in [B, C, I] {
+        for budget in [1, 1_000] {
+            let file = file_of(budget, &table_of(rows));
+            for (task, place) in [(2, 2), (3, 3), (65_534, 65_534), (65_535, 65_535), (65_536, 65_535), (u32::MAX, 65_535)] {
+                refused_with(bench, Request::largest(file.clone(), task), 12, place);
+            }
+        }
+    }
+    for (task, place) in [(32, 32), (33, 33), (256, 256), (1 << 16, 65_535), (1 << 31, 65_535)] {
+        let most = [Task { offset: 0, cost: 1, deadline: 60, period: 60 }; TASKS];
+        refused_with(bench, Request::largest(file_of(1, &most), task), 12, place);
+    }
+}
+
+pub fn largest_costs(bench: &mut Bench) {
+    for &(rows, budget, task, told) in LARGEST_COSTS {
+        bench.ask_knowing(Request::largest(file_of(budget, &table_of(rows)), task), (told, Vec::new()));
+    }
+    no_such_tasks(bench);
+    for (file, number, place) in refused_files().into_iter().chain(files_of_nothing()) {
+        for task in [0, 1, 40, u32::MAX] {
+            refused_with(bench, Request::largest(file.clone(), task), number, place);
+        }
+    }
+    bench.end_group("document 02's largest costs");
+}
 
 fn report_is(bench: &mut Bench, rows: Rows, budget: u64, report: &str) {
     let request = Request::check(file_of(budget, &table_of(rows)));

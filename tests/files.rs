@@ -17,10 +17,20 @@ pub fn ask_rewritten(bench: &mut Bench, file: &[u8]) {
     }
 }
 
+/// Of a task that the bytes choose, as often as not one that the table has not.
+fn ask_largest(bench: &mut Bench, file: &[u8]) {
+    let (budget, tasks) = reference::read_file(file).unwrap_or_default();
+    let task = file.iter().map(|&byte| usize::from(byte)).sum::<usize>() % (2 * tasks.len() + 1);
+    if triable(budget, &tasks, task) {
+        bench.ask(Request::largest(file.to_vec(), task as u32));
+    }
+}
+
 /// All calls on one file, the step from the table's start where it has one.
 pub fn ask_all(bench: &mut Bench, file: &[u8]) {
     let tasks = reference::read_file(file).map_or(Vec::new(), |(_, tasks)| tasks);
     if affordable(file) {
+        ask_largest(bench, file);
         bench.ask(Request::check(file.to_vec()));
         bench.ask(Request::quick(file.to_vec()));
         bench.ask(Request::distance(file.to_vec()));

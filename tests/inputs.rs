@@ -82,6 +82,17 @@ pub fn affordable(file: &[u8]) -> bool {
     }
 }
 
+/// Whether trying every cost of a task needs no more slots than can be waited for; of a table that its budget does not decide none
+/// is tried.
+pub fn triable(budget: u64, tasks: &[Task], task: usize) -> bool {
+    const SLOTS: u64 = 60_000;
+    if task >= tasks.len() || reference::judge(tasks).is_err() {
+        return true;
+    }
+    let horizon = reference::horizon(tasks, reference::round(tasks).unwrap());
+    budget < horizon || horizon.saturating_mul(u64::from(tasks[task].deadline)) <= SLOTS
+}
+
 // Tables.
 
 fn pick_round(rng: &mut Rng) -> u32 {

@@ -11,6 +11,7 @@ mod easing;
 mod files;
 mod inputs;
 mod judge;
+mod largest;
 mod papers;
 mod plain;
 mod randoms;
@@ -47,6 +48,7 @@ fn judging(bench: &mut Bench, rng: &mut Rng, count: u64) {
     document::refusals(bench);
     document::accounts(bench);
     document::late_sets(bench);
+    document::largest_costs(bench);
     randoms::reference_itself(bench, rng);
     randoms::field_borders(bench);
     files::damaged_one_by_one(bench, rng);
@@ -60,6 +62,8 @@ fn judging(bench: &mut Bench, rng: &mut Rng, count: u64) {
     easing::damaged(bench, rng, count / 4);
     easing::eased_tables_pass(bench, rng, count / 2);
     easing::lowered_costs(bench, rng, count / 2);
+    largest::every_cost(bench, rng, count / 20);
+    largest::long_deadlines(bench, rng, count / 40);
     randoms::long_rounds(bench, rng, count / 20);
     randoms::spoilt_tables(bench, rng, count / 20);
     files::damaged_at_random(bench, rng, count / 20);

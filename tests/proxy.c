@@ -138,6 +138,12 @@ uint64_t yolizadwa_distance(const uint8_t *file, size_t file_len)
     return forward(DISTANCE, file, file_len, &nothing, 0, 0);
 }
 
+uint64_t yolizadwa_largest(const uint8_t *file, size_t file_len, uint32_t task)
+{
+    uint8_t nothing = 0;
+    return forward(LARGEST, file, file_len, &nothing, 0, task);
+}
+
 /* From a copy, since the bridge hands every buffer back. */
 uint64_t yolizadwa_eased(const uint8_t *before, size_t before_len, const uint8_t *after, size_t after_len)
 {

@@ -510,6 +510,42 @@ pub fn decide(tasks: &[Task], budget: u64) -> Answer {
     }
 }
 
+// How much lens it can take.
+
+pub const OVERLOAD: u64 = 60_001;
+pub const UNDECIDED: u64 = 60_002;
+pub const LATE: u64 = 60_003;
+
+/// Whether the table with this one cost changed passes.
+fn passes_with(tasks: &[Task], task: usize, cost: u32, budget: u64) -> bool {
+    let mut changed = tasks.to_vec();
+    changed[task].cost = cost;
+    matches!(decide(&changed, budget).verdict, Verdict::Passes(..))
+}
+
+/// Every cost from 1 to the deadline is tried: nothing is taken from one cost for another.
+pub fn largest(tasks: &[Task], task: usize, budget: u64) -> u64 {
+    match decide(tasks, budget).verdict {
+        Verdict::Overload => OVERLOAD,
+        Verdict::Undecided => UNDECIDED,
+        Verdict::Late(_) => LATE,
+        Verdict::Passes(..) => {
+            let passes = (1..=tasks[task].deadline).filter(|&cost| passes_with(tasks, task, cost, budget));
+            u64::from(passes.max().expect("it passes with the cost that it has"))
+        }
+    }
+}
+
+/// The task that is asked for, if the table has it.
+fn asked_task(request: &Request, tasks: &[Task]) -> Result<usize, Refusal> {
+    let task = request.number as usize;
+    if task < tasks.len() {
+        Ok(task)
+    } else {
+        refuse(12, task.min(LARGEST_PLACE))
+    }
+}
+
 // The report.
 
 fn details(verdict: &Verdict) -> String {
@@ -754,6 +790,10 @@ fn answered(request: &Request) -> Result<(u64, Vec<u8>), Refusal> {
         Call::Quick => Ok((u64::from(quick(&read_table(request)?.1)), Vec::new())),
         Call::Distance => Ok((by_distance(&read_table(request)?.1), Vec::new())),
         Call::Eased => Ok((eased_files(request), Vec::new())),
+        Call::Largest => {
+            let (budget, tasks) = read_table(request)?;
+            Ok((largest(&tasks, asked_task(request, &tasks)?, budget), Vec::new()))
+        }
     }
 }
 

@@ -10,6 +10,7 @@
 #include "yolizadwa.h"
 
 _Static_assert(YOLIZADWA_LONGEST_FILE == 554 && YOLIZADWA_LONGEST_TEXT == 956 && YOLIZADWA_ROW_WORDS == 5, "as document 02 and the tests have it");
+_Static_assert(YOLIZADWA_NO_SUCH_TASK == 12 && YOLIZADWA_LARGEST_OVERLOAD == 60001 && YOLIZADWA_LARGEST_UNDECIDED == 60002 && YOLIZADWA_LARGEST_LATE == 60003, "as the tests have it");
 _Static_assert(sizeof(struct yolizadwa_state) == YOLIZADWA_STATE_BYTES && offsetof(struct yolizadwa_state, given) == 272, "as the library lays a state out");
 
 enum { ROOM = 1 << 18, MOST_WORDS = 400000 };
@@ -51,6 +52,7 @@ uint64_t plain_call(uint32_t call, const uint8_t *file, size_t file_len, uint8_t
     case QUICK: return yolizadwa_quick(file, file_len);
     case DISTANCE: return yolizadwa_distance(file, file_len);
     case EASED: return yolizadwa_eased(file, file_len, buffer, buffer_len);
+    case LARGEST: return yolizadwa_largest(file, file_len, (uint32_t)number);
     default: return yolizadwa_check_plainly(file, file_len, buffer, buffer_len);
     }
 }

@@ -32,11 +32,15 @@ const HOST_RUNS: &[&[&str]] = &[
     &["--anyway"],
 ];
 
-fn deepest(bench: &mut Bench, name: &str, requests: &[Request]) {
+fn measure(bench: &mut Bench, name: &str, requests: &[Request]) {
     let depth = requests.iter().map(|request| bench.calls.depth(request)).max().unwrap();
     println!("stack of {name}: {depth} bytes");
     let measured = (1..=STACK_LIMIT).contains(&depth);
     bench.count(measured, || format!("{name} writes {depth} bytes deep, not 1 to {STACK_LIMIT}"));
+}
+
+fn deepest(bench: &mut Bench, name: &str, requests: &[Request]) {
+    measure(bench, name, requests);
     requests.iter().cloned().for_each(|request| bench.ask(request));
 }
 
@@ -74,12 +78,31 @@ pub fn stack(bench: &mut Bench) {
     deepest(bench, "quick", &files.iter().cloned().map(Request::quick).collect::<Vec<_>>());
     deepest(bench, "distance", &files.iter().cloned().map(Request::distance).collect::<Vec<_>>());
     deepest(bench, "eased", &hard_pairs(&files));
+    deepest_largest(bench, &files);
     deepest(bench, "start", &starts);
     deepest(bench, "step", &steps);
     deepest(bench, "write", &writes);
     deepest(bench, "from text", &hard_texts());
     deepest(bench, "to text", &files.into_iter().map(Request::to_text).collect::<Vec<_>>());
     bench.end_group("stack of each call, on the hardest inputs");
+}
+
+/// The first and the last task of each hard table, and one that it has not. The tables that pass have costs that are known, as the
+/// reference would try too many: a full one, and one whose deadlines leave a slot less than there is.
+fn deepest_largest(bench: &mut Bench, files: &[Vec<u8>]) {
+    let light = Task { offset: 60_000, cost: 1, deadline: 59_999, period: 60_000 };
+    let asked = |file: &Vec<u8>| [0, TASKS as u32 - 1, u32::MAX].map(|task| Request::largest(file.clone(), task)).to_vec();
+    let known = [
+        (asked(&files[0]), u64::from(60_000 / TASKS as u32)),
+        (asked(&file_of(u64::MAX, &[light; TASKS])), u64::from(59_999 - (TASKS as u32 - 1))),
+    ];
+    let others: Vec<Request> = files[1..].iter().flat_map(asked).collect();
+    measure(bench, "largest", &[&known[0].0[..], &known[1].0[..], &others[..]].concat());
+    for (requests, cost) in known {
+        requests[..2].iter().for_each(|request| bench.ask_knowing(request.clone(), (cost, Vec::new())));
+        bench.ask(requests[2].clone());
+    }
+    others.into_iter().for_each(|request| bench.ask(request));
 }
 
 /// Each hard file as the old one of each.

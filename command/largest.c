@@ -1,0 +1,72 @@
+/* The word largest: how far each cost may grow before the table no longer passes, by the library's answers alone. */
+#include "command.h"
+
+/* The most tests that one call makes. */
+enum { TESTS = 17 };
+
+static void print_heading(void)
+{
+    printf("  task   cost  largest   more  deadline\n");
+}
+
+static void print_row(const struct table *table, unsigned number, uint64_t largest)
+{
+    struct task task = task_at(table, number);
+    printf("  %4u  %5llu  %7llu  %5llu  %8llu\n", number, (unsigned long long)task.cost, (unsigned long long)largest,
+           (unsigned long long)(largest - task.cost), (unsigned long long)task.deadline);
+}
+
+/* One call a task. An answer that is no cost is the same for every task of the table, so the first such one is enough. */
+static uint64_t ask(const struct table *table, uint32_t first, unsigned rows, uint64_t *told)
+{
+    uint64_t answer = 0;
+    begin_progress(table, TESTS * rows, 0, 0);
+    for (unsigned row = 0; row < rows && answer < YOLIZADWA_LARGEST_OVERLOAD; row++) {
+        answer = yolizadwa_largest(table->file, table->len, first + row);
+        told[row] = answer;
+    }
+    end_progress();
+    return answer;
+}
+
+static int say_none(const struct table *table, uint64_t answer)
+{
+    if (answer == YOLIZADWA_LARGEST_UNDECIDED) {
+        printf("largest undecided\n\nundecided: the budget, %llu, ended before it was known whether the table passes; the horizon, %llu, is\n"
+               "always enough\n",
+               (unsigned long long)budget_of(table), (unsigned long long)horizon_of(table));
+        return UNDECIDED;
+    }
+    if (answer == YOLIZADWA_LARGEST_OVERLOAD) {
+        printf("largest overload\n\noverload: the table does not pass as it is: more slots are asked for than there are, so no cost can grow\n");
+    } else {
+        printf("largest late\n\nlate: the table does not pass as it is, so no cost can grow; judge tells which jobs ask for too much\n");
+    }
+    return LATE;
+}
+
+int largest(const struct request *request)
+{
+    struct table table;
+    uint64_t told[YOLIZADWA_TASKS];
+    int status = open_table(request->files[0], stdout, &table);
+    if (status != DONE) {
+        return status;
+    }
+    uint32_t first = request->one_task ? request->task : 0;
+    unsigned rows = request->one_task ? 1 : task_count(&table);
+    uint64_t answer = ask(&table, first, rows, told);
+    if (yolizadwa_refused(answer)) {
+        return say_no_task(stdout, &table, first, answer);
+    }
+    if (answer >= YOLIZADWA_LARGEST_OVERLOAD) {
+        return say_none(&table, answer);
+    }
+    print_heading();
+    for (unsigned row = 0; row < rows; row++) {
+        print_row(&table, first + row, told[row]);
+    }
+    printf("\nthe table passes, and still does with %s\n",
+           rows == 1 ? "this cost raised to its largest" : "any one cost raised to its largest; with two it may not");
+    return DONE;
+}
