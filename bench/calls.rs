@@ -20,6 +20,7 @@ extern "C" {
     fn yolizadwa_quick(file: *const u8, file_len: usize) -> u64;
     fn yolizadwa_distance(file: *const u8, file_len: usize) -> u64;
     fn yolizadwa_eased(before: *const u8, before_len: usize, after: *const u8, after_len: usize) -> u64;
+    fn yolizadwa_largest(file: *const u8, file_len: usize, task: u32) -> u64;
     fn yolizadwa_start(file: *const u8, file_len: usize, state: *mut u8, state_len: usize) -> u64;
     fn yolizadwa_step(file: *const u8, file_len: usize, state: *mut u8, state_len: usize, done: u32) -> u64;
 }
@@ -45,6 +46,10 @@ pub fn distance(file: &[u8]) -> u64 {
 
 pub fn eased(before: &[u8], after: &[u8]) -> u64 {
     unsafe { yolizadwa_eased(before.as_ptr(), before.len(), after.as_ptr(), after.len()) }
+}
+
+pub fn largest(file: &[u8], task: u32) -> u64 {
+    unsafe { yolizadwa_largest(file.as_ptr(), file.len(), task) }
 }
 
 pub fn start(file: &[u8], state: &mut [u8; STATE_BYTES]) -> u64 {

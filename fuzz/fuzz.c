@@ -87,6 +87,31 @@ static uint64_t step(const uint8_t *file, size_t len, uint8_t *state, uint32_t d
     return r;
 }
 
+static int passes(const uint8_t *file, size_t len, size_t cost_at, uint32_t cost) {
+    uint8_t *changed = block(len, 0), text[REPORT + 1] = {0};
+    memcpy(changed, file, len);
+    put_word(changed, cost_at, cost);
+    check(changed, len, REPORT, 0xa5, text);
+    free(changed);
+    return strstr((char *)text, "verdict passes\n") != 0;
+}
+
+// Of a table that passes a cost that does too, and no larger one that is tried; of any other what its report says.
+static void try_largest(const uint8_t *file, size_t len, uint64_t checked, const char *text, uint32_t task, uint32_t some) {
+    uint64_t r = yolizadwa_largest(file, len, task);
+    if (checked >= REFUSED) HOLDS(r == checked);
+    else if (task >= (len - 10) / 17) HOLDS(r == (uint64_t)12 * REFUSED + (task < 65535 ? task : 65535));
+    else if (strstr(text, "verdict overload\n")) HOLDS(r == YOLIZADWA_LARGEST_OVERLOAD);
+    else if (strstr(text, "verdict late\n")) HOLDS(r == YOLIZADWA_LARGEST_LATE);
+    else if (strstr(text, "verdict undecided\n")) HOLDS(r == YOLIZADWA_LARGEST_UNDECIDED);
+    else {
+        size_t at = 9 + 17 * (size_t)task + 5;
+        uint32_t deadline = word(file, at + 4);
+        HOLDS(r >= word(file, at) && r <= deadline && passes(file, len, at, r));
+        if (r < deadline) HOLDS(!passes(file, len, at, r + 1) && !passes(file, len, at, r + 1 + some % (deadline - r)));
+    }
+}
+
 // No budget bounds the quick test and the distance test, so a round that is neither short nor refused is passed over.
 static int affordable(const uint8_t *file, size_t len) {
     uint64_t round = 1, short_enough = 1 << 18, longest = 1000000000000;
@@ -159,6 +184,10 @@ static void try_file(const uint8_t *bytes, size_t len, const uint8_t *more, size
     if (yolizadwa_eased_case(to) == YOLIZADWA_NEW_REFUSED) HOLDS(from == to - YOLIZADWA_NEW_REFUSED + YOLIZADWA_OLD_REFUSED);
     HOLDS(memcmp(other, more, more_len) == 0);
     free(other);
+
+    // a task of the table or one behind it, and one that no table has
+    try_largest(file, len, r, (char *)text, more_len ? more[0] % (len / 17 + 1) : 0, more_len > 1 ? more[1] : 0);
+    try_largest(file, len, r, (char *)text, more_len > 3 ? NONE + word(more, 0) % 100000 : UINT32_MAX, 0);
 
     size_t strange = more_len ? more[0] : STATE - 1;
     uint8_t *odd = block(strange, 0x5a);
