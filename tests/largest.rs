@@ -19,12 +19,16 @@ fn some_task(rng: &mut Rng, tasks: usize) -> u32 {
     }
 }
 
-/// A table, now and then overloaded, with a budget about what it needs.
+/// Costs lowered so that there is room, or one at its deadline, mostly too much; with a budget about what the table needs.
 fn some_table(rng: &mut Rng) -> (u64, Vec<Task>) {
     let mut tasks = near_border(rng);
-    if rng.chance(10) {
-        let task = rng.below(tasks.len() as u64) as usize;
-        tasks[task].cost = tasks[task].deadline;
+    match rng.below(10) {
+        0 => {
+            let task = rng.below(tasks.len() as u64) as usize;
+            tasks[task].cost = tasks[task].deadline;
+        }
+        1..=6 => tasks.iter_mut().for_each(|task| task.cost = rng.range(1, task.cost)),
+        _ => (),
     }
     (budget_about(rng, &tasks), tasks)
 }
@@ -71,7 +75,7 @@ pub fn every_cost(bench: &mut Bench, rng: &mut Rng, count: u64) {
 
 /// Every number so many times, as far as its range goes, so that deadlines and periods reach 60,000.
 fn stretched(rng: &mut Rng) -> Vec<Task> {
-    let tasks = near_border(rng);
+    let tasks = some_table(rng).1;
     let largest = tasks.iter().map(|task| task.period.max(task.offset)).max().unwrap();
     let by = rng.pick(&[1, 7, 60_000 / largest, 60_000 / largest]).clamp(1, (60_000 / largest).max(1));
     let stretch = |task: &Task| Task { offset: by * task.offset, cost: by * task.cost, deadline: by * task.deadline, period: by * task.period };

@@ -62,7 +62,7 @@ fn judging(bench: &mut Bench, rng: &mut Rng, count: u64) {
     easing::damaged(bench, rng, count / 4);
     easing::eased_tables_pass(bench, rng, count / 2);
     easing::lowered_costs(bench, rng, count / 2);
-    largest::every_cost(bench, rng, count / 20);
+    largest::every_cost(bench, rng, count / 10);
     largest::long_deadlines(bench, rng, count / 40);
     randoms::long_rounds(bench, rng, count / 20);
     randoms::spoilt_tables(bench, rng, count / 20);
