@@ -66,7 +66,8 @@ int largest(const struct request *request)
     for (unsigned row = 0; row < rows; row++) {
         print_row(&table, first + row, told[row]);
     }
-    printf("\nthe table passes, and still does with %s\n",
-           rows == 1 ? "this cost raised to its largest" : "any one cost raised to its largest; with two it may not");
+    printf("\nthe table passes, and still does with %s up to its deadline%s\n",
+           rows == 1 ? "this cost at its largest, and with no larger one" : "any one cost at its largest, and with no larger one",
+           rows == 1 ? "" : "; with two it may not");
     return DONE;
 }

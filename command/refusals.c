@@ -159,7 +159,7 @@ int say_no_task(FILE *to, const struct table *table, uint32_t task, uint64_t res
     if (tasks == 1) {
         fprintf(to, "its one task is task 0\n");
     } else {
-        fprintf(to, "they are numbered from 0 to %u\n", tasks - 1);
+        fprintf(to, "its tasks are numbered from 0 to %u\n", tasks - 1);
     }
     return REFUSED;
 }

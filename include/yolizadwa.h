@@ -172,8 +172,9 @@ uint64_t yolizadwa_to_text(const uint8_t *file, size_t file_len, uint8_t *text, 
  * and with those that the quick test looks at (see yolizadwa_quick), which the budget does not bound. No call can stop a check.
  * The time of start and step does not depend on the budget. Measured (docs/PERFORMANCE.md): compiled for an Arm machine
  * (Neoverse V1), a release or finish took 3 to 12 ns, the search for a late table's interval at most three quarters of the time up
- * to its deadline, and a step 0.6 microseconds; two tasks with periods of 60,000 and 59,996 were checked in 0.4 ms, and
- * tables/slow.txt, with a release every fourth slot of 1,799,880,002, with a large budget in 2.9 seconds.
+ * to its deadline, and a step 0.5 microseconds with 16 tasks and 0.8 with 32; two tasks with periods of 60,000 and 59,996 were checked in 0.4 ms, and
+ * tables/slow.txt, with a release every fourth slot of 1,799,880,002, with a large budget in 2.9 seconds; with
+ * 32 tasks and a round near the limit it took 64 seconds (periods from 20,000 on) and 219 (from 4,000 on).
  *
  * Refusals: 30; 20 to 27; 1 and 3 to 7.
  */
@@ -258,7 +259,7 @@ uint64_t yolizadwa_eased(const uint8_t *before, size_t before_len, const uint8_t
  *
  * If the table passes, the result is that cost, 1 to 60,000, and never below the one that it has. A check of the table with that cost,
  * and the same budget, says `verdict passes`, and with no larger one up to the deadline does it. Each cost is raised alone: two
- * largest ones together mostly do not pass.
+ * largest ones together may not pass.
  *
  * If the table does not pass, the result is what a check of it says, and there is no number:
  *
@@ -267,7 +268,7 @@ uint64_t yolizadwa_eased(const uint8_t *before, size_t before_len, const uint8_t
  *   YOLIZADWA_LARGEST_LATE       a job is late, at a deadline that the budget reaches
  *
  * Neither the round nor the horizon depends on a cost, so a budget that decides the table decides every trial. The cost is found by
- * halving, in at most 17 tests; each takes the time of a check without its quick test. No call can stop it.
+ * halving, in at most 17 tests of the table, each about as long as a check. No call can stop it.
  *
  * Refusals: 20 to 27; 1 and 3 to 7; 12 for a task that the table does not have, whether it passes or not.
  */

@@ -335,7 +335,8 @@ fn largest_text(tasks: &[Task], budget: u64, asked: std::ops::Range<usize>) -> (
         return no_largest_text(tasks, budget, first);
     }
     let mut text = "  task   cost  largest   more  deadline\n".to_string();
-    let raised = if asked.len() == 1 { "this cost raised to its largest" } else { "any one cost raised to its largest; with two it may not" };
+    let which = if asked.len() == 1 { "this cost" } else { "any one cost" };
+    let raised = format!("{which} at its largest, and with no larger one up to its deadline{}", if asked.len() == 1 { "" } else { "; with two it may not" });
     for number in asked {
         let (Task { cost, deadline, .. }, largest) = (tasks[number], reference::largest(tasks, number, budget));
         text += &format!("  {number:>4}  {cost:>5}  {largest:>7}  {:>5}  {deadline:>8}\n", largest - u64::from(cost));
@@ -344,7 +345,7 @@ fn largest_text(tasks: &[Task], budget: u64, asked: std::ops::Range<usize>) -> (
 }
 
 fn no_task_text(tasks: usize, asked: usize) -> String {
-    let all = if tasks == 1 { "its one task is task 0".to_string() } else { format!("they are numbered from 0 to {}", tasks - 1) };
+    let all = if tasks == 1 { "its one task is task 0".to_string() } else { format!("its tasks are numbered from 0 to {}", tasks - 1) };
     format!("refused 12 at {asked}: the table has no task {asked}; {all}\n")
 }
 

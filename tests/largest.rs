@@ -1,7 +1,7 @@
 //! How far a cost may grow: against a look at every cost, and where that is too long against the check.
 
 use crate::bench::Bench;
-use crate::calls::Request;
+use crate::calls::{Reply, Request};
 use crate::inputs::*;
 use crate::reference::{self, Task, LATE, OVERLOAD, UNDECIDED};
 
@@ -105,6 +105,18 @@ fn held_to_the_check(bench: &mut Bench, rng: &mut Rng, tasks: &[Task], task: u32
     }
 }
 
+/// A number exactly if the check passes the table as it is; else overload or late, as it says.
+fn said_of(bench: &mut Bench, tasks: &[Task], reply: &Reply) {
+    let report = String::from_utf8_lossy(&bench.answer(&[Request::check(file_of(u64::MAX, tasks))])[0].written()).to_string();
+    let verdict = report.lines().find_map(|line| line.strip_prefix("verdict ")).unwrap_or("none").to_string();
+    let good = match reply.result {
+        OVERLOAD => verdict == "overload",
+        LATE => verdict == "late",
+        result => result < OVERLOAD && verdict == "passes",
+    };
+    bench.count(good && reply.intact, || format!("{tasks:?}: {} told, and check says {report}", reply.result));
+}
+
 /// Deadlines too long for a look at every cost.
 pub fn long_deadlines(bench: &mut Bench, rng: &mut Rng, count: u64) {
     let tables: Vec<Vec<Task>> = (0..count).map(|_| stretched(rng)).collect();
@@ -114,7 +126,8 @@ pub fn long_deadlines(bench: &mut Bench, rng: &mut Rng, count: u64) {
         let asked = |(tasks, &task): (&Vec<Task>, &u32)| Request::largest(file_of(u64::MAX, tasks), task);
         let replies = bench.answer(&some.iter().zip(&tasks).map(asked).collect::<Vec<_>>());
         for ((reply, tasks), &task) in replies.iter().zip(some).zip(&tasks) {
-            if reply.intact && reply.result < OVERLOAD {
+            said_of(bench, tasks, reply);
+            if reply.result < OVERLOAD {
                 told += 1;
                 held_to_the_check(bench, rng, tasks, task, reply.result as u32);
             }

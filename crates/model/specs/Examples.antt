@@ -24,7 +24,7 @@ use Rattle.model.specs.Report.{worstLines, reportOf, refused, written, C
 use Rattle.model.specs.StateBuffer.{stateBytes, halves, bufferOf, stateIn, startExported, stepExported, handed}
 use Rattle.model.specs.Writer.{fileWritten, firstStranger, tableIn, writeExported}
 use Rattle.model.specs.PlainText.{split, filled, allDigits, valueAfter, numbersFault, same, budgetLine, taskLine, lineOf, readLines, textForm, textLoaded, taskTexts, textOf, textWritten, fromTextExported, toTextExported}
-use Rattle.model.specs.Largest.{largestCost, costAnswer}
+use Rattle.model.specs.Largest.{largestCost, costAnswer, largestExported}
 use Rattle.model.specs.Easing.{Lowered, searchedFrom, easing, easedExported}
 
 -- The limits, and what follows from them: the longest file, the longest text and the bytes of a state buffer; the slots that can be counted
@@ -811,3 +811,11 @@ cost-answers :
     ≡ (1 ∷ 0 ∷ []) ∷ (12 ∷ 2 ∷ []) ∷ (1 ∷ []) ∷ (3 ∷ []) ∷ (2 ∷ []) ∷ (2 ∷ []) ∷ (0 ∷ 5 ∷ []) ∷ []
 unfolding costAnswer largestCost judged firstFaulty taskFault verdict needed lateStart lateAt first last round load horizon largest sum count demand jobsIn
 cost-answers = refl
+
+-- As numbers: of b's tasks, of a number that is none and of one that is too large to be told; undecided; a refused file.
+largest-numbers :
+    (map (largestExported file-b) (0 ∷ 1 ∷ 2 ∷ 70000 ∷ []) ≡ 5 ∷ 2 ∷ 786434 ∷ 851967 ∷ [])
+    × (largestExported file-short 0 ≡ 60002)
+    × (largestExported [] 0 ≡ 1441792)
+unfolding costAnswer largestCost formOf readFrom judged firstFaulty taskFault verdict needed lateStart lateAt first last round load horizon largest sum count demand jobsIn
+largest-numbers = (refl, refl, refl)
