@@ -7,7 +7,7 @@ use Rattle.values.specs.declared.Task.{Task}
 use Rattle.values.specs.declared.Table.{Table}
 use Rattle.values.specs.declared.Verdict.{Verdict}
 use Rattle.model.specs.Tasks.{task, horizon, release}
-use Rattle.model.specs.Demand.{inside, jobsIn, demand}
+use Rattle.model.specs.Demand.{arrivedIn, jobsIn, demand}
 use Rattle.model.specs.Verdict.{verdict}
 use Rattle.model.specs.Easing.{EasedTask, Eased, Lowered}
 use Rattle.counting.specs.Count.{tests, and-iff, count-le}
@@ -49,9 +49,8 @@ released-same k k' e j = rw (e .same-offset, e .same-period)
 
 -- No more of its jobs are inside an interval.
 jobs-fall : (k k' : Task) → EasedTask k k' → (from to : ℕ) → jobsIn k' from to ≤ jobsIn k from to
-unfolding jobsIn
-jobs-fall k k' e from to =
-    count-le (inside k' from to) (inside k from to) to (λ j l h. let w = simp and-iff at h in simp and-iff (omega (tests, released-same k k' e j), omega (tests, released-same k k' e j, e .longer-deadline)))
+unfolding arrivedIn
+jobs-fall k k' e from to = rw (e .same-offset, e .same-period) (count-le _ _ to (λ u l h. let w = simp and-iff at h in simp and-iff (w .0, (w .1 .0, omega (tests, e .longer-deadline)))))
 
 module _ (t t' : Table) (e : Eased t t') where
   -- No interval asks for more.

@@ -16,6 +16,6 @@ Feasible t = (σ : Schedule) × Good t σ
 
 pub feasible-iff : (t : Table) → Ranged t → Feasible t ↔ NeverTooMuch t
 feasible-iff t r = (
-  λ h from to w. let (l, d) = too-much-iff t from to .0 w in omega (arith, necessary (h .0) from to t (h .1)),
+  λ h from to w. let (l, d) = too-much-iff t from to .0 w in omega (arith, necessary (h .0) from to t r (h .1)),
   λ h. (run t _, sufficient (tieSystem t r) h),
 )

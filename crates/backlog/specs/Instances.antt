@@ -1,9 +1,9 @@
 -- NO THEOREM OF THIS CRATE IS EMPTY: what they ask for is met by tables of document 01.
-use mathlib.Core.Path.{_≡_, refl}
+use mathlib.Core.Path.{_≡_, refl, ap}
 use mathlib.Core.Logic.{inr, _⊎_, _↔_}
 use mathlib.Core.List.{[], _∷_}
 use mathlib.Core.Bool.{Bool, false, true}
-use Prim.Native.Nat.{ℕ, zero, suc, _+_, _-_, _≤_, _<_}
+use Prim.Native.Nat.{ℕ, zero, suc, _+_, _-_, _*_, _≤_, _<_}
 use native.Mathlib.Omega.{arith}
 use lib.ListN.{getD}
 use lib.Dec.{T, lit≤, lit<, eqb}
@@ -16,8 +16,8 @@ use Rattle.values.specs.declared.Answer.{Answer}
 use Rattle.values.specs.declared.Outcome.{Outcome}
 use Rattle.model.specs.Limits.{taskLimit, slotCountLimit}
 use Rattle.model.specs.Values.{refusal}
-use Rattle.model.specs.Tasks.{task, release, due, taskFault, firstFaulty, round, load, horizon, judged}
-use Rattle.model.specs.Demand.{jobsIn, demand, lateAt, asksTooMuch}
+use Rattle.model.specs.Tasks.{task, release, due, taskFault, firstFaulty, round, load, horizon, judgedMixed, firstButton, judged}
+use Rattle.model.specs.Demand.{arrivedIn, demand, lateAt, asksTooMuch}
 use Rattle.model.specs.Run.{Order, choose, run, Worst}
 use Rattle.model.specs.Verdict.{needed, lateStart, verdict, settledBy, Worsts, Permitted}
 use Rattle.model.specs.Dispatcher.{State, Stepped, givenOf, slotCount, firstStrange, startOf, isLate, ownerNow, after, turn, refuseStep, stepped}
@@ -26,18 +26,22 @@ use Rattle.model.specs.TableFile.{tableOf}
 use Rattle.model.specs.Easing.{Eased, Lowered, easing}
 use Rattle.model.specs.Largest.{withCost, largestCost}
 use Rattle.model.specs.Examples.{padded, of, table-b, table-c, table-d, table-f, table-g, table-i}
-use Rattle.model.specs.Schedule.{none, job}
+use Rattle.model.specs.Schedule.{none, job, given}
 use Rattle.wellformed.specs.Ranges.{Ranged}
-use Rattle.wellformed.specs.WellFormed.{well-formed}
+use Rattle.wellformed.specs.WellFormed.{well-mixed}
 use Rattle.backlog.specs.Queue.{backlog, Busy, busy-from, backlog-mono}
-use Rattle.backlog.specs.Streams.{released, Run, left}
+use Rattle.backlog.specs.Streams.{Jobs, released, Run, left}
+use Rattle.backlog.specs.StreamRun.{runOf, stream-run}
+use Rattle.backlog.specs.StreamSchedule.{scheduleOf, stream-given}
+use Rattle.backlog.specs.Agree.{Agree, slots-agree}
 use Rattle.backlog.specs.RunUnique.{run-unique}
 use Rattle.backlog.specs.Finish.{DoneFirst, finish}
 use Rattle.backlog.specs.Ever.{ends-ever}
 use Rattle.backlog.specs.Criterion.{Met}
 use Rattle.backlog.specs.NoneLate.{none-late}
 use Rattle.backlog.specs.RunHistory.{run-history}
-use Rattle.backlog.specs.System.{System, dueOf, keyOf, jobs, dues, constrained, JobNoLater}
+use Rattle.backlog.specs.Choice.{standing}
+use Rattle.backlog.specs.System.{System, dueOf, spread, keyOf, coming, jobs, dues, constrained, JobNoLater}
 use Rattle.backlog.specs.ModelRun.{servedOf, model-run}
 use Rattle.backlog.specs.RunRule.{Waiting, run-rule}
 use Rattle.backlog.specs.Shift.{Light}
@@ -85,11 +89,11 @@ more = backlog-mono (λ u. 1) (λ u. 2) (λ t. lit≤ tt)
 
 -- Table b keeps its ranges and passes, so some schedule of it is good.
 b-ranged : Ranged table-b
-unfolding judged firstFaulty taskFault first round load horizon largest sum count
-b-ranged = well-formed table-b (record { round = 15; load = 11; horizon = 38 }) refl .ranged
+unfolding judgedMixed firstFaulty taskFault first round load horizon largest sum count
+b-ranged = well-mixed table-b (record { round = 15; load = 11; horizon = 38 }) refl .ranged
 
 b-passes : verdict table-b 38 ≡ Verdict.Passes
-unfolding verdict needed lateStart lateAt first last round load horizon largest sum count demand jobsIn
+unfolding verdict needed lateStart lateAt first last round load horizon largest sum count demand arrivedIn
 b-passes = refl
 
 b-feasible : Feasible table-b
@@ -137,8 +141,8 @@ b-eased = record {
 }
 
 b-rest-ranged : Ranged b-rest
-unfolding judged firstFaulty taskFault first round load horizon largest sum count
-b-rest-ranged = well-formed b-rest (record { round = 5; load = 1; horizon = 10 }) refl .ranged
+unfolding judgedMixed firstFaulty taskFault first round load horizon largest sum count
+b-rest-ranged = well-mixed b-rest (record { round = 5; load = 1; horizon = 10 }) refl .ranged
 
 b-rest-passes : verdict b-rest 10 ≡ Verdict.Passes
 unfolding horizon largest round first count
@@ -162,8 +166,8 @@ b-lowered = record {
 }
 
 b-lower-ranged : Ranged b-lower
-unfolding judged firstFaulty taskFault first round load horizon largest sum count
-b-lower-ranged = well-formed b-lower (record { round = 15; load = 10; horizon = 38 }) refl .ranged
+unfolding judgedMixed firstFaulty taskFault first round load horizon largest sum count
+b-lower-ranged = well-mixed b-lower (record { round = 15; load = 10; horizon = 38 }) refl .ranged
 
 b-no-slower : (rank : Order) (w w' : ℕ) → Worst table-b rank 0 w → Worst b-lower rank 0 w' → w' ≤ w
 b-no-slower rank w w' = lowered-worst table-b b-lower b-ranged b-lower-ranged b-lowered rank rank (λ i l. refl) 0 w w' (lit< tt)
@@ -172,9 +176,34 @@ b-no-slower rank w w' = lowered-worst table-b b-lower b-ranged b-lower-ranged b-
 b-largest : verdict (withCost table-b 0 (largestCost table-b 0 38)) 38 ≡ Verdict.Passes
 b-largest = largest-cost table-b b-ranged 0 (lit< tt) 38 b-passes .2
 
--- There is no other run of its streams.
+-- There is no other run of its streams, so the one that any streams have is it.
 b-one-run : (s : ℕ → ℕ → ℕ) → Run (jobs b-system) s → (u i : ℕ) → i < 2 → s u i ≡ servedOf b-system u i
 b-one-run s R = run-unique (jobs b-system) s (servedOf b-system) R (model-run b-system)
+
+b-stream-run : (u i : ℕ) → i < 2 → runOf (jobs b-system) u i ≡ servedOf b-system u i
+b-stream-run = b-one-run (runOf (jobs b-system)) (stream-run (jobs b-system))
+
+-- As a schedule it gives the first job of task 0 its 5 slots between 8 and 15.
+b-stream-given : 5 ≤ given (scheduleOf (jobs b-system) (servedOf b-system) (model-run b-system)) 0 0 8 15
+b-stream-given = stream-given (jobs b-system) (servedOf b-system) (model-run b-system) 0 0 15 (lit< tt) (b-met 0 0 (lit< tt))
+
+-- Were task 0 to come from 9 on instead of 8, the slots before 8 would be given alike.
+abbrev b-later : Jobs
+b-later = coming b-system (λ i j. release (task table-b i) j + (1 - i)) (λ i j l. omega arith)
+
+b-agree : Agree (jobs b-system) b-later 8
+b-agree = record { same-n = refl; same-cost = λ i l. refl; forth = forth; back = back; same-key = λ i j l h. ap (λ (x : ℕ). (x + task table-b i .deadline) * spread b-system + standing (b-system .rank) i) (forth i j l h) }
+  where
+    forth : (i j : ℕ) → i < 2 → release (task table-b i) j < 8 → b-later .rel i j ≡ release (task table-b i) j
+    forth zero j l h = absurd (omega arith)
+    forth (suc i) j l h = omega arith
+
+    back : (i j : ℕ) → i < 2 → b-later .rel i j < 8 → b-later .rel i j ≡ release (task table-b i) j
+    back zero j l h = absurd (omega arith)
+    back (suc i) j l h = omega arith
+
+b-slots-agree : (u : ℕ) → u < 8 → scheduleOf b-later (runOf b-later) (stream-run b-later) u ≡ scheduleOf (jobs b-system) (servedOf b-system) (model-run b-system) u
+b-slots-agree = slots-agree (jobs b-system) b-later 8 b-agree (servedOf b-system) (runOf b-later) (model-run b-system) (stream-run b-later)
 
 -- No interval of it asks too much, so a walk to its horizon finds its worst responses.
 b-clear : Clear table-b (horizon table-b)
@@ -185,11 +214,11 @@ b-walk-worsts = walk-worsts table-b b-ranged b-met
 
 -- Table g has load exactly 1, and passes.
 g-ranged : Ranged table-g
-unfolding judged firstFaulty taskFault first round load horizon largest sum count
-g-ranged = well-formed table-g (record { round = 4; load = 4; horizon = 8 }) refl .ranged
+unfolding judgedMixed firstFaulty taskFault first round load horizon largest sum count
+g-ranged = well-mixed table-g (record { round = 4; load = 4; horizon = 8 }) refl .ranged
 
 g-passes : verdict table-g 8 ≡ Verdict.Passes
-unfolding verdict needed lateStart lateAt first last round load horizon largest sum count demand jobsIn
+unfolding verdict needed lateStart lateAt first last round load horizon largest sum count demand arrivedIn
 g-passes = refl
 
 g-light : Light (tieSystem table-g g-ranged) (tieCycle table-g g-ranged)
@@ -197,11 +226,11 @@ g-light = light-of-met (tieSystem table-g g-ranged) (tieCycle table-g g-ranged) 
 
 -- Table d is late first at 7, where its run first misses a deadline.
 d-ranged : Ranged table-d
-unfolding judged firstFaulty taskFault first round load horizon largest sum count
-d-ranged = well-formed table-d (record { round = 15; load = 11; horizon = 30 }) refl .ranged
+unfolding judgedMixed firstFaulty taskFault first round load horizon largest sum count
+d-ranged = well-mixed table-d (record { round = 15; load = 11; horizon = 30 }) refl .ranged
 
 d-late : Least (λ u. T (lateAt table-d u)) 7
-unfolding needed lateAt first round horizon largest sum count demand jobsIn
+unfolding needed lateAt first round horizon largest sum count demand arrivedIn
 d-late = (tt, λ u l. none-before table-d u l)
 
 d-missed : Least (Missed (tieSystem table-d d-ranged)) 7
@@ -217,11 +246,11 @@ d-asks = start-asks table-d 7 (d-late .0)
 
 -- No start above 0 does, so that is where the interval starts.
 d-largest : (from : ℕ) → 0 < from → T (asksTooMuch table-d from 7) → ⊥
-unfolding lateStart last demand jobsIn sum count
+unfolding lateStart last demand arrivedIn sum count
 d-largest = start-largest table-d 7
 
 d-start : lateStart table-d 7 ≡ 0
-unfolding demand jobsIn sum count
+unfolding demand arrivedIn sum count
 d-start = start-is table-d 7 0 tt d-largest
 
 -- So a walk sees a job at its deadline there.
@@ -230,8 +259,8 @@ d-seen = late-iff table-d d-ranged 7 (λ u l. d-late .1 u l) .1 (d-late .0)
 
 -- Table i is overloaded, so no schedule of it is good.
 i-ranged : Ranged table-i
-unfolding judged firstFaulty taskFault first round load horizon largest sum count
-i-ranged = well-formed table-i (record { round = 5; load = 6; horizon = 12 }) refl .ranged
+unfolding judgedMixed firstFaulty taskFault first round load horizon largest sum count
+i-ranged = well-mixed table-i (record { round = 5; load = 6; horizon = 12 }) refl .ranged
 
 i-overload : (to : ℕ) × T (lateAt table-i to)
 unfolding first round load sum count
@@ -280,11 +309,11 @@ g-none-cut : (n : ℕ) → (turn table-g (stateAt table-g reports n) (reports n)
 g-none-cut = none-cut table-g g-ranged reports 8 g-passes
 
 g-never-refused : (n : ℕ) → n < slotCountLimit → _≡_ {A = Stepped} (stepped table-g (stateAt table-g reports n) (reports n)) (record { given = Given.Slot (turn table-g (stateAt table-g reports n) (reports n)); state = stateAt table-g reports (suc n) })
-unfolding judged firstFaulty taskFault first round load horizon largest sum count
+unfolding judged judgedMixed firstButton firstFaulty taskFault first round load horizon largest sum count
 g-never-refused n = never-refused table-g (record { round = 4; load = 4; horizon = 8 }) refl reports n
 
 g-full : stepped table-g (stateAt table-g reports slotCountLimit) (reports slotCountLimit) ≡ refuseStep (refusal 9 0) (stateAt table-g reports slotCountLimit)
-unfolding judged firstFaulty taskFault first round load horizon largest sum count
+unfolding judged judgedMixed firstButton firstFaulty taskFault first round load horizon largest sum count
 g-full = full table-g (record { round = 4; load = 4; horizon = 8 }) refl reports slotCountLimit refl
 
 g-counted : (slotCount table-g (stateAt table-g reports 5) ≡ 5) × (givenOf (stateAt table-g reports 5) 1 ≡ count (λ k. eqb (ownerAt table-g reports k) 1) 5) × (stateAt table-g reports 5 .empty ≡ count (λ k. eqb (ownerAt table-g reports k) taskLimit) 5)
@@ -306,20 +335,20 @@ g-slots-after = slots-after table-g g-ranged other true g-belongs
 
 -- Table f has load exactly 1 and is late at 5, past its horizon of 4; so it is late within it too.
 f-ranged : Ranged table-f
-unfolding judged firstFaulty taskFault first round load horizon largest sum count
-f-ranged = well-formed table-f (record { round = 2; load = 2; horizon = 4 }) refl .ranged
+unfolding judgedMixed firstFaulty taskFault first round load horizon largest sum count
+f-ranged = well-mixed table-f (record { round = 2; load = 2; horizon = 4 }) refl .ranged
 
 f-late-soon : (u : ℕ) × (u ≤ horizon table-f) × T (lateAt table-f u)
-unfolding first round load sum count demand jobsIn lateAt
+unfolding first round load sum count demand arrivedIn lateAt
 f-late-soon = late-soon table-f f-ranged (lit≤ tt) 5 tt
 
 -- Table c is late at 15 with a budget of 15, and so with one of 1000.
 c-ranged : Ranged table-c
-unfolding judged firstFaulty taskFault first round load horizon largest sum count
-c-ranged = well-formed table-c (record { round = 15; load = 12; horizon = 38 }) refl .ranged
+unfolding judgedMixed firstFaulty taskFault first round load horizon largest sum count
+c-ranged = well-mixed table-c (record { round = 15; load = 12; horizon = 38 }) refl .ranged
 
 c-late : verdict table-c 15 ≡ Verdict.Late 8 15 8
-unfolding verdict needed lateStart lateAt first last round load horizon largest sum count demand jobsIn
+unfolding verdict needed lateStart lateAt first last round load horizon largest sum count demand arrivedIn
 c-late = refl
 
 c-longer : verdict table-c 1000 ≡ verdict table-c 15
@@ -330,7 +359,7 @@ c-infeasible = late-infeasible table-c c-ranged 15 8 15 8 c-late
 
 -- Table b is undecided at 37.
 b-undecided : (load table-b ≤ round table-b) × (37 < needed table-b)
-unfolding verdict needed lateStart lateAt first last round load horizon largest sum count demand jobsIn
+unfolding verdict needed lateStart lateAt first last round load horizon largest sum count demand arrivedIn
 b-undecided = undecided-iff table-b 37 .0 refl
 
 -- One answer is permitted to table b with this budget: the computed one.
@@ -338,5 +367,5 @@ b-one : (a : Answer) → Permitted table-b 38 a → a ≡ answerOf table-b 38
 b-one a p = permitted-unique table-b 38 a (answerOf table-b 38) p (computed table-b 38)
 
 b-says : (a : Answer) → Permitted table-b 38 a → (a .outcome ≡ Outcome.Tested Verdict.Passes) × (a .settled ≡ 38) × (a .measure ≡ record { round = 15; load = 11; horizon = 38 })
-unfolding Permitted judged firstFaulty taskFault verdict settledBy needed lateStart lateAt first last round load horizon largest sum count demand jobsIn
+unfolding Permitted judged judgedMixed firstButton firstFaulty taskFault verdict settledBy needed lateStart lateAt first last round load horizon largest sum count demand arrivedIn
 b-says a = answers-say table-b 38 _ a Verdict.Passes

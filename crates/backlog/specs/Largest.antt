@@ -12,14 +12,14 @@ use Rattle.values.specs.declared.Task.{Task}
 use Rattle.values.specs.declared.Table.{Table}
 use Rattle.values.specs.declared.Verdict.{Verdict}
 use Rattle.model.specs.Notation.{last}
-use Rattle.model.specs.Tasks.{noTask, task, round, horizon}
+use Rattle.model.specs.Tasks.{noTask, task, offset, round, horizon}
 use Rattle.model.specs.Verdict.{verdict}
 use Rattle.model.specs.Easing.{EasedTask, Lowered}
 use Rattle.model.specs.Largest.{costing, withCost, isPass, passesWith, largestCost}
 use Rattle.counting.specs.Search.{last-lt, last-is, last-passes, last-behind}
 use Rattle.wellformed.specs.Ranges.{InRange, Ranged}
 use Rattle.wellformed.specs.Round.{round-same}
-use Rattle.wellformed.specs.WellFormed.{horizon-same}
+use Rattle.wellformed.specs.WellFormed.{Buttonless, horizon-same}
 use Rattle.backlog.specs.Verdicts.{passes-needed-iff}
 use Rattle.backlog.specs.Needed.{none-within}
 use Rattle.backlog.specs.Eased.{eased-passes, eased-of-lowered}
@@ -59,8 +59,12 @@ module _ (t : Table) (r : Ranged t) (i : ℕ) (l : i < t .count) where
           let q = r .each i l in
           rw (h, with-own c) (record { period-pos = q .period-pos; period-le = q .period-le; deadline-pos = q .deadline-pos; deadline-le = q .deadline-le; cost-pos = a; cost-le = b; offset-le = q .offset-le })
 
+  -- A task keeps its sort.
+  pub buttonless-with : (c : ℕ) → Buttonless t → Buttonless (withCost t i c)
+  buttonless-with c none k m = elim (ℕ-discrete k i) [ yes h ↦ rw (h, with-own c) (none i l) | no h ↦ rw (with-other c k h) (none k m) ]
+
   -- Each task has its offset and its period still; so the table has its H and its horizon.
-  released-with : (c k : ℕ) → (task (withCost t i c) k .offset ≡ task t k .offset) × (task (withCost t i c) k .period ≡ task t k .period)
+  released-with : (c k : ℕ) → (offset (task (withCost t i c) k) ≡ offset (task t k)) × (task (withCost t i c) k .period ≡ task t k .period)
   released-with c k = elim (ℕ-discrete k i) [ yes h ↦ rw (h, with-own c) (refl, refl) | no h ↦ rw (with-other c k h) (refl, refl) ]
 
   pub round-with : (c : ℕ) → 1 ≤ c → c ≤ task t i .deadline → round (withCost t i c) ≡ round t

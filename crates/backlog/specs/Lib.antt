@@ -2,6 +2,9 @@
 pub mod Queue
 pub mod Streams
 pub mod Left
+pub mod StreamRun
+pub mod StreamSchedule
+pub mod Agree
 pub mod RunUnique
 pub mod Finish
 pub mod Ever

@@ -1,4 +1,5 @@
--- NECESSARY (`necessary`): a good schedule leaves no interval that asks too much. Of any table whatever.
+-- NECESSARY (`necessary`): a good schedule of a table that keeps its ranges leaves no interval that asks too much.
+use mathlib.Core.Path.{ap}
 use mathlib.Core.Bool.{Bool, true, false, _&&_}
 use Prim.Native.Nat.{ℕ, zero, suc, _+_, _-_, _*_, _≤_, _<_}
 use native.Mathlib.Omega.{arith}
@@ -6,8 +7,11 @@ use lib.Dec.{T, leb, ltb, eqb}
 use Rattle.model.specs.Notation.{bit, sum, count}
 use Rattle.values.specs.declared.Table.{Table}
 use Rattle.model.specs.Tasks.{task, release, due}
-use Rattle.model.specs.Demand.{inside, jobsIn, demand}
+use Rattle.model.specs.Demand.{jobsIn, demand}
 use Rattle.model.specs.Schedule.{Slot, none, job, Schedule, belongs, given, Good}
+use Rattle.wellformed.specs.Ranges.{Ranged}
+use Rattle.wellformed.specs.Demand.{jobs-numbered}
+use Rattle.counting.specs.Sum.{sum-eq}
 use Rattle.counting.specs.Count.{tests, and-iff, bit-add, count-le, count-add, count-more, count-from, bit-and}
 
 -- The slot is a job below m of task i; it is a job of a task below n.
@@ -35,7 +39,7 @@ under-early n m (job a b) = bit-add (ltb a n) (eqb a n && ltb b m) (ltb a (suc n
 
 module _ (σ : Schedule) (t1 t2 : ℕ) where
   -- The slots from t1 up to t2 that pass a test; each passes for one job at most.
-  used : (Slot → Bool) → ℕ
+  unfoldable pub used : (Slot → Bool) → ℕ
   used p = count (λ u. leb t1 u && p (σ u)) t2
 
   used-add : (p q r : Slot → Bool) → ((s : Slot) → bit (p s) + bit (q s) ≤ bit (r s)) → used p + used q ≤ used r
@@ -53,36 +57,41 @@ module _ (σ : Schedule) (t1 t2 : ℕ) where
         count-from (leb t1) t1 t2 t2 (λ u l. (λ h. (omega tests, l), λ h. omega tests)),
       )
 
-  module _ (t : Table) (good : Good t σ) where
-    -- A job inside the interval has its cost in slots of the interval.
-    inside-used : (i j : ℕ) → i < t .count → T (inside (task t i) t1 t2 j) → task t i .cost ≤ used (belongs i j)
-    unfolding used given Good
-    inside-used i j l h =
-        let w = simp and-iff at h in
-        let p : ℕ → Bool = λ u. leb (release (task t i) j) u && belongs i j (σ u) in
-        omega (
-          tests,
-          good i j l,
-          count-more p (due (task t i) j) t2 (omega tests),
-          count-le p (λ u. leb t1 u && belongs i j (σ u)) t2 (λ u m x. let y = simp and-iff at x in simp and-iff (omega tests, y .1)),
-        )
-
-    -- So have the first m jobs of a task, and so the first n tasks.
-    jobs-used : (i m : ℕ) → i < t .count → task t i .cost * count (inside (task t i) t1 t2) m ≤ used (early i m)
+  -- If each job that passes a test has had the cost of its task in slots of the interval, their costs fit it.
+  module _ (n : ℕ) (cost : ℕ → ℕ) (p : ℕ → ℕ → Bool) (has : (i j : ℕ) → i < n → T (p i j) → cost i ≤ used (belongs i j)) where
+    jobs-used : (i m : ℕ) → i < n → cost i * count (p i) m ≤ used (early i m)
     unfolding count
     jobs-used i zero l = omega arith
-    jobs-used i (suc m) l = go (inside (task t i) t1 t2 m) (inside-used i m l) (jobs-used i m l) (used-add (early i m) (belongs i m) (early i (suc m)) (early-belongs i m))
+    jobs-used i (suc m) l = go (p i m) (has i m l) (jobs-used i m l) (used-add (early i m) (belongs i m) (early i (suc m)) (early-belongs i m))
       where
-        go : (b : Bool) → (T b → task t i .cost ≤ used (belongs i m)) → task t i .cost * count (inside (task t i) t1 t2) m ≤ used (early i m)
-            → used (early i m) + used (belongs i m) ≤ used (early i (suc m)) → task t i .cost * (count (inside (task t i) t1 t2) m + bit b) ≤ used (early i (suc m))
+        go : (b : Bool) → (T b → cost i ≤ used (belongs i m)) → cost i * count (p i) m ≤ used (early i m)
+            → used (early i m) + used (belongs i m) ≤ used (early i (suc m)) → cost i * (count (p i) m + bit b) ≤ used (early i (suc m))
         go true h ih e = omega (arith, h tt)
         go false h ih e = omega arith
 
-    tasks-used : (n : ℕ) → n ≤ t .count → sum n (λ i. task t i .cost * count (inside (task t i) t1 t2) t2) ≤ used (under n)
+    tasks-used : (m k : ℕ) → k ≤ n → sum k (λ i. cost i * count (p i) m) ≤ used (under k)
     unfolding sum
-    tasks-used zero l = omega arith
-    tasks-used (suc n) l = omega (arith, tasks-used n (omega arith), jobs-used n t2 l, used-add (under n) (early n t2) (under (suc n)) (under-early n t2))
+    tasks-used m zero l = omega arith
+    tasks-used m (suc k) l = omega (arith, tasks-used m k (omega arith), jobs-used k m l, used-add (under k) (early k m) (under (suc k)) (under-early k m))
 
-    pub necessary : demand t t1 t2 ≤ t2 - t1
-    unfolding demand jobsIn
-    necessary = omega (arith, tasks-used (t .count) (omega arith), used-all (under (t .count)))
+    pub costs-fit : (m : ℕ) → sum n (λ i. cost i * count (p i) m) ≤ t2 - t1
+    costs-fit m = omega (arith, tasks-used m n (omega arith), used-all (under n))
+
+  -- A job that has its slots between two instants of the interval has them in the interval.
+  pub given-used : (i j from to : ℕ) → t1 ≤ from → to ≤ t2 → given σ i j from to ≤ used (belongs i j)
+  unfolding used given
+  given-used i j from to a b =
+      let p : ℕ → Bool = λ u. leb from u && belongs i j (σ u) in
+      omega (arith, count-more p to t2 b, count-le p (λ u. leb t1 u && belongs i j (σ u)) t2 (λ u m x. let y = simp and-iff at x in simp and-iff (omega tests, y .1)))
+
+  pub necessary : (t : Table) → Ranged t → Good t σ → demand t t1 t2 ≤ t2 - t1
+  unfolding demand Good
+  necessary t r good =
+      omega (
+        arith,
+        sum-eq (t .count) (λ i. task t i .cost * jobsIn (task t i) t1 t2) (λ i. task t i .cost * count (inside i) t2) (λ i l. ap (λ (n : ℕ). task t i .cost * n) (jobs-numbered (task t i) (r .each i l .period-pos) (r .each i l .deadline-pos) t1 t2)),
+        costs-fit (t .count) (λ i. task t i .cost) inside (λ i j l h. let w = simp and-iff at h in omega (arith, good i j l, given-used i j (release (task t i) j) (due (task t i) j) (omega tests) (omega tests))) t2,
+      )
+    where
+      inside : ℕ → ℕ → Bool
+      inside i j = leb t1 (release (task t i) j) && leb (due (task t i) j) t2

@@ -1,19 +1,21 @@
 -- A TABLE IS STREAMS OF JOBS (`demand-streams`): one of no more tasks than allowed, which cost something and are due after their release and by the next one, with an order of its tasks, makes streams with the model's demand.
-use mathlib.Core.Path.{_≡_, refl, sym, ap, _∙_}
+use mathlib.Core.Path.{_≡_, sym, ap, _∙_}
 use mathlib.Core.Logic.{_⊎_, inl, inr, _↔_}
 use Prim.Native.Nat.{ℕ, suc, _+_, _-_, _*_, _%_, _≤_, _<_}
-use native.Mathlib.Nat.{mul-pos, mul-le-mul-right}
+use native.Mathlib.Nat.{mul-le-mul-right}
 use native.Mathlib.Decide.{decLe}
 use native.Mathlib.Omega.{arith}
 use lib.Arith.{digits-mod}
 use Rattle.values.specs.declared.Table.{Table}
 use Rattle.model.specs.Limits.{taskLimit}
 use Rattle.model.specs.Notation.{largest}
-use Rattle.model.specs.Tasks.{task, release, due}
-use Rattle.model.specs.Demand.{jobsIn, demand}
+use Rattle.model.specs.Tasks.{task, offset, release, due}
+use Rattle.model.specs.Demand.{demand}
 use Rattle.model.specs.Run.{Order}
+use Rattle.counting.specs.Sum.{sum-eq}
 use Rattle.counting.specs.Below.{Grows, below}
 use Rattle.counting.specs.Search.{le-largest}
+use Rattle.wellformed.specs.Demand.{jobs-numbered}
 use Rattle.backlog.specs.Streams.{Jobs}
 use Rattle.backlog.specs.Criterion as streams
 use Rattle.backlog.specs.Criterion.{Dues, Constrained}
@@ -33,7 +35,7 @@ abbrev pub size : System → ℕ
 size S = S .table .count
 
 abbrev pub offsetOf : System → ℕ → ℕ
-offsetOf S i = task (S .table) i .offset
+offsetOf S i = offset (task (S .table) i)
 
 abbrev pub costOf : System → ℕ → ℕ
 costOf S i = task (S .table) i .cost
@@ -55,13 +57,23 @@ releasedBy S i n = below (releaseOf S i) n
 unfoldable pub spread : System → ℕ
 spread S = (largest (size S) (S .rank) + 1) * taskLimit
 
--- One number for deadline and standing: an earlier deadline goes first, and ties by the order. No two jobs share it.
-abbrev pub keyOf : System → ℕ → ℕ → ℕ
-keyOf S i j = dueOf S i j * spread S + standing (S .rank) i
-
 -- Job j of task i comes no later than job m of task k: by the earlier deadline, then the lower rank, then the lower number.
 abbrev pub JobNoLater : System → ℕ → ℕ → ℕ → ℕ → Type 0
 JobNoLater S i j k m = (dueOf S i j < dueOf S k m) ⊎ ((dueOf S i j ≡ dueOf S k m) × ((S .rank i < S .rank k) ⊎ ((S .rank i ≡ S .rank k) × (i ≤ k))))
+
+-- Job j of task i may come at `rel i j`, at least the task's period after the job before.
+abbrev pub Apart : System → (ℕ → ℕ → ℕ) → Type 0
+Apart S rel = (i j : ℕ) → i < size S → rel i j + periodOf S i ≤ rel i (suc j)
+
+-- When it is due then; and one number for that and its task's standing: an earlier deadline goes first, and ties by the order. No two jobs share it.
+abbrev pub dueFrom : System → (ℕ → ℕ → ℕ) → ℕ → ℕ → ℕ
+dueFrom S rel i j = rel i j + task (S .table) i .deadline
+
+abbrev pub keyFrom : System → (ℕ → ℕ → ℕ) → ℕ → ℕ → ℕ
+keyFrom S rel i j = dueFrom S rel i j * spread S + standing (S .rank) i
+
+abbrev pub keyOf : System → ℕ → ℕ → ℕ
+keyOf S = keyFrom S (releaseOf S)
 
 module _ (S : System) where
   pub period-pos : (i : ℕ) → i < size S → 0 < periodOf S i
@@ -72,49 +84,64 @@ module _ (S : System) where
   unfolding spread
   standing-low i l = omega (arith, S .size-le, le-largest (size S) (S .rank) i l)
 
-  pub keys-grow : (i : ℕ) → i < size S → Grows (keyOf S i)
-  keys-grow i l j = let some : 0 < spread S = omega (arith, standing-low i l) in omega (arith, mul-pos (period-pos i l) some)
-
-  pub keys-apart : (i j k l : ℕ) → i < size S → k < size S → keyOf S i j ≡ keyOf S k l → i ≡ k
-  keys-apart i j k l a b e =
-      let same : standing (S .rank) i ≡ standing (S .rank) k = sym (digits-mod (dueOf S i j) (standing-low i a)) ∙ ap (λ (x : ℕ). x % spread S) e ∙ digits-mod (dueOf S k l) (standing-low k b) in
-      omega (arith, S .size-le)
-
   -- What comes no later has no larger key.
   pub keys-order : (i j k m : ℕ) → i < size S → Ahead (dueOf S i j) (standing (S .rank) i) (dueOf S k m) (standing (S .rank) k) → keyOf S i j ≤ keyOf S k m
   keys-order i j k m l (inl a) = omega (arith, standing-low i l, mul-le-mul-right (spread S) a)
   keys-order i j k m l (inr (e, r)) = omega (arith, ap (λ (x : ℕ). x * spread S) e)
 
-  pub keys-cut : (i j t : ℕ) → i < size S → (keyOf S i j ≤ t * spread S + (spread S - 1)) ↔ (dueOf S i j ≤ t)
-  keys-cut i j t l = (λ h. under (dueOf S i j) h (decLe (dueOf S i j) t), λ h. over (dueOf S i j) h)
+module _ (S : System) (rel : ℕ → ℕ → ℕ) (apart : Apart S rel) where
+  pub dues-grow : (i : ℕ) → i < size S → Grows (dueFrom S rel i)
+  dues-grow i l j = omega (arith, apart i j l, period-pos S i l)
+
+  pub keys-grow : (i : ℕ) → i < size S → Grows (keyFrom S rel i)
+  keys-grow i l j = let some : 0 < spread S = omega (arith, standing-low S i l) in omega (arith, mul-le-mul-right (spread S) (dues-grow i l j))
+
+  pub keys-apart : (i j k l : ℕ) → i < size S → k < size S → keyFrom S rel i j ≡ keyFrom S rel k l → i ≡ k
+  keys-apart i j k l a b e =
+      let same : standing (S .rank) i ≡ standing (S .rank) k = sym (digits-mod (dueFrom S rel i j) (standing-low S i a)) ∙ ap (λ (x : ℕ). x % spread S) e ∙ digits-mod (dueFrom S rel k l) (standing-low S k b) in
+      omega (arith, S .size-le)
+
+  pub keys-cut : (i j t : ℕ) → i < size S → (keyFrom S rel i j ≤ t * spread S + (spread S - 1)) ↔ (dueFrom S rel i j ≤ t)
+  keys-cut i j t l = (λ h. under (dueFrom S rel i j) h (decLe (dueFrom S rel i j) t), λ h. over (dueFrom S rel i j) h)
     where
       under : (d : ℕ) → d * spread S + standing (S .rank) i ≤ t * spread S + (spread S - 1) → Dec (d ≤ t) → d ≤ t
       under d h (yes p) = p
-      under d h (no p) = let q : suc t ≤ d = omega arith in absurd (omega (arith, standing-low i l, mul-le-mul-right (spread S) q))
+      under d h (no p) = let q : suc t ≤ d = omega arith in absurd (omega (arith, standing-low S i l, mul-le-mul-right (spread S) q))
 
       over : (d : ℕ) → d ≤ t → d * spread S + standing (S .rank) i ≤ t * spread S + (spread S - 1)
-      over d h = omega (arith, standing-low i l, mul-le-mul-right (spread S) h)
+      over d h = omega (arith, standing-low S i l, mul-le-mul-right (spread S) h)
+
+  -- The streams of jobs that come so.
+  abbrev pub coming : Jobs
+  coming = record {
+    n = size S;
+    cost = costOf S;
+    rel = rel;
+    key = keyFrom S rel;
+    cost-pos = S .cost-pos;
+    rel-grows = λ i l j. omega (arith, apart i j l, period-pos S i l);
+    key-grows = keys-grow;
+    key-apart = keys-apart;
+  }
+
+  abbrev pub comingDues : Dues coming
+  comingDues = record {
+    due = dueFrom S rel;
+    cut = λ t. t * spread S + (spread S - 1);
+    cut-law = keys-cut;
+    rel-due = λ i j l. omega (arith, S .deadline-pos i l);
+    due-grows = dues-grow;
+  }
+
+-- The jobs of a table come when they are released.
+pub released-apart : (S : System) → Apart S (releaseOf S)
+released-apart S i j l = omega arith
 
 abbrev pub jobs : System → Jobs
-jobs S = record {
-  n = size S;
-  cost = costOf S;
-  rel = releaseOf S;
-  key = keyOf S;
-  cost-pos = S .cost-pos;
-  rel-grows = λ i l j. omega (arith, period-pos S i l);
-  key-grows = keys-grow S;
-  key-apart = keys-apart S;
-}
+jobs S = coming S (releaseOf S) (released-apart S)
 
 abbrev pub dues : (S : System) → Dues (jobs S)
-dues S = record {
-  due = dueOf S;
-  cut = λ t. t * spread S + (spread S - 1);
-  cut-law = keys-cut S;
-  rel-due = λ i j l. omega (arith, S .deadline-pos i l);
-  due-grows = λ i l j. omega (arith, period-pos S i l);
-}
+dues S = comingDues S (releaseOf S) (released-apart S)
 
 -- A table's deadlines are at most its periods.
 pub constrained : (S : System) → Constrained (jobs S) (dues S)
@@ -122,5 +149,5 @@ constrained S i j l = omega (arith, S .deadline-le i l)
 
 -- The model's demand is that of the streams.
 pub demand-streams : (S : System) (t1 t2 : ℕ) → demand (S .table) t1 t2 ≡ streams.demand (jobs S) (dues S) t1 t2
-unfolding demand jobsIn streams.demand
-demand-streams S t1 t2 = refl
+unfolding demand streams.demand
+demand-streams S t1 t2 = sum-eq (size S) _ _ (λ i l. ap (λ (n : ℕ). costOf S i * n) (jobs-numbered (task (S .table) i) (period-pos S i l) (S .deadline-pos i l) t1 t2))

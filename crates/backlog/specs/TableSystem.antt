@@ -4,7 +4,7 @@ use Prim.Native.Nat.{_/_}
 use native.Mathlib.Nat.{div-mul-cancel}
 use Rattle.model.specs.Notation.{largest}
 use Rattle.values.specs.declared.Table.{Table}
-use Rattle.model.specs.Tasks.{task, round, load, horizon}
+use Rattle.model.specs.Tasks.{task, offset, round, load, horizon}
 use Rattle.model.specs.Run.{Order, tieOrder}
 use Rattle.counting.specs.Search.{le-largest}
 use Rattle.wellformed.specs.Ranges.{Ranged}
@@ -26,11 +26,11 @@ module _ (t : Table) (r : Ranged t) (rank : Order) where
   abbrev pub cycleOf : Cycle systemOf
   cycleOf = record {
     round = round t;
-    start = largest (t .count) (λ i. task t i .offset);
+    start = largest (t .count) (λ i. offset (task t i));
     times = λ i. round t / task t i .period;
     round-pos = round-pos t r;
     common = λ i l. div-mul-cancel (task t i .period) (period-divides t r i l);
-    starts = λ i l. le-largest (t .count) (λ k. task t k .offset) i l;
+    starts = λ i l. le-largest (t .count) (λ k. offset (task t k)) i l;
   }
 
   -- The cycle's load and horizon are the model's.

@@ -11,7 +11,7 @@ use lib.ListN.{length, replicate, length-replicate}
 use Rattle.values.specs.declared.Table.{Table}
 use Rattle.model.specs.Limits.{taskLimit}
 use Rattle.model.specs.Notation.{bit, sum}
-use Rattle.model.specs.Tasks.{task}
+use Rattle.model.specs.Tasks.{task, offset}
 use Rattle.model.specs.Run.{tieOrder}
 use Rattle.model.specs.Dispatcher.{State, waitOf, leftOf, isOpen, givenOf, slotCount, strange, firstStrange, lastStrange, startOf, leftDone, isLate, leftLate, waitReleased, leftReleased, ownerNow, after}
 use Rattle.counting.specs.Count.{and-iff, eq→eqb, one-of-iff, or-left, or-right}
@@ -24,7 +24,7 @@ use Rattle.backlog.specs.Choice.{Chosen, choose-is}
 module _ (t : Table) where
   -- The numbers of a task that is not strange.
   pub record Ordinary (d : State) (i : ℕ) : Type 0 where
-    pub wait-le : waitOf d i ≤ max (task t i .offset) (task t i .period)
+    pub wait-le : waitOf d i ≤ max (offset (task t i)) (task t i .period)
     pub left-le : leftOf d i ≤ task t i .cost
     pub open-from : 0 < leftOf d i → task t i .period - task t i .deadline ≤ waitOf d i
     pub open-to : 0 < leftOf d i → waitOf d i ≤ task t i .period - 1
@@ -32,7 +32,7 @@ module _ (t : Table) where
   -- The tests that make a task strange.
   module _ (d : State) (i : ℕ) where
     abbrev long : Bool
-    long = ltb (max (task t i .offset) (task t i .period)) (waitOf d i)
+    long = ltb (max (offset (task t i)) (task t i .period)) (waitOf d i)
 
     abbrev more : Bool
     more = ltb (task t i .cost) (leftOf d i)
@@ -45,7 +45,7 @@ module _ (t : Table) where
 
   ordinary : (d : State) (i : ℕ) → (T (strange t d i) → ⊥) → Ordinary d i
   ordinary d i h = record {
-    wait-le = elim (decLt (max (task t i .offset) (task t i .period)) (waitOf d i)) [ yes p ↦ absurd (h (or-left (long d i || more d i) _ (or-left (long d i) (more d i) (lt→ltb _ _ p)))) | no p ↦ omega arith ];
+    wait-le = elim (decLt (max (offset (task t i)) (task t i .period)) (waitOf d i)) [ yes p ↦ absurd (h (or-left (long d i || more d i) _ (or-left (long d i) (more d i) (lt→ltb _ _ p)))) | no p ↦ omega arith ];
     left-le = elim (decLt (task t i .cost) (leftOf d i)) [ yes p ↦ absurd (h (or-left (long d i || more d i) _ (or-right (long d i) (more d i) (lt→ltb _ _ p)))) | no p ↦ omega arith ];
     open-from = λ o. elim (decLt (waitOf d i) (task t i .period - task t i .deadline)) [ yes p ↦ absurd (strange-open o (or-left (early d i) (late d i) (lt→ltb _ _ p))) | no p ↦ omega arith ];
     open-to = λ o. elim (decLt (task t i .period - 1) (waitOf d i)) [ yes p ↦ absurd (strange-open o (or-right (early d i) (late d i) (lt→ltb _ _ p))) | no p ↦ omega arith ];
@@ -152,9 +152,9 @@ module _ (t : Table) where
 
   module _ (r : Ranged t) where
     -- At the start every wait is the offset.
-    pub wait-start : (i : ℕ) → i < t .count → waitOf (startOf t) i ≡ task t i .offset
+    pub wait-start : (i : ℕ) → i < t .count → waitOf (startOf t) i ≡ offset (task t i)
     unfolding startOf
-    wait-start i l = fill-passed (t .count) (λ i. task t i .offset) (replicate taskLimit 0) i 0 l (omega (arith, length-replicate {A = ℕ} taskLimit 0, r .few))
+    wait-start i l = fill-passed (t .count) (λ i. offset (task t i)) (replicate taskLimit 0) i 0 l (omega (arith, length-replicate {A = ℕ} taskLimit 0, r .few))
 
     -- A start belongs to its table.
     pub belongs-start : Belongs (startOf t)

@@ -8,6 +8,7 @@ ghost use Rattle.slots.specs.Slot.{at};
 ghost use Rattle.wellformed.specs.Ranges.{Ranged};
 use slots::Numbers;
 use values::ROUND_LIMIT;
+use values::Sort;
 use values::Table;
 use values::Task;
 
@@ -22,7 +23,7 @@ pub fn starting(t: Table, offsets: Numbers) -> Table
         let task = t.tasks[i];
         let offset = offsets[i];
         tasks[i] = Task {
-            offset: offset,
+            sort: Sort::Periodic(offset),
             cost: task.cost,
             deadline: task.deadline,
             period: task.period,

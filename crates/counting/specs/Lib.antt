@@ -7,3 +7,4 @@ pub mod Fill
 pub mod Put
 pub mod Bits
 pub mod Divisors
+pub mod Enumerate

@@ -228,7 +228,3 @@ smallest-of p n f h =
 
     attained : (k : ℕ) → k < n → T (p k) → Attained (f k)
     attained k l t = some-iff (λ m. p m && eqb (f m) (f k)) n .1 (k, l, and-iff (p k) (eqb (f k) (f k)) .1 (t, eqb-refl (f k)))
-
--- Of the values below n one is the smallest.
-pub smallest : (n : ℕ) (f : ℕ → ℕ) → 0 < n → (i : ℕ) × (i < n) × ((k : ℕ) → k < n → f i ≤ f k)
-smallest n f h = let (i, l, t, a) = smallest-of (λ k. true) n f (some-iff (λ k. true) n .1 (0, h, tt)) in (i, l, λ k m. a k m tt)

@@ -7,11 +7,12 @@ use native.Mathlib.Omega.{arith}
 use borrow.Author.Tests.{lt-ltb, le-ltb, le-leb, lt-leb}
 use lib.Dec.{leb, ltb}
 use Rattle.values.specs.declared.Task.{Task}
+use Rattle.model.specs.Tasks.{offset}
 
 -- A task with this wait and these slots left does not belong to the table.
 abbrev pub strangeAt : Task → ℕ → ℕ → Bool
 strangeAt k wait left =
-    ltb (max (k .offset) (k .period)) wait
+    ltb (max (offset k) (k .period)) wait
     || ltb (k .cost) left
     || (ltb 0 left && (ltb wait (k .period - k .deadline) || ltb (k .period - 1) wait))
 

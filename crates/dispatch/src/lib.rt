@@ -7,6 +7,7 @@ ghost use lib.ListN.{getD};
 ghost use Rattle.model.specs.Limits.{taskLimit, slotCountLimit};
 ghost use Rattle.model.specs.Notation.{bit};
 ghost use Rattle.model.specs.Values.{refusal};
+ghost use Rattle.model.specs.Tasks.{offset};
 ghost use Rattle.model.specs.Dispatcher.{firstStrange, refuseStep, started, stepped};
 ghost use Rattle.wellformed.specs.Ranges.{Ranged};
 ghost use Rattle.slots.specs.Slot.{closed};
@@ -183,9 +184,9 @@ fn is_strange(task: Task, wait: u32, left: u32) -> bool
 }
 
 fn waits_too_long(task: Task, wait: u32) -> bool
-    ensures { λ r. ⌜ r ≡ ltb (max (task .offset) (task .period)) wait ⌝ }
+    ensures { λ r. ⌜ r ≡ ltb (max (offset task) (task .period)) wait ⌝ }
 {
-    task.offset < wait && task.period < wait
+    sorts::offset_of(task) < wait && task.period < wait
 }
 
 // A job that was released r slots ago and is not past its deadline waits T - r, with r from 1 to D.

@@ -1,6 +1,6 @@
 -- The distance test by its parts: the distances, the patterns and the load.
 use mathlib.Core.Path.{_≡_, sym}
-use mathlib.Core.Bool.{Bool, true, false}
+use mathlib.Core.Bool.{Bool, true, false, not}
 use Prim.Native.Nat.{ℕ, _≤_, _<_}
 use lib.Dec.{T}
 use lib.ListN.{replicate}
@@ -9,13 +9,13 @@ use Rattle.values.specs.declared.Table.{Table}
 use Rattle.values.specs.declared.Measure.{Measure}
 use Rattle.values.specs.declared.Judgement.{Judgement}
 use Rattle.model.specs.Limits.{taskLimit, roundLimit}
-use Rattle.model.specs.Notation.{every}
-use Rattle.model.specs.Tasks.{task, round, load, judged}
-use Rattle.model.specs.Patterns.{startingAt, light, commonDivisor, distance, pattern}
-use Rattle.counting.specs.Count.{tests, is-true, is-false, every-iff}
+use Rattle.model.specs.Notation.{some, every}
+use Rattle.model.specs.Tasks.{task, isButton, round, load, judgedMixed}
+use Rattle.model.specs.Patterns.{startingAt, light, quickPass, commonDivisor, distance, pattern, calmPatterns}
+use Rattle.counting.specs.Count.{tests, is-true, is-false, some-iff, every-iff}
 use Rattle.counting.specs.Divisors.{gcd-pos}
 use Rattle.wellformed.specs.Ranges.{Ranged}
-use Rattle.wellformed.specs.WellFormed.{WellFormed, well-formed}
+use Rattle.wellformed.specs.WellFormed.{WellFormed, well-mixed}
 use Rattle.patterns.specs.Starting.{starting-eq}
 use Rattle.patterns.specs.Distance.{divisor-is}
 use Rattle.patterns.specs.DistancePass.{pattern-low}
@@ -35,9 +35,16 @@ all-pass p n h = sym (is-true (every p n) (every-iff p n .1 h))
 pub one-fails : (p : ℕ → Bool) (n i : ℕ) → i < n → (T (p i) → ⊥) → false ≡ every p n
 one-fails p n i l h = sym (is-false (every p n) (λ x. h (every-iff p n .0 x i l)))
 
-module _ (t : Table) {m : Measure} (well : judged t ≡ Judgement.WellFormed m) where
+-- A test that one below n passes, or that none does.
+pub one-passes : (p : ℕ → Bool) (n i : ℕ) → i < n → T (p i) → true ≡ some p n
+one-passes p n i l h = sym (is-true (some p n) (some-iff p n .1 (i, l, h)))
+
+pub none-passes : (p : ℕ → Bool) (n : ℕ) → ((i : ℕ) → i < n → T (p i) → ⊥) → false ≡ some p n
+none-passes p n h = sym (is-false (some p n) (λ x. let (i, l, y) = some-iff p n .0 x in h i l y))
+
+module _ (t : Table) {m : Measure} (well : judgedMixed t ≡ Judgement.WellFormed m) where
   abbrev facts : WellFormed t m
-  facts = well-formed t m well
+  facts = well-mixed t m well
 
   -- The distances as an array make the pattern.
   pub pattern-is : (i : ℕ) → startingAt t (at (column (t .count) (λ k. distance (task t i) (task t k)))) ≡ pattern t i
@@ -53,3 +60,8 @@ module _ (t : Table) {m : Measure} (well : judged t ≡ Judgement.WellFormed m) 
 
   pub is-light : m .load ≤ m .round → light t ≡ true
   is-light h = is-true (light t) (omega (tests, facts .round-is, facts .load-is))
+
+  -- Where no task is periodic, the quick test decides.
+  pub quick-decides : m .load ≤ m .round → false ≡ some (λ i. not (isButton (task t i))) (t .count) → quickPass t ≡ calmPatterns t
+  unfolding quickPass
+  quick-decides h none = rw (is-light h, ← none)

@@ -1,12 +1,13 @@
-// The distance test: each task as first at 0, every other at its smallest distance, and a walk to the first idle instant.
+// The distance test: each periodic task as first at 0, every other at its smallest distance, and a walk to the first idle instant.
 ghost use mathlib.Core.Path.{_≡_};
+ghost use mathlib.Core.Bool.{not, _||_};
 ghost use Prim.Native.Nat.{_^_, _≤_, _<_};
 ghost use lib.IntN.{pos, _-ℤ_};
 ghost use lib.Signed.{remZ};
 ghost use Rattle.values.specs.declared.Judgement.{Judgement};
-ghost use Rattle.model.specs.Notation.{every};
-ghost use Rattle.model.specs.Tasks.{task, judged};
-ghost use Rattle.model.specs.Patterns.{calm as calmly, reduced as reducedTo, commonDivisor, distance, pattern, distanceAnswer};
+ghost use Rattle.model.specs.Notation.{some, every};
+ghost use Rattle.model.specs.Tasks.{task, isButton, judgedMixed};
+ghost use Rattle.model.specs.Patterns.{calm as calmly, reduced as reducedTo, commonDivisor, distance, pattern, calmPatterns, distanceAnswer};
 ghost use Rattle.wellformed.specs.Ranges.{Ranged};
 ghost use Rattle.slots.specs.Columns.{column};
 use slots::Numbers;
@@ -61,8 +62,14 @@ fn distance_of(one: Task, other: Task) -> u32
     requires { ⌜ (0 < one .period) × (0 < other .period) ⌝ }
     ensures { λ r. ⌜ r ≡ distance one other ⌝ }
 {
+    if sorts::is_button(other) {
+        return 0;
+    }
     let g = common_divisor(one.period, other.period);
-    reduced(difference(other.offset, one.offset), g)
+    reduced(
+        difference(sorts::offset_of(other), sorts::offset_of(one)),
+        g,
+    )
 }
 
 // The distance of each task from task i.
@@ -80,31 +87,69 @@ fn distances(t: Table, i: usize) -> Numbers
     start
 }
 
-// Whether every task's pattern is calm.
-fn each_calm(t: Table, m: Measure) -> bool
-    requires { ⌜ judged t ≡ Judgement.WellFormed m ⌝ }
+// A button never stands first.
+fn pattern_calm(t: Table, m: Measure, i: usize) -> bool
+    requires { ⌜ judgedMixed t ≡ Judgement.WellFormed m ⌝ }
     requires { ⌜ m .load ≤ m .round ⌝ }
-    ensures { λ r. ⌜ r ≡ every (λ i. calmly (pattern t i)) (t .count) ⌝ }
+    requires { ⌜ i < t .count ⌝ }
+    ensures { λ r. ⌜ r ≡ (isButton (task t i) || calmly (pattern t i)) ⌝ }
+{
+    if sorts::is_button(t.tasks[i]) {
+        return true;
+    }
+    calm::is_calm(calm::starting(t, distances(t, i)))
+}
+
+// Whether the pattern of each periodic task is calm.
+fn each_calm(t: Table, m: Measure) -> bool
+    requires { ⌜ judgedMixed t ≡ Judgement.WellFormed m ⌝ }
+    requires { ⌜ m .load ≤ m .round ⌝ }
+    ensures { λ r. ⌜ r ≡ every (λ i. isButton (task t i) || calmly (pattern t i)) (t .count) ⌝ }
 {
     let n = t.count;
     for i in 0..n {
-        if !calm::is_calm(calm::starting(t, distances(t, i))) {
+        if !pattern_calm(t, m, i) {
             return false;
         }
     }
     true
 }
 
-// The one answer to any table: refusals 1 to 7, overload, pass, or none.
+fn some_periodic(t: Table) -> bool
+    requires { ⌜ Ranged t ⌝ }
+    ensures { λ r. ⌜ r ≡ some (λ i. not (isButton (task t i))) (t .count) ⌝ }
+{
+    let n = t.count;
+    for i in 0..n {
+        if !sorts::is_button(t.tasks[i]) {
+            return true;
+        }
+    }
+    false
+}
+
+// Of buttons alone the one pattern with all starts at 0 decides, and that is the quick test's.
+fn all_calm(t: Table, m: Measure) -> bool
+    requires { ⌜ judgedMixed t ≡ Judgement.WellFormed m ⌝ }
+    requires { ⌜ m .load ≤ m .round ⌝ }
+    ensures { λ r. ⌜ r ≡ calmPatterns t ⌝ }
+{
+    if some_periodic(t) {
+        return each_calm(t, m);
+    }
+    quick::passes(t, m)
+}
+
+// The one answer to any table, of tasks of both sorts: refusals 1 to 7, overload, pass, or none.
 pub fn test(t: Table) -> DistanceAnswer
     ensures { λ r. ⌜ r ≡ distanceAnswer t ⌝ }
 {
-    match table::judge(t) {
+    match table::judge_mixed(t) {
         Judgement::Refused(why) => DistanceAnswer::Refused(why),
         Judgement::WellFormed(m) => {
             if m.round < m.load {
                 DistanceAnswer::Overload
-            } else if each_calm(t, m) {
+            } else if all_calm(t, m) {
                 DistanceAnswer::Pass
             } else {
                 DistanceAnswer::NoAnswer

@@ -10,7 +10,7 @@ use values::Task;
 fn is_eased(old: Task, new: Task) -> bool
     ensures { λ r. ⌜ r ≡ eases old new ⌝ }
 {
-    if new.offset != old.offset {
+    if sorts::offset_of(new) != sorts::offset_of(old) {
         return false;
     }
     if new.period != old.period {

@@ -10,7 +10,7 @@ use borrow.Author.Tests.{le-leb, lt-leb}
 use lib.Dec.{T, leb}
 use Rattle.values.specs.declared.Task.{Task}
 use Rattle.values.specs.declared.Table.{Table}
-use Rattle.model.specs.Tasks.{task, release, due, round, load}
+use Rattle.model.specs.Tasks.{task, offset, release, due, round, load}
 use Rattle.model.specs.Notation.{sum}
 use Rattle.model.specs.Demand.{jobsIn, demand, asksTooMuch}
 use Rattle.counting.specs.Below.{below-same, below-below}
@@ -27,11 +27,11 @@ NoRelease k start from = (j : ℕ) → release k j < from → release k j ≤ st
 
 module _ (k : Task) (r : InRange k) where
   -- The latest release in closed form: it lies before `from`, and none lies between.
-  pub before-from : (from : ℕ) → k .offset < from → k .offset + (from - k .offset - 1) / k .period * k .period < from
-  before-from from h = omega (arith, div-mul-le-self (from - k .offset - 1) (k .period))
+  pub before-from : (from : ℕ) → offset k < from → offset k + (from - offset k - 1) / k .period * k .period < from
+  before-from from h = omega (arith, div-mul-le-self (from - offset k - 1) (k .period))
 
-  pub no-release : (from : ℕ) → NoRelease k (k .offset + (from - k .offset - 1) / k .period * k .period) from
-  no-release from j h = omega (arith, mul-le-mul {n₁ = j} {n₂ = (from - k .offset - 1) / k .period} {m₂ = k .period} (le-div-iff-mul-le (r .period-pos) .1 (omega arith)) (le-refl (k .period)))
+  pub no-release : (from : ℕ) → NoRelease k (offset k + (from - offset k - 1) / k .period * k .period) from
+  no-release from j h = omega (arith, mul-le-mul {n₁ = j} {n₂ = (from - offset k - 1) / k .period} {m₂ = k .period} (le-div-iff-mul-le (r .period-pos) .1 (omega arith)) (le-refl (k .period)))
 
   -- An interval that starts between has the same jobs; one that starts at any earlier instant has at most one more, and one for
   -- each whole period between.

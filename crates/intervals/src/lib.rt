@@ -28,7 +28,7 @@ pub fn jobs_in(k: Task, from: u64, to: u64) -> u64
     ensures { λ r. ⌜ r ≡ jobsIn k from to ⌝ }
 {
     let period = to_u64(k.period);
-    let offset = to_u64(k.offset);
+    let offset = sorts::wide_offset_of(k);
     let due = less(to + period, offset + to_u64(k.deadline)) / period;
     let released = (less(from, offset) + (period - 1)) / period;
     less(due, released)
@@ -54,7 +54,7 @@ fn release_before(k: Task, from: u64) -> u64
     requires { ⌜ InRange k ⌝ }
     ensures { λ r. ⌜ (0 < from → r < from) × NoRelease k r from ⌝ }
 {
-    let offset = to_u64(k.offset);
+    let offset = sorts::wide_offset_of(k);
     if from <= offset {
         return 0;
     }

@@ -11,7 +11,7 @@ use lib.ListN.{replicate, length-replicate}
 use Rattle.values.specs.declared.Table.{Table}
 use Rattle.model.specs.Limits.{taskLimit}
 use Rattle.model.specs.Notation.{sum}
-use Rattle.model.specs.Tasks.{task, release, due}
+use Rattle.model.specs.Tasks.{task, release, due, offset}
 use Rattle.model.specs.Demand.{jobsIn, demand, asksTooMuch, lateAt}
 use Rattle.counting.specs.Below.{below, lt-below, below-most, below-none, grows-lt}
 use Rattle.counting.specs.Sum.{sum-le, sum-by, sum-zero}
@@ -219,16 +219,16 @@ module _ (t : Table) (r : Ranged t) (to : ℕ) where
 
       -- The job before it, if there is one, is a period further from `to`.
       pub goes-on : (length longer : ℕ) → length ≡ key / span → longer ≡ length + task t i .period → asked + task t i .cost ≤ length
-          → (longer + task t i .offset ≤ to → jobs ≤ taskLimit → Searching t to (inserted queue (jobs - 1) (entry t longer i)) jobs (asked + task t i .cost))
-          × (to < longer + task t i .offset → Searching t to queue (jobs - 1) (asked + task t i .cost))
+          → (longer + offset (task t i) ≤ to → jobs ≤ taskLimit → Searching t to (inserted queue (jobs - 1) (entry t longer i)) jobs (asked + task t i .cost))
+          × (to < longer + offset (task t i) → Searching t to queue (jobs - 1) (asked + task t i .cost))
       goes-on length longer e f h = by j refl
         where
           fits′ : asked + task t i .cost ≤ to - here
           fits′ = omega (arith, e, length-is)
 
           by : (n : ℕ) → j ≡ n
-              → (longer + task t i .offset ≤ to → jobs ≤ taskLimit → Searching t to (inserted queue (jobs - 1) (entry t longer i)) jobs (asked + task t i .cost))
-              × (to < longer + task t i .offset → Searching t to queue (jobs - 1) (asked + task t i .cost))
+              → (longer + offset (task t i) ≤ to → jobs ≤ taskLimit → Searching t to (inserted queue (jobs - 1) (entry t longer i)) jobs (asked + task t i .cost))
+              × (to < longer + offset (task t i) → Searching t to queue (jobs - 1) (asked + task t i .cost))
           by zero z = (λ x few. absurd (omega (arith, e, length-is, here-lt, ap (release (task t i)) z, r .each i task-lt .period-pos)), λ x. onward fits′ (dropped z))
           by (suc n) z =
               let g : longer ≡ to - release (task t i) n = omega (arith, e, f, length-is, here-lt, ap (release (task t i)) z) in

@@ -38,7 +38,7 @@ fn last_jobs(t: Table, mark: &Times, to: u64) -> Lasts
         let task = t.tasks[i];
         let due = intervals::jobs_in(task, 0, to);
         if 0 < due {
-            let last = leaps::to_u64(task.offset) + (due - 1) * leaps::to_u64(task.period);
+            let last = sorts::wide_offset_of(task) + (due - 1) * leaps::to_u64(task.period);
             leaps::insert(&mut queue, jobs, leaps::entry(to - last, mark[i]));
             jobs = jobs + 1;
         }
@@ -69,7 +69,7 @@ fn start(t: Table, mark: &Times, to: u64) -> u64
             break;
         }
         let longer = length + leaps::to_u64(task.period);
-        if longer + leaps::to_u64(task.offset) <= to {
+        if longer + sorts::wide_offset_of(task) <= to {
             leaps::insert(&mut queue, jobs - 1, leaps::entry(longer, mark[i]));
         } else {
             jobs = jobs - 1;

@@ -16,7 +16,7 @@ use Rattle.model.specs.Largest.{withCost, passesWith, largestCost}
 use Rattle.wellformed.specs.Ranges.{Ranged}
 use Rattle.wellformed.specs.WellFormed.{judged-iff}
 use Rattle.backlog.specs.AnswersSay.{answers-say}
-use Rattle.backlog.specs.Largest.{ranged-with, round-with, own-passes, largest-is}
+use Rattle.backlog.specs.Largest.{ranged-with, buttonless-with, round-with, own-passes, largest-is}
 
 -- The table is well-formed.
 abbrev pub Well : Table → Type 0
@@ -33,8 +33,8 @@ ranged-of t w = judged-iff t (measure t) .0 w .0
 -- With another cost of one task, up to its deadline, it is well-formed too.
 pub well-with : (t : Table) → Well t → (i c : ℕ) → i < t .count → 1 ≤ c → c ≤ task t i .deadline → Well (withCost t i c)
 well-with t w i c l a b =
-    let (r, h, same) = judged-iff t (measure t) .0 w in
-    judged-iff (withCost t i c) (measure (withCost t i c)) .1 (ranged-with t r i l c a b, omega (arith, round-with t r i l c a b), refl)
+    let (r, h, same, none) = judged-iff t (measure t) .0 w in
+    judged-iff (withCost t i c) (measure (withCost t i c)) .1 (ranged-with t r i l c a b, omega (arith, round-with t r i l c a b), refl, buttonless-with t r i l c none)
 
 -- The test says the verdict of such a table.
 pub says : (t : Table) → Well t → (budget : ℕ) (a : Answer) → Permitted t budget a → a .outcome ≡ Outcome.Tested (verdict t budget)

@@ -8,14 +8,14 @@ use native.Mathlib.Omega.{arith}
 use lib.ListN.{replicate, length-replicate}
 use Rattle.values.specs.declared.Table.{Table}
 use Rattle.model.specs.Limits.{taskLimit}
-use Rattle.model.specs.Tasks.{task}
+use Rattle.model.specs.Tasks.{task, offset}
 use Rattle.wellformed.specs.Ranges.{Ranged}
 use Rattle.leaps.specs.Entry.{entry, entry-same}
 use Rattle.leaps.specs.Queue.{Queue, inserted, alike, put-in}
 
 -- The first releases of the tasks below i.
 abbrev pub Firsts : Table → ℕ → ℕ → Type 0
-Firsts t i x = (k : ℕ) × (k < i) × (x ≡ entry t (0 + task t k .offset) k)
+Firsts t i x = (k : ℕ) × (k < i) × (x ≡ entry t (0 + offset (task t k)) k)
 
 pub firsts-none : (t : Table) → Queue (Firsts t 0) (replicate taskLimit 0) 0
 firsts-none t = record {
@@ -25,21 +25,21 @@ firsts-none t = record {
   found = λ x (k, l, e). absurd (omega arith);
 }
 
-pub firsts-more : (t : Table) → Ranged t → (i : ℕ) {q : List ℕ} → i < t .count → Queue (Firsts t i) q i → Queue (Firsts t (i + 1)) (inserted q i (entry t (task t i .offset) i)) (i + 1)
-firsts-more t r i l w = alike (put-in w (omega (arith, r .few)) (entry t (task t i .offset) i) fresh (i + 1) (omega arith)) to back
+pub firsts-more : (t : Table) → Ranged t → (i : ℕ) {q : List ℕ} → i < t .count → Queue (Firsts t i) q i → Queue (Firsts t (i + 1)) (inserted q i (entry t (offset (task t i)) i)) (i + 1)
+firsts-more t r i l w = alike (put-in w (omega (arith, r .few)) (entry t (offset (task t i)) i) fresh (i + 1) (omega arith)) to back
   where
-    fresh : Firsts t i (entry t (task t i .offset) i) → ⊥
+    fresh : Firsts t i (entry t (offset (task t i)) i) → ⊥
     fresh (k, m, e) = omega (arith, entry-same t r _ _ i k l (omega arith) e .0)
 
-    here : entry t (task t i .offset) i ≡ entry t (0 + task t i .offset) i
+    here : entry t (offset (task t i)) i ≡ entry t (0 + offset (task t i)) i
     here = omega arith
 
-    to : (x : ℕ) → (x ≡ entry t (task t i .offset) i) ⊎ Firsts t i x → Firsts t (i + 1) x
+    to : (x : ℕ) → (x ≡ entry t (offset (task t i)) i) ⊎ Firsts t i x → Firsts t (i + 1) x
     to x (inl e) = (i, omega arith, e ∙ here)
     to x (inr (k, m, e)) = (k, omega arith, e)
 
-    back : (x : ℕ) → Firsts t (i + 1) x → (x ≡ entry t (task t i .offset) i) ⊎ Firsts t i x
+    back : (x : ℕ) → Firsts t (i + 1) x → (x ≡ entry t (offset (task t i)) i) ⊎ Firsts t i x
     back x (k, m, e) = elim (ℕ-discrete k i) [
-      | yes q ↦ inl (e ∙ ap (λ (j : ℕ). entry t (0 + task t j .offset) j) q ∙ sym here)
+      | yes q ↦ inl (e ∙ ap (λ (j : ℕ). entry t (0 + offset (task t j)) j) q ∙ sym here)
       | no q ↦ inr (k, omega arith, e)
     ]

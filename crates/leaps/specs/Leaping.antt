@@ -9,7 +9,7 @@ use lib.Dec.{T, ltb, ltb→lt}
 use lib.ListN.{replicate, length-replicate}
 use Rattle.values.specs.declared.Table.{Table}
 use Rattle.model.specs.Limits.{taskLimit}
-use Rattle.model.specs.Tasks.{task, round, load}
+use Rattle.model.specs.Tasks.{task, round, load, offset}
 use Rattle.model.specs.Demand.{lateAt}
 use Rattle.model.specs.Dispatcher.{waitOf, leftOf, waitReleased, leftReleased}
 use Rattle.model.specs.History.{stateAt}
@@ -103,7 +103,7 @@ not-over y idling = go (y .over) (idling && ltb 0 (y .idle))
     go false more e = refl
 
 module _ (t : Table) (r : Ranged t) where
-  wait-first : (i : ℕ) → i < t .count → waitOf (walked t 0) i ≡ task t i .offset
+  wait-first : (i : ℕ) → i < t .count → waitOf (walked t 0) i ≡ offset (task t i)
   unfolding stateAt
   wait-first i l = wait-start t r i l
 
@@ -111,7 +111,7 @@ module _ (t : Table) (r : Ranged t) where
   unfolding stateAt
   left-first i = left-start t i
 
-  pub leaping-start : load t ≤ round t → {period cost deadline releases : List ℕ} {last end : ℕ} → Columned t last period cost deadline → end ≤ horizonLimit → Queue (Coming t 0 (λ i. task t i .offset)) releases (t .count)
+  pub leaping-start : load t ≤ round t → {period cost deadline releases : List ℕ} {last end : ℕ} → Columned t last period cost deadline → end ≤ horizonLimit → Queue (Coming t 0 (λ i. offset (task t i))) releases (t .count)
       → {x : Landed} → x ≡ goingAt 0 0 0 → Here t period cost deadline releases (replicate taskLimit 0) (replicate taskLimit 0) (replicate taskLimit 0) last end x
   leaping-start light c limit q e = rw e (record {
     ranged = r;

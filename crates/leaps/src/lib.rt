@@ -6,7 +6,7 @@ ghost use lib.Dec.{leb, ltb};
 ghost use lib.ListN.{set};
 ghost use Rattle.values.specs.declared.Table.{Table};
 ghost use Rattle.model.specs.Limits.{taskLimit};
-ghost use Rattle.model.specs.Tasks.{task, round, load};
+ghost use Rattle.model.specs.Tasks.{task, offset, round, load};
 ghost use Rattle.model.specs.Dispatcher.{waitReleased, leftReleased};
 ghost use Rattle.wellformed.specs.Ranges.{Ranged};
 ghost use Rattle.wellformed.specs.WellFormed.{horizonLimit};
@@ -112,12 +112,12 @@ pub fn unpack(t: Table) -> Columns
 fn first_releases(t: Table, mark: &Times) -> Times
     requires { ⌜ Ranged t ⌝ }
     requires { ⌜ Marked t (now mark) ⌝ }
-    ensures { λ r. ⌜ Queue (Coming t 0 (λ i. task t i .offset)) r (t .count) ⌝ }
+    ensures { λ r. ⌜ Queue (Coming t 0 (λ i. offset (task t i))) r (t .count) ⌝ }
 {
     let n = t.count;
     let mut queue = [0u64; TASK_LIMIT];
     for i in 0..n {
-        let first = entry(to_u64(t.tasks[i].offset), mark[i]);
+        let first = entry(sorts::wide_offset_of(t.tasks[i]), mark[i]);
         insert(&mut queue, i, first);
     }
     queue

@@ -2,7 +2,7 @@
 use Rattle.model.specs.Notation.{List, Bool, cond, not, _&&_, _||_, ℕ, _+_, _-_, max, ltb, eqb, getD, replicate, bit, sum, count, first, bits, fill}
 use Rattle.model.specs.Values.{Table, Refusal, Judgement, Admission, Turn, Given, refusal}
 use Rattle.model.specs.Limits.{taskLimit, slotCountLimit, sumPlace}
-use Rattle.model.specs.Tasks.{task, judged}
+use Rattle.model.specs.Tasks.{task, judged, offset}
 use Rattle.model.specs.Run.{tieOrder, choose}
 
 -- For each task the slots until its next release, and those that its open job may still use; which task ran last, or `taskLimit`; and
@@ -43,7 +43,7 @@ slotCount t d = sum (t .count) (givenOf d) + d .empty
 -- Task i of the state does not belong to the table.
 abbrev pub strange : Table → State → ℕ → Bool
 strange t d i =
-    ltb (max (task t i .offset) (task t i .period)) (waitOf d i)
+    ltb (max (offset (task t i)) (task t i .period)) (waitOf d i)
     || ltb (task t i .cost) (leftOf d i)
     || (isOpen d i && (ltb (waitOf d i) (task t i .period - task t i .deadline) || ltb (task t i .period - 1) (waitOf d i)))
 
@@ -68,7 +68,7 @@ admitted t d = admittedBy t d (judged t)
 
 -- At the start the waits are the offsets, no job is open, no task ran last and no slot is counted. A refused start hands out zeros.
 unfoldable pub startOf : Table → State
-startOf t = record { wait = fill (t .count) (λ i. task t i .offset) (replicate taskLimit 0); left = replicate taskLimit 0; last = taskLimit; given = replicate taskLimit 0; empty = 0 }
+startOf t = record { wait = fill (t .count) (λ i. offset (task t i)) (replicate taskLimit 0); left = replicate taskLimit 0; last = taskLimit; given = replicate taskLimit 0; empty = 0 }
 
 abbrev pub zeros : State
 zeros = record { wait = replicate taskLimit 0; left = replicate taskLimit 0; last = 0; given = replicate taskLimit 0; empty = 0 }

@@ -1,13 +1,13 @@
 -- What may be eased in a table (T-11): costs lowered, deadlines lengthened, tasks left out, and all of that together; and what is told of two tables.
 use Rattle.model.specs.Notation.{List, _≡_, Bool, cond, _&&_, ℕ, zero, suc, _+_, _-_, _*_, _≤_, _<_, leb, ltb, eqb, some, first, bits}
 use Rattle.model.specs.Values.{Task, Table, Easing, Admission}
-use Rattle.model.specs.Tasks.{task}
-use Rattle.model.specs.TableFile.{loadedFrom}
+use Rattle.model.specs.Tasks.{task, offset}
+use Rattle.model.specs.TableFile.{periodicFrom}
 use Rattle.model.specs.Report.{refusalNumber}
 
--- A task eased: it is released as before, costs no more, and is due no earlier.
+-- A periodic task eased: it is released as before, costs no more, and is due no earlier.
 pub record EasedTask (before after : Task) : Type 0 where
-  pub same-offset : after .offset ≡ before .offset
+  pub same-offset : offset after ≡ offset before
   pub same-period : after .period ≡ before .period
   pub lower-cost : after .cost ≤ before .cost
   pub longer-deadline : before .deadline ≤ after .deadline
@@ -28,7 +28,7 @@ pub record Lowered (before after : Table) : Type 0 where
 -- The test of a task: it is the other, eased.
 abbrev pub eases : Task → Task → Bool
 eases before after =
-    eqb (after .offset) (before .offset) && (eqb (after .period) (before .period) && (leb (after .cost) (before .cost) && leb (before .deadline) (after .deadline)))
+    eqb (offset after) (offset before) && (eqb (after .period) (before .period) && (leb (after .cost) (before .cost) && leb (before .deadline) (after .deadline)))
 
 -- The first task of the table, from this one on, of which k is the eased one, or the count.
 abbrev pub nextEased : Table → Task → ℕ → ℕ
@@ -72,4 +72,4 @@ easedNumber before after Admission.Admitted Admission.Admitted = easingNumber (e
 
 -- The number that the exported call returns of an old and a new file.
 abbrev pub easedExported : List ℕ → List ℕ → ℕ
-easedExported old new = let b = loadedFrom old in let a = loadedFrom new in easedNumber (b .table) (a .table) (b .admission) (a .admission)
+easedExported old new = let b = periodicFrom old in let a = periodicFrom new in easedNumber (b .table) (a .table) (b .admission) (a .admission)

@@ -7,17 +7,17 @@ use Prim.Native.Nat.{ℕ, zero, suc, _+_, _-_, _*_, _/_, _%_, _^_}
 use native.Mathlib.Omega.{arith}
 use lib.Dec.{eqb, lit≤, lit<}
 use lib.ListN.{length, getD, replicate}
-use Rattle.model.specs.Values.{Task, Table, Measure, Judgement, Verdict, Outcome, Easing, Admission, Given, Writing, refusal, verdictSaid, judgementSaid, admissionSaid, givenSaid, outcomeSaid, costSaid}
+use Rattle.model.specs.Values.{Sort, Task, Table, Measure, Judgement, Verdict, Outcome, Easing, Admission, Given, Writing, refusal, verdictSaid, judgementSaid, admissionSaid, givenSaid, outcomeSaid, costSaid}
 use Rattle.model.specs.Notation.{pos, negsuc, sum, largest, count, first, last, bits, fill, text, digits, decimal}
 use Rattle.model.specs.Limits.{taskLimit, slotLimit, roundLimit, reportBytes, longestFile, longestText, slotCountLimit, sumPlace}
-use Rattle.model.specs.Tasks.{task, taskFault, firstFaulty, round, load, horizon, measure, judgedBy, judged}
-use Rattle.model.specs.Demand.{jobsIn, demand, asksTooMuch, lateAt}
+use Rattle.model.specs.Tasks.{task, taskFault, firstFaulty, round, load, horizon, measure, judgedBy, judgedMixed, firstButton, judged, offset}
+use Rattle.model.specs.Demand.{arrivedIn, jobsIn, demand, asksTooMuch, lateAt}
 use Rattle.model.specs.Schedule.{none, given}
 use Rattle.model.specs.Run.{tieOrder, choose, ownerOf, served, owner, run, response}
 use Rattle.model.specs.Idle.{idleAt, firstIdle, missedAt}
 use Rattle.model.specs.Patterns.{startingAt, calm, simultaneous, quickPass, quickAnswer, commonDivisor, reduced, distance, pattern, distancePass, distanceAnswer}
 use Rattle.model.specs.Verdict.{needed, lateStart, verdict, settledBy, brief, Permitted}
-use Rattle.model.specs.TableFile.{taskIn, tableOf, bytesOf, taskRecords, fileOf, readFrom, formOf, loadedFrom}
+use Rattle.model.specs.TableFile.{taskIn, tableOf, bytesOf, taskRecords, fileOf, readFrom, formOf, loadedFrom, periodicFrom}
 use Rattle.model.specs.Dispatcher.{State, slotCount, firstStrange, admitted, startOf, started, ownerNow, after, turn, stepped}
 use Rattle.model.specs.History.{stateAt, ownerAt, reported, had, Finished}
 use Rattle.model.specs.Report.{worstLines, reportOf, refused, written, Checked, quickExported, distanceExported, Printed}
@@ -41,7 +41,7 @@ padded x w = w ++ replicate (taskLimit - length w) x
 
 -- A task as document 01 writes it, and its tables.
 abbrev pub of : ℕ → ℕ → ℕ → ℕ → Task
-of o c d t = record { offset = o; cost = c; deadline = d; period = t }
+of o c d t = record { sort = Sort.Periodic o; cost = c; deadline = d; period = t }
 
 abbrev pub table-a : Table
 table-a = tableOf (of 0 1 1 1 ∷ [])
@@ -92,14 +92,14 @@ refusals :
     × (judged (record { count = taskLimit + 1; tasks = replicate taskLimit (of 0 1 1 1) }) ≡ refuse 2 taskLimit)
     × (judged (record { count = taskLimit + 2; tasks = replicate taskLimit (of 0 1 1 1) }) ≡ refuse 2 taskLimit)
     × (map faulty (of 0 0 0 0 ∷ of 0 1 1 60001 ∷ of 0 1 0 5 ∷ of 60001 1 6 5 ∷ of 0 1 6 5 ∷ of 0 0 1 5 ∷ of 60001 5 4 5 ∷ of 0 5 4 5 ∷ of 60001 1 1 5 ∷ []) ≡ refuse 3 1 ∷ refuse 3 1 ∷ refuse 4 1 ∷ refuse 4 1 ∷ refuse 4 1 ∷ refuse 5 1 ∷ refuse 5 1 ∷ refuse 5 1 ∷ refuse 6 1 ∷ [])
-unfolding faulty judged firstFaulty taskFault first
+unfolding faulty judged judgedMixed firstButton firstFaulty taskFault first
 refusals = (refl, refl, refl, refl)
 
 -- Task by task: what is wrong with task 0 comes before what is wrong with task 1, and a place is the task's number.
 task-by-task :
     (judged (tableOf (of 60001 1 1 5 ∷ of 0 0 0 0 ∷ [])) ≡ refuse 6 0)
     × (judged (tableOf (of 0 1 1 1 ∷ of 0 1 1 1 ∷ of 0 0 1 1 ∷ [])) ≡ refuse 5 2)
-unfolding judged firstFaulty taskFault first
+unfolding judged judgedMixed firstButton firstFaulty taskFault first
 task-by-task = (refl, refl)
 
 -- Number 7 and its place. The search for an H so large is too long to compute, so it is given, and `wellformed/specs/AtLimit.antt` proves
@@ -150,7 +150,7 @@ measures :
     × (judged table-i ≡ Judgement.WellFormed (record { round = 5; load = 6; horizon = 12 }))
     × (round (tableOf (of 0 1 1 4 ∷ of 0 1 1 6 ∷ of 0 1 1 10 ∷ [])) ≡ 60)
     × (horizon (tableOf (of 3 1 1 4 ∷ of 2 1 1 6 ∷ [])) ≡ 27)
-unfolding judged firstFaulty taskFault first round load horizon largest sum count
+unfolding judged judgedMixed firstButton firstFaulty taskFault first round load horizon largest sum count
 measures = (refl, refl, refl, refl)
 
 -- ---- the test
@@ -160,29 +160,29 @@ tables = table-a ∷ table-b ∷ table-c ∷ table-d ∷ table-e ∷ table-f ∷
 
 -- A load of exactly 1 is no overload.
 load-of-one : verdict table-a 2 ≡ Verdict.Passes
-unfolding verdict needed lateStart lateAt first last round load horizon largest sum count demand jobsIn
+unfolding verdict needed lateStart lateAt first last round load horizon largest sum count demand arrivedIn
 load-of-one = refl
 
 -- Offsets count: up to 7 the jobs of d ask for 9 slots, those of b, whose task 0 begins at 8, for 4.
 offsets-count : map (λ t. demand t 0 7) (table-b ∷ table-d ∷ []) ≡ 4 ∷ 9 ∷ []
-unfolding demand jobsIn sum count
+unfolding demand arrivedIn sum count
 offsets-count = refl
 
 -- The closed formula of the source documents would name 0 to 3 on h: it invents two jobs of task 0 before its first release at 4.
 no-job-before-the-first : (jobsIn (of 4 1 1 2) 0 3 ≡ 0) × (asksTooMuch table-h 0 3 ≡ false)
-unfolding demand jobsIn sum count
+unfolding demand arrivedIn sum count
 no-job-before-the-first = (refl, refl)
 
 -- b passes and d is late. One H from 0 is not enough: h is late at 7, and its H is 4.
 verdicts :
     map (λ t. verdict t 1000) tables
     ≡ Verdict.Passes ∷ Verdict.Passes ∷ Verdict.Late 8 15 8 ∷ Verdict.Late 0 7 9 ∷ Verdict.Passes ∷ Verdict.Late 0 1 2 ∷ Verdict.Passes ∷ Verdict.Late 4 7 4 ∷ Verdict.Overload ∷ Verdict.Passes ∷ []
-unfolding verdict needed lateStart lateAt first last round load horizon largest sum count demand jobsIn
+unfolding verdict needed lateStart lateAt first last round load horizon largest sum count demand arrivedIn
 verdicts = refl
 
 -- The settled counts.
 settled : map (λ t. settledBy t 1000) tables ≡ 2 ∷ 38 ∷ 15 ∷ 7 ∷ 5 ∷ 1 ∷ 8 ∷ 7 ∷ 0 ∷ 8 ∷ []
-unfolding settledBy needed lateAt first round load horizon largest sum count demand jobsIn
+unfolding settledBy needed lateAt first round load horizon largest sum count demand arrivedIn
 settled = refl
 
 -- The numbers of the verdicts, and what is told with them.
@@ -206,29 +206,29 @@ said-step = refl
 budgets :
     map (verdict table-b) (37 ∷ 38 ∷ []) ++ map (verdict table-c) (14 ∷ 15 ∷ []) ++ (verdict table-i 0 ∷ [])
     ≡ Verdict.Undecided ∷ Verdict.Passes ∷ Verdict.Undecided ∷ Verdict.Late 8 15 8 ∷ Verdict.Overload ∷ []
-unfolding verdict needed lateStart lateAt first last round load horizon largest sum count demand jobsIn
+unfolding verdict needed lateStart lateAt first last round load horizon largest sum count demand arrivedIn
 budgets = refl
 
 -- Of two starts that ask too much up to 2, the larger is named.
 largest-start :
     (map (λ from. asksTooMuch table-k from 2) (0 ∷ 1 ∷ []) ≡ true ∷ true ∷ []) × (verdict table-k 1000 ≡ Verdict.Late 1 2 2)
-unfolding verdict needed lateStart lateAt first last round load horizon largest sum count demand jobsIn
+unfolding verdict needed lateStart lateAt first last round load horizon largest sum count demand arrivedIn
 largest-start = (refl, refl)
 
 -- Undecided settles the budget, and overload nothing.
 settled-short : (settledBy table-b 37 ≡ 37) × (settledBy table-c 0 ≡ 0) × (settledBy table-i 5 ≡ 0)
-unfolding settledBy needed lateAt first round load horizon largest sum count demand jobsIn
+unfolding settledBy needed lateAt first round load horizon largest sum count demand arrivedIn
 settled-short = (refl, refl, refl)
 
 -- A quotient rounded toward zero counts one job by 2 here, where the closed formula is right if it is rounded down; there is none by 2,
 -- and one by 3. Job 3 is the one from 14 to 15.
 rounding : (jobsIn (of 2 1 1 4) 0 2 ≡ 0) × (jobsIn (of 2 1 1 4) 0 3 ≡ 1) × (jobsIn (of 2 1 1 4) 14 15 ≡ 1)
-unfolding jobsIn count
+unfolding arrivedIn count
 rounding = (refl, refl, refl)
 
 -- Table i keeps every deadline within its horizon of 12.
 overload-is-not-late : (needed table-i ≡ 12) × (lateAt table-i 12 ≡ false)
-unfolding needed lateAt first round load horizon largest sum count demand jobsIn
+unfolding needed lateAt first round load horizon largest sum count demand arrivedIn
 overload-is-not-late = (refl, refl)
 
 -- ---- the run
@@ -312,7 +312,7 @@ reduced-upward = refl
 abbrev table-3-4-6 : Table
 table-3-4-6 = tableOf (of 0 1 1 3 ∷ of 1 1 1 4 ∷ of 2 1 1 6 ∷ [])
 
-pattern-offsets : map (λ i. map (λ k. task (pattern table-3-4-6 i) k .offset) (0 ∷ 1 ∷ 2 ∷ [])) (0 ∷ 1 ∷ 2 ∷ []) ≡ (0 ∷ 0 ∷ 2 ∷ []) ∷ (0 ∷ 0 ∷ 1 ∷ []) ∷ (1 ∷ 1 ∷ 0 ∷ []) ∷ []
+pattern-offsets : map (λ i. map (λ k. offset (task (pattern table-3-4-6 i) k)) (0 ∷ 1 ∷ 2 ∷ [])) (0 ∷ 1 ∷ 2 ∷ []) ≡ (0 ∷ 0 ∷ 2 ∷ []) ∷ (0 ∷ 0 ∷ 1 ∷ []) ∷ (1 ∷ 1 ∷ 0 ∷ []) ∷ []
 unfolding startingAt fill distance commonDivisor last
 pattern-offsets = refl
 
@@ -332,11 +332,11 @@ not-by-distance = refl
 abbrev word : ℕ → List ℕ
 word n = n % 256 ∷ n / 256 % 256 ∷ n / 65536 % 256 ∷ n / 16777216 ∷ []
 
-abbrev budgetOf : ℕ → List ℕ
+abbrev pub budgetOf : ℕ → List ℕ
 budgetOf n = 1 ∷ word n ++ word 0
 
-abbrev rowOf : Task → List ℕ
-rowOf k = 2 ∷ word (k .offset) ++ word (k .cost) ++ word (k .deadline) ++ word (k .period)
+abbrev pub rowOf : Task → List ℕ
+rowOf k = 2 ∷ word (offset k) ++ word (k .cost) ++ word (k .deadline) ++ word (k .period)
 
 abbrev pub file-b : List ℕ
 file-b = budgetOf 1000 ++ rowOf (of 8 5 7 15) ++ rowOf (of 0 2 2 5) ++ (3 ∷ [])
@@ -356,13 +356,13 @@ files :
     × (loadedFrom longest .admission ≡ Admission.Admitted)
     × (length longest ≡ longestFile)
     × (tableOf (of 0 1 1 1 ∷ []) ≡ record { count = 1; tasks = of 0 1 1 1 ∷ replicate (taskLimit - 1) (of 0 0 0 0) })
-unfolding loadedFrom formOf readFrom judged firstFaulty taskFault first round load horizon largest sum count rowsOfOne
+unfolding loadedFrom periodicFrom formOf readFrom judged judgedMixed firstButton firstFaulty taskFault first round load horizon largest sum count rowsOfOne
 files = (refl, refl, refl, refl, refl)
 
-abbrev refusalOf : List ℕ → Admission
+abbrev pub refusalOf : List ℕ → Admission
 refusalOf s = loadedFrom s .admission
 
-abbrev at : ℕ → ℕ → Admission
+abbrev pub at : ℕ → ℕ → Admission
 at n p = Admission.Refused (refusal n p)
 
 -- The first fault wins; at a record: kind known, kind allowed here, body whole. The table is judged after the form.
@@ -383,7 +383,7 @@ file-refusals :
     ∷ at 1 0 ∷ at 25 (longestFile - 1) ∷ at 26 (longestFile - 1)
     ∷ at 21 26 ∷ at 23 26 ∷ at 20 26
     ∷ at 24 10 ∷ at 25 (longestFile - 1) ∷ []
-unfolding loadedFrom formOf readFrom judged firstFaulty taskFault first rowsOfOne
+unfolding loadedFrom periodicFrom formOf readFrom judged judgedMixed firstButton firstFaulty taskFault first rowsOfOne
 file-refusals = refl
 
 -- A whole budget of 0 is 27 at 0, before any later fault and before the table; cut short it is 20, and a second one 23.
@@ -399,7 +399,7 @@ budgets-of-nothing :
     ∷ at 27 0 ∷ at 27 0
     ∷ at 27 0 ∷ at 20 0 ∷ at 23 9
     ∷ Admission.Admitted ∷ Admission.Admitted ∷ []
-unfolding loadedFrom formOf readFrom judged firstFaulty taskFault first round load horizon largest sum count rowsOfOne
+unfolding loadedFrom periodicFrom formOf readFrom judged judgedMixed firstButton firstFaulty taskFault first round load horizon largest sum count rowsOfOne
 budgets-of-nothing = refl
 
 -- A budget of more than four bytes, and numbers of three and four.
@@ -412,7 +412,7 @@ wide-numbers = (refl, refl)
 -- ---- the dispatcher
 
 -- A state that has counted no slot.
-abbrev uncounted : List ℕ → List ℕ → ℕ → State
+abbrev pub uncounted : List ℕ → List ℕ → ℕ → State
 uncounted wait left last = record { wait = wait; left = left; last = last; given = padded 0 []; empty = 0 }
 
 -- The owners of some steps from a state, with these done reports.
@@ -457,7 +457,7 @@ starts :
     (started table-b ≡ record { admission = Admission.Admitted; state = uncounted (padded 0 (8 ∷ [])) (padded 0 []) taskLimit })
     × (started (tableOf []) ≡ record { admission = at 1 0; state = uncounted (padded 0 []) (padded 0 []) 0 })
     × (stepped table-g (startOf table-g) false .given ≡ Given.Slot (record { owner = 0; late = 0; closed = 0; lowest = taskLimit }))
-unfolding started startOf stepped admitted slotCount turn ownerNow choose fill bits firstStrange judged firstFaulty taskFault first round load horizon largest sum count
+unfolding started startOf stepped admitted slotCount turn ownerNow choose fill bits firstStrange judged judgedMixed firstButton firstFaulty taskFault first round load horizon largest sum count
 starts = (refl, refl, refl)
 
 -- A task with O 0, C 2, D 3, T 4 and one with O 9.
@@ -472,12 +472,12 @@ abbrev any-state : State
 any-state = record { wait = 1 ∷ 2 ∷ []; left = 3 ∷ 4 ∷ []; last = 5; given = 6 ∷ []; empty = 7 }
 
 handed-back : map (λ t. stepped t any-state true) (tableOf [] ∷ two ∷ []) ≡ map (λ r. record { given = Given.Refused r; state = any-state }) (refusal 1 0 ∷ refusal 8 0 ∷ [])
-unfolding stepped admitted slotCount firstStrange judged firstFaulty taskFault first round load horizon largest sum count
+unfolding stepped admitted slotCount firstStrange judged judgedMixed firstButton firstFaulty taskFault first round load horizon largest sum count
 handed-back = refl
 
 -- A closed job may wait for as long as the offset or the period is.
 no-strangers : state 4 9 0 0 taskLimit ≡ Given.Slot (record { owner = taskLimit; late = 0; closed = 0; lowest = taskLimit })
-unfolding state stepped admitted slotCount turn ownerNow choose bits firstStrange judged firstFaulty taskFault first round load horizon largest sum count
+unfolding state stepped admitted slotCount turn ownerNow choose bits firstStrange judged judgedMixed firstButton firstFaulty taskFault first round load horizon largest sum count
 no-strangers = refl
 
 -- Refusal 8 and its places: a wait above O and T; too many slots left;
@@ -485,7 +485,7 @@ no-strangers = refl
 strangers :
     state 5 0 0 0 taskLimit ∷ state 0 10 0 0 taskLimit ∷ state 2 0 3 0 taskLimit ∷ state 0 0 1 0 taskLimit ∷ state 4 0 1 0 taskLimit ∷ state 0 4 0 1 taskLimit ∷ state 0 0 0 0 2 ∷ state 0 0 0 0 (taskLimit + 1) ∷ []
     ≡ map (λ p. Given.Refused (refusal 8 p)) (0 ∷ 1 ∷ 0 ∷ 0 ∷ 0 ∷ 1 ∷ taskLimit ∷ taskLimit ∷ [])
-unfolding state stepped admitted slotCount firstStrange judged firstFaulty taskFault first round load horizon largest sum count
+unfolding state stepped admitted slotCount firstStrange judged judgedMixed firstButton firstFaulty taskFault first round load horizon largest sum count
 strangers = refl
 
 -- At its deadline, with wait T - D, a job is no stranger: it is closed late, or by a done report before that. Entries past the table stay.
@@ -493,7 +493,7 @@ at-deadline :
     (stepped two (record { wait = padded 7 (1 ∷ 9 ∷ []); left = padded 7 (1 ∷ 0 ∷ []); last = 0; given = padded 7 (3 ∷ 4 ∷ []); empty = 5 }) false
     ≡ record { given = Given.Slot (record { owner = taskLimit; late = 1; closed = 1; lowest = 0 }); state = record { wait = padded 7 (0 ∷ 8 ∷ []); left = padded 7 (0 ∷ 0 ∷ []); last = taskLimit; given = padded 7 (3 ∷ 4 ∷ []); empty = 6 } })
     × (turn two (uncounted (padded 0 (1 ∷ 9 ∷ [])) (padded 7 (2 ∷ 0 ∷ [])) 0) true .closed ≡ 0)
-unfolding stepped admitted slotCount turn after ownerNow choose fill bits firstStrange judged firstFaulty taskFault first round load horizon largest sum count
+unfolding stepped admitted slotCount turn after ownerNow choose fill bits firstStrange judged judgedMixed firstButton firstFaulty taskFault first round load horizon largest sum count
 at-deadline = (refl, refl)
 
 -- A state's slots: only the tasks of the table and the empty slots are summed. Below 2^64 - 1 a step is taken, at it it is 9, and above it
@@ -504,7 +504,7 @@ counted last g0 g1 empty = stepped two (record { wait = padded 0 []; left = padd
 accounts :
     counted taskLimit (slotCountLimit - 2) 0 1 ∷ counted taskLimit (slotCountLimit - 3) 1 2 ∷ counted taskLimit slotCountLimit 0 1 ∷ counted taskLimit 1 slotCountLimit slotCountLimit ∷ counted 2 slotCountLimit 0 1 ∷ counted 2 slotCountLimit 0 0 ∷ []
     ≡ Given.Slot (record { owner = 0; late = 0; closed = 0; lowest = taskLimit }) ∷ map Given.Refused (refusal 9 0 ∷ refusal 8 sumPlace ∷ refusal 8 sumPlace ∷ refusal 8 taskLimit ∷ refusal 8 taskLimit ∷ [])
-unfolding counted stepped admitted slotCount turn ownerNow choose bits firstStrange judged firstFaulty taskFault first round load horizon largest sum count
+unfolding counted stepped admitted slotCount turn ownerNow choose bits firstStrange judged judgedMixed firstButton firstFaulty taskFault first round load horizon largest sum count
 accounts = refl
 
 -- ---- histories
@@ -539,7 +539,7 @@ finished = (inr (1, lit< tt, lit≤ tt, tt), inl refl, inl refl)
 report-b :
     reportOf (table-b .count) (quickPass table-b) (record { outcome = Outcome.Tested Verdict.Passes; measure = measure table-b; settled = settledBy table-b 1000; worst = padded 0 (7 ∷ 2 ∷ []); idle = firstIdle table-b (tieOrder table-b) }) (verdict table-b 1000)
     ≡ text "tasks 2\nload 11/15\nquick none\nhorizon 38\nverdict passes\nsettled 38\nworst 0 7\nworst 1 2\nidle 2\n"
-unfolding reportOf worstLines text decimal digits settledBy verdict needed lateStart lateAt first last round load horizon largest sum count demand jobsIn firstIdle idleAt ownerOf served choose quickPass calm startingAt missedAt fill
+unfolding reportOf worstLines text decimal digits settledBy verdict needed lateStart lateAt first last round load horizon largest sum count demand arrivedIn firstIdle idleAt ownerOf served choose quickPass calm startingAt missedAt fill
 report-b = refl
 
 report-c :
@@ -573,7 +573,7 @@ permitted :
     × Permitted table-c 15 (brief (Outcome.Tested (Verdict.Late 8 15 8)) (measured 15 12 38) 15)
     × Permitted table-b 37 (record { outcome = Outcome.Tested Verdict.Undecided; measure = measured 15 11 38; settled = 37; worst = padded 0 []; idle = 0 })
     × Permitted (tableOf []) 5 (brief (Outcome.Refused (refusal 1 0)) (measured 0 0 0) 0)
-unfolding Permitted judged firstFaulty taskFault settledBy verdict needed lateStart lateAt first last round load horizon largest sum count demand jobsIn
+unfolding Permitted judged judgedMixed firstButton firstFaulty taskFault settledBy verdict needed lateStart lateAt first last round load horizon largest sum count demand arrivedIn
 permitted = (refl, refl, refl, refl)
 
 -- The exported call: a short buffer is 30 at its length, and one that is just long enough is not short; a refusal is
@@ -584,7 +584,7 @@ exported :
     × (Checked (budgetOf 1 ++ (9 ∷ [])) (replicate reportBytes 7) (record { number = 1376265; buffer = replicate reportBytes 7 }))
     × (refused (refusal 21 9) (7 ∷ []) ≡ record { number = 1376265; buffer = 7 ∷ [] })
     × (written (5 ∷ 6 ∷ []) (1 ∷ 2 ∷ 3 ∷ []) ≡ record { number = 2; buffer = 5 ∷ 6 ∷ 3 ∷ [] })
-unfolding loadedFrom formOf readFrom
+unfolding loadedFrom periodicFrom formOf readFrom
 exported = (refl, refl, refl, refl, refl)
 
 -- A whole report, of 70 bytes, in the buffer and as it is printed: b with a budget of 37.
@@ -595,24 +595,24 @@ abbrev file-short : List ℕ
 file-short = budgetOf 37 ++ rowOf (of 8 5 7 15) ++ rowOf (of 0 2 2 5) ++ (3 ∷ [])
 
 told : Checked file-short (replicate reportBytes 7) (record { number = 70; buffer = report-short ++ replicate (reportBytes - 70) 7 }) × Printed file-short report-short
-unfolding loadedFrom formOf readFrom Permitted judged firstFaulty taskFault settledBy verdict needed lateStart lateAt first last round load horizon largest sum count demand jobsIn reportOf text decimal digits quickPass calm startingAt fill firstIdle idleAt missedAt ownerOf served choose
+unfolding loadedFrom periodicFrom formOf readFrom Permitted judged judgedMixed firstButton firstFaulty taskFault settledBy verdict needed lateStart lateAt first last round load horizon largest sum count demand arrivedIn reportOf text decimal digits quickPass calm startingAt fill firstIdle idleAt missedAt ownerOf served choose
 told =
     let a = brief (Outcome.Tested Verdict.Undecided) (measured 15 11 38) 37 in
     ((a, refl, refl), (a, refl, refl))
 
 -- The exported quick test: no answer to b, pass for g; a file is refused by its form, and by its table.
 quick-told : map quickExported (file-short ∷ (budgetOf 1 ++ rowOf (of 0 2 4 4) ++ rowOf (of 0 2 4 4) ++ (3 ∷ [])) ∷ (9 ∷ []) ∷ (budgetOf 1 ++ (3 ∷ [])) ∷ []) ≡ 0 ∷ 1 ∷ 1376256 ∷ 65536 ∷ []
-unfolding formOf readFrom quickAnswer judged firstFaulty taskFault horizon largest quickPass calm startingAt fill firstIdle idleAt missedAt first round load sum count served ownerOf choose
+unfolding formOf readFrom quickAnswer judged judgedMixed firstButton firstFaulty taskFault horizon largest quickPass calm startingAt fill firstIdle idleAt missedAt first round load sum count served ownerOf choose
 quick-told = refl
 
 -- The exported distance test: pass for b, no answer to c, overload of i; a file is refused by its form, and by its table.
 distance-told : map distanceExported (file-short ∷ (budgetOf 1 ++ rowOf (of 8 6 7 15) ++ rowOf (of 0 2 2 5) ++ (3 ∷ [])) ∷ (budgetOf 1 ++ rowOf (of 0 3 5 5) ++ rowOf (of 2 3 5 5) ++ (3 ∷ [])) ∷ (9 ∷ []) ∷ (budgetOf 1 ++ (3 ∷ [])) ∷ []) ≡ 1 ∷ 0 ∷ 2 ∷ 1376256 ∷ 65536 ∷ []
-unfolding formOf readFrom distanceAnswer judged firstFaulty taskFault horizon largest distancePass distance commonDivisor calm startingAt fill firstIdle idleAt missedAt first last round load sum count served ownerOf choose
+unfolding formOf readFrom distanceAnswer judged judgedMixed firstButton firstFaulty taskFault horizon largest distancePass distance commonDivisor calm startingAt fill firstIdle idleAt missedAt first last round load sum count served ownerOf choose
 distance-told = refl
 
 -- The line of a refusal; a number as long as the longest of a report, `taskLimit` times the limit of H.
 refusal-lines : Printed (budgetOf 1 ++ (9 ∷ [])) (text "refused 21 at 9\n") × Printed (budgetOf 1 ++ (3 ∷ 3 ∷ [])) (text "refused 24 at 10\n") × (decimal 32000000000000 ≡ text "32000000000000")
-unfolding loadedFrom formOf readFrom text decimal digits
+unfolding loadedFrom periodicFrom formOf readFrom text decimal digits
 refusal-lines = (refl, refl, refl)
 
 -- ---- the state buffer
@@ -637,7 +637,7 @@ camera-starts :
     × (startExported (9 ∷ []) (replicate 65536 7) .number ≡ 3342335)
     × (startExported (9 ∷ []) (replicate stateBytes 7) ≡ record { number = 1376256; buffer = replicate stateBytes 7 })
     × (startExported (budgetOf 1 ++ (3 ∷ [])) (replicate stateBytes 7) ≡ record { number = 65536; buffer = replicate stateBytes 7 })
-unfolding bufferOf bytesOf halves started startOf fill formOf readFrom judged firstFaulty taskFault first round load horizon largest sum count
+unfolding bufferOf bytesOf halves started startOf fill formOf readFrom judged judgedMixed firstButton firstFaulty taskFault first round load horizon largest sum count
 camera-starts = (refl, refl, refl, refl, refl, refl)
 
 -- The loop on g with task 0 done after one slot, as above: a done report is any number but 0. On f the second step leaves what it told.
@@ -653,12 +653,12 @@ reports n = getD (0 ∷ 2 ∷ []) n 0
 camera-steps :
     (map (λ n. stepExported file-g (handed file-g (replicate stateBytes 9) reports n) (reports n) .number) (0 ∷ 1 ∷ 2 ∷ 3 ∷ 4 ∷ []) ≡ 0 ∷ 1 ∷ 1 ∷ taskLimit ∷ 0 ∷ [])
     × (handed file-f (replicate stateBytes 9) (λ n. 0) 2 ≡ replicate (8 * taskLimit) 0 ++ word taskLimit ++ word 2 ++ word 1 ++ word 1 ++ word 1 ++ replicate (8 * taskLimit - 4) 0 ++ word 1 ++ word 0)
-unfolding reports handed stateIn bufferOf bytesOf halves started startOf stepped admitted slotCount after turn ownerNow choose fill bits firstStrange formOf readFrom judged firstFaulty taskFault first round load horizon largest sum count
+unfolding reports handed stateIn bufferOf bytesOf halves started startOf stepped admitted slotCount after turn ownerNow choose fill bits firstStrange formOf readFrom judged judgedMixed firstButton firstFaulty taskFault first round load horizon largest sum count
 camera-steps = (refl, refl)
 
 -- A state that is not g's is 8, and stays.
 camera-stranger : stepExported file-g (replicate stateBytes 7) 0 ≡ record { number = 524288; buffer = replicate stateBytes 7 }
-unfolding stateIn stepped admitted slotCount fill firstStrange formOf readFrom judged firstFaulty taskFault first round load horizon largest sum count
+unfolding stateIn stepped admitted slotCount fill firstStrange formOf readFrom judged judgedMixed firstButton firstFaulty taskFault first round load horizon largest sum count
 camera-stranger = refl
 
 -- ---- the writer
@@ -670,7 +670,7 @@ writes :
     × (fileWritten table-b 1000 (replicate 43 7) ≡ record { said = Writing.Refused (refusal 31 43); buffer = replicate 43 7 })
     × (fileWritten (tableOf []) 1000 [] ≡ record { said = Writing.Refused (refusal 1 0); buffer = [] })
     × (fileOf 578437695752307201 [] ≡ 1 ∷ 1 ∷ 2 ∷ 3 ∷ 4 ∷ 5 ∷ 6 ∷ 7 ∷ 8 ∷ 3 ∷ [])
-unfolding fileWritten judged firstFaulty taskFault first round load horizon largest sum count bytesOf taskRecords
+unfolding fileWritten judged judgedMixed firstButton firstFaulty taskFault first round load horizon largest sum count bytesOf taskRecords
 writes = (refl, refl, refl, refl)
 
 -- A budget of 0 is 27 at 0 after the table's refusal and before the buffer's; one of 1 is not.
@@ -679,7 +679,7 @@ writes-nothing :
     × (fileWritten table-b 0 [] .said ≡ Writing.Refused (refusal 27 0))
     × (fileWritten table-b 1 [] .said ≡ Writing.Refused (refusal 31 0))
     × (fileWritten (tableOf []) 0 [] .said ≡ Writing.Refused (refusal 1 0))
-unfolding fileWritten judged firstFaulty taskFault first round load horizon largest sum count bytesOf taskRecords
+unfolding fileWritten judged judgedMixed firstButton firstFaulty taskFault first round load horizon largest sum count bytesOf taskRecords
 writes-nothing = (refl, refl, refl, refl)
 
 -- The rows of table b, and what C is told: 51 at the number of words, 52 at the first row of another kind, then the table, then 31.
@@ -693,14 +693,14 @@ exported-writes :
     × (writeExported (9 ∷ rows-b) 1000 [] .number ≡ 3342347)
     × (writeExported (rows-b ++ (1 ∷ 0 ∷ 2 ∷ 2 ∷ 5 ∷ [])) 1000 [] .number ≡ 3407874)
     × (writeExported [] 1000 [] .number ≡ 65536)
-unfolding firstStranger tableIn fileWritten judged firstFaulty taskFault first round load horizon largest sum count fill bytesOf taskRecords
+unfolding firstStranger tableIn fileWritten judged judgedMixed firstButton firstFaulty taskFault first round load horizon largest sum count fill bytesOf taskRecords
 exported-writes = (refl, refl, refl, refl, refl, refl)
 
 -- ---- plain text
 
 -- Words are parted by blanks and tabs; a carriage return at a line's end and a comment say nothing; the last line may lack its line feed.
 text-b : textLoaded (text "# the bench\n\n budget 1000\r\ntask 8\t5  7 015# camera\ntask 0 2 2 5") ≡ record { admission = Admission.Admitted; budget = 1000; table = table-b }
-unfolding textLoaded textForm readLines lineOf budgetLine taskLine numbersFault valueAfter allDigits same filled split text judged firstFaulty taskFault first round load horizon largest sum count
+unfolding textLoaded textForm readLines lineOf budgetLine taskLine numbersFault valueAfter allDigits same filled split text judged judgedMixed firstButton firstFaulty taskFault first round load horizon largest sum count
 text-b = refl
 
 -- The text of table b; from text to file and back.
@@ -709,7 +709,7 @@ text-of-b :
     × (fromTextExported (text "budget 1000\ntask 8 5 7 15\ntask 0 2 2 5\n") (replicate 45 7) ≡ record { number = 44; buffer = file-b ++ (7 ∷ []) })
     × (toTextExported file-b (replicate 40 7) ≡ record { number = 39; buffer = text "budget 1000\ntask 8 5 7 15\ntask 0 2 2 5\n" ++ (7 ∷ []) })
     × (toTextExported file-b (replicate 38 7) ≡ record { number = 2031654; buffer = replicate 38 7 })
-unfolding taskTexts textForm readLines lineOf budgetLine taskLine numbersFault valueAfter allDigits same filled split text decimal digits fileWritten textWritten formOf readFrom judged firstFaulty taskFault first round load horizon largest sum count bytesOf taskRecords
+unfolding taskTexts textForm readLines lineOf budgetLine taskLine numbersFault valueAfter allDigits same filled split text decimal digits fileWritten textWritten formOf readFrom judged judgedMixed firstButton firstFaulty taskFault first round load horizon largest sum count bytesOf taskRecords
 text-of-b = (refl, refl, refl, refl)
 
 -- The first fault wins, from left to right: the first word, its place, then the numbers; the table is judged after the form.
@@ -724,7 +724,7 @@ text-refusals :
     ∷ at 63 1 ∷ at 63 1 ∷ at 61 1 ∷ at 1 0 ∷ at 62 1 ∷ at 61 1
     ∷ at 61 2 ∷ at 63 2 ∷ at 63 2 ∷ at 62 2 ∷ at 6 0
     ∷ at 1 0 ∷ at 61 1 ∷ []
-unfolding textLoaded textForm readLines lineOf budgetLine taskLine numbersFault valueAfter allDigits same filled split text judged firstFaulty taskFault first round load horizon largest sum count
+unfolding textLoaded textForm readLines lineOf budgetLine taskLine numbersFault valueAfter allDigits same filled split text judged judgedMixed firstButton firstFaulty taskFault first round load horizon largest sum count
 text-refusals = refl
 
 -- A budget of 0 is 27 at its line, once the line has no other fault, and before any later line.
@@ -733,7 +733,7 @@ texts-of-nothing :
     text "budget 0\nx" ∷ text "# none\nbudget 000" ∷ text "budget 0 0" ∷ text "budget 0x" ∷ text "budget 5\nbudget 0" ∷ text "budget 1" ∷ []
     )
     ≡ at 27 1 ∷ at 27 2 ∷ at 63 1 ∷ at 61 1 ∷ at 65 2 ∷ at 1 0 ∷ []
-unfolding textLoaded textForm readLines lineOf budgetLine taskLine numbersFault valueAfter allDigits same filled split text judged firstFaulty taskFault first round load horizon largest sum count
+unfolding textLoaded textForm readLines lineOf budgetLine taskLine numbersFault valueAfter allDigits same filled split text judged judgedMixed firstButton firstFaulty taskFault first round load horizon largest sum count
 texts-of-nothing = refl
 
 tasksOfOne : ℕ → List ℕ
@@ -742,7 +742,7 @@ tasksOfOne (suc n) = text "task 0 1 1 1\n" ++ tasksOfOne n
 
 -- A task too many is 66, whatever follows it on its line.
 many-lines : (textLoaded (text "budget 1\n" ++ tasksOfOne taskLimit) .admission ≡ Admission.Admitted) × (textLoaded (text "budget 1\n" ++ tasksOfOne taskLimit ++ text "task x") .admission ≡ at 66 (taskLimit + 2))
-unfolding tasksOfOne textLoaded textForm readLines lineOf budgetLine taskLine numbersFault valueAfter allDigits same filled split text judged firstFaulty taskFault first round load horizon largest sum count
+unfolding tasksOfOne textLoaded textForm readLines lineOf budgetLine taskLine numbersFault valueAfter allDigits same filled split text judged judgedMixed firstButton firstFaulty taskFault first round load horizon largest sum count
 many-lines = (refl, refl)
 
 -- ---- easing
@@ -752,7 +752,7 @@ abbrev slower-e : Table
 slower-e = tableOf (of 1 1 1 2 ∷ of 0 1 1 3 ∷ [])
 
 longer-period : (verdict table-e 1000 ≡ Verdict.Passes) × (verdict slower-e 1000 ≡ Verdict.Late 3 4 2) × (easing table-e slower-e ≡ Easing.Unmatched 1)
-unfolding easing searchedFrom verdict needed lateStart lateAt first last round load horizon largest sum count demand jobsIn
+unfolding easing searchedFrom verdict needed lateStart lateAt first last round load horizon largest sum count demand arrivedIn
 longer-period = (refl, refl, refl)
 
 -- A longer deadline is an easing, but no lowering, and its task may become slower: with 3 for 1 task 0 has slot 1, and no more slot 0.
@@ -795,21 +795,21 @@ eased-numbers :
     × (easedExported (9 ∷ []) [] ≡ 4 * 1376256 + 2)
     × (easedExported file-b [] ≡ 4 * 1441792 + 3)
     × (easedExported (budgetOf 1 ++ (3 ∷ [])) file-b ≡ 4 * 65536 + 2)
-unfolding easing bits searchedFrom loadedFrom formOf readFrom judged firstFaulty taskFault first round load horizon largest sum count
+unfolding easing bits searchedFrom loadedFrom periodicFrom formOf readFrom judged judgedMixed firstButton firstFaulty taskFault first round load horizon largest sum count
 eased-numbers = (refl, refl, refl, refl, refl, refl)
 
 -- ---- the largest cost
 
 -- On b task 0 can take 5, as it has, and task 1 can take 2; without task 1 task 0 could take its deadline.
 largest-costs : map (λ i. largestCost table-b i 38) (0 ∷ 1 ∷ []) ++ (largestCost (tableOf (of 8 5 7 15 ∷ [])) 0 38 ∷ []) ≡ 5 ∷ 2 ∷ 7 ∷ []
-unfolding largestCost verdict needed lateStart lateAt first last round load horizon largest sum count demand jobsIn
+unfolding largestCost verdict needed lateStart lateAt first last round load horizon largest sum count demand arrivedIn
 largest-costs = refl
 
 -- The order: the table's refusal, 12, overload, late and undecided by the budget, and then the number.
 cost-answers :
     map costSaid (costAnswer (tableOf []) 3 0 ∷ costAnswer table-b 2 0 ∷ costAnswer table-i 0 0 ∷ costAnswer table-c 0 15 ∷ costAnswer table-c 0 14 ∷ costAnswer table-b 0 37 ∷ costAnswer table-b 0 38 ∷ [])
     ≡ (1 ∷ 0 ∷ []) ∷ (12 ∷ 2 ∷ []) ∷ (1 ∷ []) ∷ (3 ∷ []) ∷ (2 ∷ []) ∷ (2 ∷ []) ∷ (0 ∷ 5 ∷ []) ∷ []
-unfolding costAnswer largestCost judged firstFaulty taskFault verdict needed lateStart lateAt first last round load horizon largest sum count demand jobsIn
+unfolding costAnswer largestCost judged judgedMixed firstButton firstFaulty taskFault verdict needed lateStart lateAt first last round load horizon largest sum count demand arrivedIn
 cost-answers = refl
 
 -- As numbers: of b's tasks, of a number that is none and of one that is too large to be told; undecided; a refused file.
@@ -817,5 +817,5 @@ largest-numbers :
     (map (largestExported file-b) (0 ∷ 1 ∷ 2 ∷ 70000 ∷ []) ≡ 5 ∷ 2 ∷ 786434 ∷ 851967 ∷ [])
     × (largestExported file-short 0 ≡ 60002)
     × (largestExported [] 0 ≡ 1441792)
-unfolding costAnswer largestCost formOf readFrom judged firstFaulty taskFault verdict needed lateStart lateAt first last round load horizon largest sum count demand jobsIn
+unfolding costAnswer largestCost formOf readFrom judged judgedMixed firstButton firstFaulty taskFault verdict needed lateStart lateAt first last round load horizon largest sum count demand arrivedIn
 largest-numbers = (refl, refl, refl)

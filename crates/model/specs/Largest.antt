@@ -9,7 +9,7 @@ use Rattle.model.specs.Report.{refusalNumber, fileNumber}
 
 -- A task with another cost, and the table with that one cost changed.
 abbrev pub costing : Task → ℕ → Task
-costing k c = record { offset = k .offset; cost = c; deadline = k .deadline; period = k .period }
+costing k c = record { sort = k .sort; cost = c; deadline = k .deadline; period = k .period }
 
 abbrev pub withCost : Table → ℕ → ℕ → Table
 withCost t i c = record { count = t .count; tasks = set (t .tasks) i (costing (task t i) c) }

@@ -5,6 +5,7 @@ pub mod Values
 pub mod Tasks
 pub mod Schedule
 pub mod Demand
+pub mod Arrivals
 pub mod Run
 pub mod Idle
 pub mod Verdict
@@ -19,3 +20,4 @@ pub mod PlainText
 pub mod Easing
 pub mod Largest
 pub mod Examples
+pub mod ButtonExamples

@@ -24,12 +24,15 @@ wordLimit = 4294967296
 abbrev pub budgetLimit : ℕ
 budgetLimit = wordLimit * wordLimit
 
--- The bytes of a budget and of a task: the kind and the body. The longest legal file: a budget, every task, the kind of the end.
+-- The bytes of a budget, of a task and of a button: the kind and the body. The longest legal file: a budget, every task, the kind of the end.
 abbrev pub budgetBytes : ℕ
 budgetBytes = 1 + 8
 
 abbrev pub taskBytes : ℕ
 taskBytes = 1 + 16
+
+abbrev pub buttonBytes : ℕ
+buttonBytes = 1 + 12
 
 abbrev pub longestFile : ℕ
 longestFile = budgetBytes + taskLimit * taskBytes + 1

@@ -1,8 +1,8 @@
 -- Tables in plain text: for any bytes the refusal, or the budget and the tasks; the text of a budget and tasks; the exported calls.
 use Rattle.model.specs.Notation.{List, [], _∷_, _++_, Bool, true, false, cond, not, _&&_, _||_, ℕ, zero, suc, _+_, _-_, _*_, min, leb, ltb, eqb, getD, length, take, text, decimal}
-use Rattle.model.specs.Values.{Task, Table, Loaded, Admission, Line}
+use Rattle.model.specs.Values.{Sort, Task, Table, Loaded, Admission, Line}
 use Rattle.model.specs.Limits.{taskLimit, wordLimit, budgetLimit}
-use Rattle.model.specs.Tasks.{within, judged}
+use Rattle.model.specs.Tasks.{within, judgedMixed}
 use Rattle.model.specs.TableFile.{refuseFile, admit, judgedForm, formOf}
 use Rattle.model.specs.Report.{Exported, line}
 use Rattle.model.specs.Writer.{Filled, unwritten, tasksOf, writtenBy, fileWritten, fillTold}
@@ -103,21 +103,26 @@ budgetSaid b = cond (eqb b 0) (Line.Fault 27) (Line.Budget b)
 unfoldable pub budgetLine : Bool → List (List ℕ) → Line
 budgetLine given ws = cond given (Line.Fault 65) (unless (numbersFault budgetLimit 1 ws) (budgetSaid (number ws 0)))
 
--- A task: one before the budget is 64, one more than a table may have 66.
+-- The numbers of a task are O, C, D, T, and of a button C, D and its spacing.
 abbrev pub taskIn : List (List ℕ) → Task
-taskIn ws = record { offset = number ws 0; cost = number ws 1; deadline = number ws 2; period = number ws 3 }
+taskIn ws = record { sort = Sort.Periodic (number ws 0); cost = number ws 1; deadline = number ws 2; period = number ws 3 }
 
-unfoldable pub taskLine : Bool → ℕ → List (List ℕ) → Line
-taskLine given count ws =
+abbrev pub buttonIn : List (List ℕ) → Task
+buttonIn ws = record { sort = Sort.Button; cost = number ws 0; deadline = number ws 1; period = number ws 2 }
+
+-- A task of so many numbers: one before the budget is 64, one more than a table may have 66.
+unfoldable pub taskLine : ℕ → Task → Bool → ℕ → List (List ℕ) → Line
+taskLine numbers k given count ws =
     cond (not given) (Line.Fault 64)
-    (cond (leb taskLimit count) (Line.Fault 66) (unless (numbersFault wordLimit 4 ws) (Line.OneTask (taskIn ws))))
+    (cond (leb taskLimit count) (Line.Fault 66) (unless (numbersFault wordLimit numbers ws) (Line.OneTask k)))
 
 -- What a line of these words says, after a budget or none and so many tasks: its first word tells which it is, or is 60.
 unfoldable pub lineOf : Bool → ℕ → List (List ℕ) → Line
 lineOf given count [] = Line.Nothing
 lineOf given count (w ∷ ws) =
     cond (same w (text "budget")) (budgetLine given ws)
-    (cond (same w (text "task")) (taskLine given count ws) (Line.Fault 60))
+    (cond (same w (text "task")) (taskLine 4 (taskIn ws) given count ws)
+    (cond (same w (text "button")) (taskLine 3 (buttonIn ws) given count ws) (Line.Fault 60)))
 
 -- A fault is told with its line, counted from 1, or with 65,535.
 abbrev pub refuseText : ℕ → ℕ → Loaded
@@ -140,14 +145,18 @@ unfoldable pub textForm : List ℕ → Loaded
 textForm s = readLines false 0 [] 0 (linesOf s)
 
 unfoldable pub textLoaded : List ℕ → Loaded
-textLoaded s = judgedForm (textForm s) (textForm s .admission)
+textLoaded s = judgedForm judgedMixed (textForm s) (textForm s .admission)
 
 -- The text of a budget and tasks: a line for the budget, and one for each task.
 abbrev pub budgetText : ℕ → List ℕ
 budgetText b = line (text "budget " ++ decimal b)
 
+abbrev pub sortText : Sort → List ℕ
+sortText (Sort.Periodic o) = text "task " ++ decimal o ++ text " "
+sortText Sort.Button = text "button "
+
 abbrev pub taskText : Task → List ℕ
-taskText k = line (text "task " ++ decimal (k .offset) ++ text " " ++ decimal (k .cost) ++ text " " ++ decimal (k .deadline) ++ text " " ++ decimal (k .period))
+taskText k = line (sortText (k .sort) ++ decimal (k .cost) ++ text " " ++ decimal (k .deadline) ++ text " " ++ decimal (k .period))
 
 unfoldable pub taskTexts : List Task → List ℕ
 taskTexts [] = []
@@ -158,7 +167,7 @@ textOf b ks = budgetText b ++ taskTexts ks
 
 -- The one permitted result of the writer of texts on any table, budget and buffer.
 unfoldable pub textWritten : Table → ℕ → List ℕ → Filled
-textWritten t budget buffer = writtenBy budget (textOf budget (tasksOf t)) buffer (judged t)
+textWritten t budget buffer = writtenBy budget (textOf budget (tasksOf t)) buffer (judgedMixed t)
 
 -- What is written of a form: its refusal, or `go`.
 abbrev pub formWritten : List ℕ → Filled → Admission → Filled

@@ -1,19 +1,34 @@
 -- Tasks, their ranges, and well-formed tables.
-use Rattle.model.specs.Notation.{Bool, cond, not, _&&_, ℕ, _+_, _*_, _/_, _%_, _^_, leb, ltb, eqb, getD, sum, largest, every, first}
-use Rattle.model.specs.Values.{Task, Table, Measure, Judgement, refusal}
+use Rattle.model.specs.Notation.{Bool, true, false, cond, not, _&&_, ℕ, _+_, _*_, _/_, _%_, _^_, leb, ltb, eqb, getD, sum, largest, every, first}
+use Rattle.model.specs.Values.{Sort, Task, Table, Measure, Judgement, refusal}
 use Rattle.model.specs.Limits.{taskLimit, slotLimit, roundLimit}
 
 -- What stands past the end of a list of tasks.
 abbrev pub noTask : Task
-noTask = record { offset = 0; cost = 0; deadline = 0; period = 0 }
+noTask = record { sort = Sort.Periodic 0; cost = 0; deadline = 0; period = 0 }
 
 -- Task i of a table.
 abbrev pub task : Table → ℕ → Task
 task t i = getD (t .tasks) i noTask
 
--- When job j of a task is released, and by when it must be finished.
+-- A button comes when it likes (T-13). It has no offset: where one is asked for, it is 0.
+abbrev pub buttonSort : Sort → Bool
+buttonSort (Sort.Periodic o) = false
+buttonSort Sort.Button = true
+
+abbrev pub isButton : Task → Bool
+isButton k = buttonSort (k .sort)
+
+abbrev pub sortOffset : Sort → ℕ
+sortOffset (Sort.Periodic o) = o
+sortOffset Sort.Button = 0
+
+abbrev pub offset : Task → ℕ
+offset k = sortOffset (k .sort)
+
+-- When job j of a periodic task is released, and by when it must be finished.
 abbrev pub release : Task → ℕ → ℕ
-release k j = k .offset + j * k .period
+release k j = offset k + j * k .period
 
 abbrev pub due : Task → ℕ → ℕ
 due k j = release k j + k .deadline
@@ -28,7 +43,7 @@ taskFault k =
     cond (not (within 1 slotLimit (k .period))) 3
     (cond (not (within 1 (k .period) (k .deadline))) 4
     (cond (not (within 1 (k .deadline) (k .cost))) 5
-    (cond (not (within 0 slotLimit (k .offset))) 6 0)))
+    (cond (not (within 0 slotLimit (offset k))) 6 0)))
 
 -- The first task of a table that leaves a range, or the count.
 unfoldable pub firstFaulty : Table → ℕ
@@ -48,7 +63,7 @@ load t = sum (t .count) (λ i. task t i .cost * (round t / task t i .period))
 
 -- The horizon: the largest offset, plus 2 H.
 unfoldable pub horizon : Table → ℕ
-horizon t = largest (t .count) (λ i. task t i .offset) + 2 * round t
+horizon t = largest (t .count) (λ i. offset (task t i)) + 2 * round t
 
 -- What is measured of a table.
 abbrev pub measure : Table → Measure
@@ -62,6 +77,19 @@ judgedBy m t =
     (cond (ltb (firstFaulty t) (t .count)) (Judgement.Refused (refusal (taskFault (task t (firstFaulty t))) (firstFaulty t)))
     (cond (ltb roundLimit (m .round)) (Judgement.Refused (refusal 7 0)) (Judgement.WellFormed m))))
 
--- Any table is judged by its own measure.
+-- Any table, of tasks of both sorts, is judged by its own measure.
+unfoldable pub judgedMixed : Table → Judgement
+judgedMixed t = judgedBy (measure t) t
+
+-- The first button of a table, or the count.
+unfoldable pub firstButton : Table → ℕ
+firstButton t = first (λ i. isButton (task t i)) 0 (t .count)
+
+-- Where only periodic tasks are allowed, a well-formed table with a button is refused by 11 at its first one.
+abbrev pub periodicOnly : Table → Judgement → Judgement
+periodicOnly t (Judgement.Refused r) = Judgement.Refused r
+periodicOnly t (Judgement.WellFormed m) =
+    cond (ltb (firstButton t) (t .count)) (Judgement.Refused (refusal 11 (firstButton t))) (Judgement.WellFormed m)
+
 unfoldable pub judged : Table → Judgement
-judged t = judgedBy (measure t) t
+judged t = periodicOnly t (judgedMixed t)

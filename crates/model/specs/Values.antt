@@ -1,5 +1,6 @@
 -- The values of crate `values` by their names, and each case of an answer as a list: document 01's number first (0, ours, where nothing is refused), then its values.
 use Rattle.model.specs.Notation.{List, [], _∷_, ℕ}
+pub use Rattle.values.specs.declared.Sort.{Sort}
 pub use Rattle.values.specs.declared.Task.{Task}
 pub use Rattle.values.specs.declared.Table.{Table}
 pub use Rattle.values.specs.declared.Refusal.{Refusal}

@@ -1,9 +1,9 @@
 -- The writer: a table and a budget as a table file in a lent buffer, and the exported call.
-use Rattle.model.specs.Notation.{List, _++_, Bool, cond, not, ℕ, _+_, _*_, _/_, _%_, min, ltb, eqb, getD, length, replicate, take, drop, first, fill}
-use Rattle.model.specs.Values.{Task, Table, Judgement, Writing, refusal}
+use Rattle.model.specs.Notation.{List, _++_, Bool, cond, not, _&&_, _||_, ℕ, _+_, _*_, _/_, _%_, min, ltb, eqb, getD, length, replicate, take, drop, first, fill}
+use Rattle.model.specs.Values.{Sort, Task, Table, Judgement, Writing, refusal}
 use Rattle.model.specs.Limits.{taskLimit}
-use Rattle.model.specs.Tasks.{noTask, judged}
-use Rattle.model.specs.TableFile.{taskKind, fileOf}
+use Rattle.model.specs.Tasks.{noTask, judgedMixed}
+use Rattle.model.specs.TableFile.{taskKind, buttonKind, fileOf}
 use Rattle.model.specs.Report.{Exported, refused}
 
 -- What a writer does: what it says, and what the buffer then holds.
@@ -36,9 +36,9 @@ writtenBy budget bytes buffer (Judgement.WellFormed m) = budgeted budget bytes b
 
 -- The one permitted result of the writer on any table, budget and buffer.
 unfoldable pub fileWritten : Table → ℕ → List ℕ → Filled
-fileWritten t budget buffer = writtenBy budget (fileOf budget (tasksOf t)) buffer (judged t)
+fileWritten t budget buffer = writtenBy budget (fileOf budget (tasksOf t)) buffer (judgedMixed t)
 
--- From C a table is handed over as words, five for each task: its kind, O, C, D, T.
+-- From C a table is handed over as words, five for each task: its kind, O, C, D, T. A button has 0 for O, and its spacing for T.
 abbrev pub rowWords : ℕ
 rowWords = 5
 
@@ -48,11 +48,13 @@ rows words = length words / rowWords
 abbrev pub rowTask : List ℕ → ℕ → Task
 rowTask words i =
     let at = rowWords * i in
-    record { offset = getD words (at + 1) 0; cost = getD words (at + 2) 0; deadline = getD words (at + 3) 0; period = getD words (at + 4) 0 }
+    let sort = cond (eqb (getD words at 0) buttonKind) Sort.Button (Sort.Periodic (getD words (at + 1) 0)) in
+    record { sort = sort; cost = getD words (at + 2) 0; deadline = getD words (at + 3) 0; period = getD words (at + 4) 0 }
 
 -- Row i is a task; the first that is none, or the number of rows.
 abbrev pub isTask : List ℕ → ℕ → Bool
-isTask words i = eqb (getD words (rowWords * i) 0) taskKind
+isTask words i =
+    let kind = getD words (rowWords * i) 0 in eqb kind taskKind || (eqb kind buttonKind && eqb (getD words (rowWords * i + 1) 0) 0)
 
 unfoldable pub firstStranger : List ℕ → ℕ
 firstStranger words = first (λ i. not (isTask words i)) 0 (rows words)

@@ -1,14 +1,14 @@
 -- THE SMALLEST DISTANCE (`distance-le`): no release of the one task is followed, then or later, by one of the other at less than their distance.
-use mathlib.Core.Path.{_≡_, sym, ap, _∙_}
-use mathlib.Core.Bool.{Bool, _&&_}
+use mathlib.Core.Path.{_≡_, refl, sym, ap, _∙_}
+use mathlib.Core.Bool.{Bool, true, false, _&&_}
 use Prim.Native.Nat.{ℕ, suc, _+_, _-_, _*_, _/_, _%_, _≤_, _<_, _∣_}
 use native.Mathlib.Nat.{mul-assoc, div-mul-cancel, add-mul-mod-self-right, add-mod-mod, mod-le, mod-lt, dvd-iff-mod-eq-zero, le-of-dvd, pos-of-dvd-of-pos}
 use native.Mathlib.Omega.{arith}
 use lib.Dec.{eqb, eqb→eq}
 use lib.IntN.{_-ℤ_, pos as int}
 use Rattle.values.specs.declared.Task.{Task}
-use Rattle.model.specs.Tasks.{release}
-use Rattle.model.specs.Patterns.{commonDivisor, distance}
+use Rattle.model.specs.Tasks.{isButton, offset, release}
+use Rattle.model.specs.Patterns.{commonDivisor, reduced, distance}
 use Rattle.counting.specs.Count.{and-iff, eq→eqb}
 use Rattle.counting.specs.Search.{last-is}
 use Rattle.counting.specs.Divisors.{IsGcd, gcd, gcd-is}
@@ -38,6 +38,15 @@ mod-multiple : (x j p g : ℕ) → g ∣ p → (x + j * p) % g ≡ x % g
 mod-multiple x j p g d =
     ap (λ (y : ℕ). (x + j * y) % g) (sym (div-mul-cancel g d)) ∙ ap (λ (y : ℕ). (x + y) % g) (sym (mul-assoc j (p / g) g)) ∙ add-mul-mod-self-right x (j * (p / g)) g
 
+-- A button is at distance 0, and a periodic task at the difference of the offsets, reduced.
+pub distance-button : (one other : Task) → isButton other ≡ true → distance one other ≡ 0
+unfolding distance
+distance-button one other e = rw e refl
+
+pub distance-periodic : (one other : Task) → isButton other ≡ false → distance one other ≡ reduced (int (offset other) -ℤ int (offset one)) (commonDivisor (one .period) (other .period))
+unfolding distance
+distance-periodic one other e = rw e refl
+
 module _ (one other : Task) (pos : 0 < one .period) where
   abbrev g : ℕ
   g = commonDivisor (one .period) (other .period)
@@ -50,20 +59,26 @@ module _ (one other : Task) (pos : 0 < one .period) where
 
   -- It is at most the period of the one.
   pub distance-low : distance one other ≤ one .period
-  unfolding distance
-  distance-low = omega (arith, reduced-lt (int (other .offset) -ℤ int (one .offset)) g positive, le-of-dvd pos (d .divides-left))
+  distance-low = go (isButton other) refl
+    where
+      go : (b : Bool) → isButton other ≡ b → distance one other ≤ one .period
+      go true e = omega (arith, distance-button one other e)
+      go false e = omega (arith, distance-periodic one other e, reduced-lt (int (offset other) -ℤ int (offset one)) g positive, le-of-dvd pos (d .divides-left))
 
   pub distance-le : (j m : ℕ) → release one j ≤ release other m → release one j + distance one other ≤ release other m
-  unfolding distance
-  distance-le j m h = omega (arith, reduced-is (one .offset) (other .offset) g (w % g) (mod-lt w positive) leads, mod-le w g)
+  distance-le j m h = go (isButton other) refl
     where
       w : ℕ
       w = release other m - release one j
 
-      sums : one .offset + w + j * one .period ≡ other .offset + m * other .period
+      sums : offset one + w + j * one .period ≡ offset other + m * other .period
       sums = omega arith
 
-      leads : (one .offset + w % g) % g ≡ other .offset % g
+      leads : (offset one + w % g) % g ≡ offset other % g
       leads =
-          add-mod-mod (one .offset) w g ∙ sym (mod-multiple (one .offset + w) j (one .period) g (d .divides-left))
-          ∙ ap (λ (x : ℕ). x % g) sums ∙ mod-multiple (other .offset) m (other .period) g (d .divides-right)
+          add-mod-mod (offset one) w g ∙ sym (mod-multiple (offset one + w) j (one .period) g (d .divides-left))
+          ∙ ap (λ (x : ℕ). x % g) sums ∙ mod-multiple (offset other) m (other .period) g (d .divides-right)
+
+      go : (b : Bool) → isButton other ≡ b → release one j + distance one other ≤ release other m
+      go true e = omega (arith, distance-button one other e)
+      go false e = omega (arith, distance-periodic one other e, reduced-is (offset one) (offset other) g (w % g) (mod-lt w positive) leads, mod-le w g)

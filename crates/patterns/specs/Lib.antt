@@ -18,5 +18,13 @@ pub mod Distance
 pub mod Attained
 pub mod DistancePass
 pub mod QuickDistance
+-- Tasks that come when they like.
+pub mod Arrivals
+pub mod OnTheWay
+pub mod MixedGood
+pub mod NoButton
+pub mod GoodReleased
+pub mod DemandFor
+pub mod ButtonsAlone
 -- No theorem is empty.
 pub mod Instances

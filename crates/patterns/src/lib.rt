@@ -1,1 +1,1 @@
-// The theory of idle instants, of the quick test and of the distance test.
+// The theory of idle instants, of the quick test, of the distance test and of tasks that come when they like.

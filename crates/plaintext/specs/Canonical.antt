@@ -10,12 +10,13 @@ use borrow.Author.Tests.{ne-eqb, le-leb, lt-ltb, lt-leb}
 use lib.Dec.{lit≤, lit<}
 use lib.ListN.{length, getD, length-append}
 use lib.Seq.{append-snoc}
+use Rattle.values.specs.declared.Sort.{Sort}
 use Rattle.values.specs.declared.Task.{Task}
 use Rattle.values.specs.declared.Line.{Line}
 use Rattle.model.specs.Notation.{text, decimal}
 use Rattle.model.specs.Limits.{taskLimit, wordLimit, budgetLimit}
 use Rattle.model.specs.TableFile.{refuseFile, admit}
-use Rattle.model.specs.PlainText.{isLineFeed, isHash, isGap, isDigit, split, filled, linesOf, contentOf, wordsOf, allDigits, valueAfter, value, numberFault, numbersFault, same, budgetSaid, budgetLine, taskLine, lineOf, readLines, textForm, taskTexts, textOf}
+use Rattle.model.specs.PlainText.{isLineFeed, isHash, isGap, isDigit, split, filled, linesOf, contentOf, wordsOf, allDigits, valueAfter, value, numberFault, numbersFault, same, budgetSaid, budgetLine, taskLine, lineOf, readLines, textForm, sortText, taskTexts, textOf}
 use Rattle.tablefile.specs.Written.{AllFit, Fits32}
 use Rattle.text.specs.Decimal.{one-digit, last-digit}
 use Rattle.plaintext.specs.Words.{kept}
@@ -162,6 +163,10 @@ task-name : All InWord (text "task")
 unfolding text All
 task-name = (lit≤ tt, (lit≤ tt, (lit≤ tt, (lit≤ tt, tt))))
 
+button-name : All InWord (text "button")
+unfolding text All
+button-name = (lit≤ tt, (lit≤ tt, (lit≤ tt, (lit≤ tt, (lit≤ tt, (lit≤ tt, tt))))))
+
 and-blank : (l : List ℕ) → All InLine l → All InLine (l ++ text " ")
 unfolding text All
 and-blank l c = all-append InLine l (text " ") c ((lit≤ tt, omega arith), tt)
@@ -188,39 +193,66 @@ module _ (b : ℕ) where
   unfolding lineOf budgetLine numbersFault same text
   budget-said count h = rw (content-whole budgetContent budget-clear, budget-words, no-fault budgetLimit b h, means b .back)
 
--- The words of a task's line, and what they say.
+-- A number and the words behind it.
+number-then : (n : ℕ) (rest : List ℕ) (ws : List (List ℕ)) → wordsOf rest ≡ ws → wordsOf (decimal n ++ 32 ∷ rest) ≡ decimal n ∷ ws
+number-then n rest ws e = word-then (decimal n) rest (number-in-word n) (means n .some) ∙ ap (λ (l : List (List ℕ)). decimal n ∷ l) e
+
+-- The words of a task's line, of either sort, and what they say.
+module _ (c d p : ℕ) where
+  abbrev sorted : Sort → Task
+  sorted q = record { sort = q; cost = c; deadline = d; period = p }
+
+  abbrev sortContent : Sort → List ℕ
+  sortContent q = sortText q ++ decimal c ++ text " " ++ decimal d ++ text " " ++ decimal p
+
+  name-clear : (q : Sort) → All InLine (sortText q)
+  unfolding text
+  name-clear (Sort.Periodic o) = and-blank (text "task " ++ decimal o) (and-number (text "task ") o (and-blank (text "task") (word-in-line (text "task") task-name)))
+  name-clear Sort.Button = and-blank (text "button") (word-in-line (text "button") button-name)
+
+  sort-clear : (q : Sort) → All InLine (sortContent q)
+  sort-clear q =
+      let cost = and-number (sortText q) c (name-clear q) in
+      let deadline = and-number (sortText q ++ decimal c ++ text " ") d (and-blank (sortText q ++ decimal c) cost) in
+      and-number (sortText q ++ decimal c ++ text " " ++ decimal d ++ text " ") p (and-blank (sortText q ++ decimal c ++ text " " ++ decimal d) deadline)
+
+  abbrev numbers : List ℕ
+  numbers = decimal c ++ 32 ∷ (decimal d ++ 32 ∷ decimal p)
+
+  number-words : wordsOf numbers ≡ decimal c ∷ decimal d ∷ decimal p ∷ []
+  number-words = number-then c _ _ (number-then d _ _ (last-word (decimal p) (number-in-word p) (means p .some)))
+
+  abbrev nameWords : Sort → List (List ℕ)
+  nameWords (Sort.Periodic o) = text "task" ∷ decimal o ∷ []
+  nameWords Sort.Button = text "button" ∷ []
+
+  sort-words : (q : Sort) → wordsOf (sortContent q) ≡ nameWords q ++ (decimal c ∷ decimal d ∷ decimal p ∷ [])
+  unfolding text
+  sort-words (Sort.Periodic o) =
+      let grouped : sortContent (Sort.Periodic o) ≡ text "task" ++ 32 ∷ (decimal o ++ 32 ∷ numbers) = simp append-assoc in
+      ap (λ (l : List ℕ). wordsOf l) grouped
+      ∙ word-then (text "task") _ task-name (lit< tt)
+      ∙ ap (λ (ws : List (List ℕ)). text "task" ∷ ws) (number-then o _ _ number-words)
+  sort-words Sort.Button =
+      let grouped : sortContent Sort.Button ≡ text "button" ++ 32 ∷ numbers = simp append-assoc in
+      ap (λ (l : List ℕ). wordsOf l) grouped ∙ word-then (text "button") _ button-name (lit< tt) ∙ ap (λ (ws : List (List ℕ)). text "button" ∷ ws) number-words
+
+  sort-said : (q : Sort) (count : ℕ) → count < taskLimit → Fits32 (sorted q) → lineOf true count (wordsOf (contentOf (sortContent q))) ≡ Line.OneTask (sorted q)
+  unfolding lineOf taskLine numbersFault same text
+  sort-said (Sort.Periodic o) count room (a, b, e, t) =
+      rw (content-whole (sortContent (Sort.Periodic o)) (sort-clear (Sort.Periodic o)), sort-words (Sort.Periodic o), lt-leb taskLimit count room, no-fault wordLimit o a, no-fault wordLimit c b, no-fault wordLimit d e, no-fault wordLimit p t, means o .back, means c .back, means d .back, means p .back)
+  sort-said Sort.Button count room (a, b, e, t) =
+      rw (content-whole (sortContent Sort.Button) (sort-clear Sort.Button), sort-words Sort.Button, lt-leb taskLimit count room, no-fault wordLimit c b, no-fault wordLimit d e, no-fault wordLimit p t, means c .back, means d .back, means p .back)
+
 module _ (k : Task) where
   abbrev taskContent : List ℕ
-  taskContent = text "task " ++ decimal (k .offset) ++ text " " ++ decimal (k .cost) ++ text " " ++ decimal (k .deadline) ++ text " " ++ decimal (k .period)
+  taskContent = sortContent (k .cost) (k .deadline) (k .period) (k .sort)
 
   task-clear : All InLine taskContent
-  unfolding text
-  task-clear =
-      let offset = and-number (text "task ") (k .offset) (and-blank (text "task") (word-in-line (text "task") task-name)) in
-      let cost = and-number (text "task " ++ decimal (k .offset) ++ text " ") (k .cost) (and-blank (text "task " ++ decimal (k .offset)) offset) in
-      let deadline = and-number (text "task " ++ decimal (k .offset) ++ text " " ++ decimal (k .cost) ++ text " ") (k .deadline) (and-blank (text "task " ++ decimal (k .offset) ++ text " " ++ decimal (k .cost)) cost) in
-      and-number (text "task " ++ decimal (k .offset) ++ text " " ++ decimal (k .cost) ++ text " " ++ decimal (k .deadline) ++ text " ") (k .period) (and-blank (text "task " ++ decimal (k .offset) ++ text " " ++ decimal (k .cost) ++ text " " ++ decimal (k .deadline)) deadline)
-
-  number-then : (n : ℕ) (rest : List ℕ) (ws : List (List ℕ)) → wordsOf rest ≡ ws → wordsOf (decimal n ++ 32 ∷ rest) ≡ decimal n ∷ ws
-  number-then n rest ws e = word-then (decimal n) rest (number-in-word n) (means n .some) ∙ ap (λ (l : List (List ℕ)). decimal n ∷ l) e
-
-  regrouped : taskContent ≡ text "task" ++ 32 ∷ (decimal (k .offset) ++ 32 ∷ (decimal (k .cost) ++ 32 ∷ (decimal (k .deadline) ++ 32 ∷ decimal (k .period))))
-  unfolding text
-  regrouped = simp append-assoc
-
-  task-words : wordsOf taskContent ≡ text "task" ∷ decimal (k .offset) ∷ decimal (k .cost) ∷ decimal (k .deadline) ∷ decimal (k .period) ∷ []
-  unfolding text
-  task-words =
-      let period = last-word (decimal (k .period)) (number-in-word (k .period)) (means (k .period) .some) in
-      let numbers = number-then (k .offset) _ _ (number-then (k .cost) _ _ (number-then (k .deadline) _ _ period)) in
-      ap (λ (l : List ℕ). wordsOf l) regrouped
-      ∙ word-then (text "task") _ task-name (lit< tt)
-      ∙ ap (λ (ws : List (List ℕ)). text "task" ∷ ws) numbers
+  task-clear = sort-clear (k .cost) (k .deadline) (k .period) (k .sort)
 
   task-said : (count : ℕ) → count < taskLimit → Fits32 k → lineOf true count (wordsOf (contentOf taskContent)) ≡ Line.OneTask k
-  unfolding lineOf taskLine numbersFault same text
-  task-said count room (o, c, d, t) =
-      rw (content-whole taskContent task-clear, task-words, lt-leb taskLimit count room, no-fault wordLimit (k .offset) o, no-fault wordLimit (k .cost) c, no-fault wordLimit (k .deadline) d, no-fault wordLimit (k .period) t, means (k .offset) .back, means (k .cost) .back, means (k .deadline) .back, means (k .period) .back)
+  task-said count room fits = sort-said (k .cost) (k .deadline) (k .period) (k .sort) count room fits
 
 -- ---- The whole text
 

@@ -10,6 +10,7 @@ use borrow.Author.Tests.{eq-eqb, ne-eqb, lt-leb, leb-false}
 use lib.Dec.{leb, eqb}
 use lib.ListN.{length, getD, take, drop}
 use lib.Seq.{length-take-le, take-take, take-all}
+use Rattle.values.specs.declared.Sort.{Sort}
 use Rattle.values.specs.declared.Task.{Task}
 use Rattle.values.specs.declared.Table.{Table}
 use Rattle.values.specs.declared.Line.{Line}
@@ -17,7 +18,7 @@ use Rattle.values.specs.declared.Admission.{Admission}
 use Rattle.model.specs.Limits.{taskLimit, wordLimit, budgetLimit}
 use Rattle.model.specs.Notation.{text}
 use Rattle.model.specs.TableFile.{tableOf, refuseFile}
-use Rattle.model.specs.PlainText.{isLineFeed, isHash, split, linesOf, withoutReturn, contentOf, wordsOf, numbersFault, number, same, unless, budgetLine, taskIn, taskLine, lineOf, afterLine, readLines, textForm}
+use Rattle.model.specs.PlainText.{isLineFeed, isHash, split, linesOf, withoutReturn, contentOf, wordsOf, numbersFault, number, same, unless, budgetLine, taskIn, buttonIn, taskLine, lineOf, afterLine, readLines, textForm}
 use Rattle.tablefile.specs.Built.{withTask, stored}
 use Rattle.plaintext.specs.Marks.{lengthTo, length-to-le}
 use Rattle.plaintext.specs.Pieces.{split-last, split-more, first-piece}
@@ -61,35 +62,67 @@ pub second-budget : (ws : List (List ℕ)) → Line.Fault 65 ≡ budgetLine true
 unfolding budgetLine
 second-budget ws = refl
 
-module _ {ws : List (List ℕ)} {f : ℕ} {vs : List ℕ} (count : ℕ) (room : count < taskLimit) (r : NumbersRead wordLimit 4 ws f vs) where
-  pub task-fault : f ≢ 0 → Line.Fault f ≡ taskLine true count ws
-  unfolding taskLine
-  task-fault h = rw (lt-leb taskLimit count room, ← r .fault-is) (sym (said-fault f _ h))
+-- The numbers of a task's line by its sort, and the task of these numbers and of these words.
+abbrev pub numbersDue : Bool → ℕ
+numbersDue button = cond button 3 4
 
-  pub task-good : f ≡ 0 → Line.OneTask (record { offset = getD vs 0 0; cost = getD vs 1 0; deadline = getD vs 2 0; period = getD vs 3 0 }) ≡ taskLine true count ws
-  unfolding taskLine
-  task-good z = rw (lt-leb taskLimit count room, ← r .fault-is, z, r .values z 0 (omega arith), r .values z 1 (omega arith), r .values z 2 (omega arith), r .values z 3 (omega arith))
+abbrev pub taskFrom : Bool → List ℕ → Task
+taskFrom true vs = record { sort = Sort.Button; cost = getD vs 0 0; deadline = getD vs 1 0; period = getD vs 2 0 }
+taskFrom false vs = record { sort = Sort.Periodic (getD vs 0 0); cost = getD vs 1 0; deadline = getD vs 2 0; period = getD vs 3 0 }
+
+abbrev pub wordTask : Bool → List (List ℕ) → Task
+wordTask true ws = buttonIn ws
+wordTask false ws = taskIn ws
+
+abbrev pub sortLine : Bool → Bool → ℕ → List (List ℕ) → Line
+sortLine button given count ws = taskLine (numbersDue button) (wordTask button ws) given count ws
+
+-- The numbers of such a line fit their words.
+abbrev pub WordsFit : Bool → List ℕ → Type 0
+WordsFit button vs = (i : ℕ) → i < numbersDue button → getD vs i 0 < wordLimit
+
+pub due-le : (button : Bool) → numbersDue button ≤ 4
+due-le true = omega arith
+due-le false = omega arith
+
+module _ {ws : List (List ℕ)} {f : ℕ} {vs : List ℕ} where
+  task-numbers : (button : Bool) → NumbersRead wordLimit (numbersDue button) ws f vs → f ≡ 0 → taskFrom button vs ≡ wordTask button ws
+  task-numbers true r z = rw (r .values z 0 (omega arith), r .values z 1 (omega arith), r .values z 2 (omega arith))
+  task-numbers false r z = rw (r .values z 0 (omega arith), r .values z 1 (omega arith), r .values z 2 (omega arith), r .values z 3 (omega arith))
+
+  module _ (button : Bool) (count : ℕ) (room : count < taskLimit) (r : NumbersRead wordLimit (numbersDue button) ws f vs) where
+    pub task-fault : f ≢ 0 → Line.Fault f ≡ sortLine button true count ws
+    unfolding taskLine
+    task-fault h = rw (lt-leb taskLimit count room, ← r .fault-is) (sym (said-fault f _ h))
+
+    pub task-good : {k : Task} → f ≡ 0 → k ≡ taskFrom button vs → Line.OneTask k ≡ sortLine button true count ws
+    unfolding taskLine
+    task-good z e = rw (lt-leb taskLimit count room, ← r .fault-is, z) (ap Line.OneTask (e ∙ task-numbers button r z))
 
 -- A line that says a task found room for it.
 room-for-task : (given : Bool) (count : ℕ) (ws : List (List ℕ)) (k : Task) → lineOf given count ws ≡ Line.OneTask k → count < taskLimit
 unfolding lineOf budgetLine taskLine
 room-for-task given count [] k e = let z : _≡_ {A = ℕ} 0 1 = cc in absurd (omega arith)
 room-for-task given count (w ∷ ws) k e =
-    go (same w (text "budget")) (same w (text "task")) given (leb taskLimit count) (eqb (number ws 0) 0)
-    (numbersFault budgetLimit 1 ws) (numbersFault wordLimit 4 ws) refl e
+    go (same w (text "budget")) (same w (text "task")) (same w (text "button")) given (eqb (number ws 0) 0) (numbersFault budgetLimit 1 ws) e
   where
-    go : (budget task g full nothing : Bool) (f h : ℕ) → leb taskLimit count ≡ full
+    taken : (n : ℕ) (j : Task) (g full : Bool) → leb taskLimit count ≡ full
+        → cond (not g) (Line.Fault 64) (cond full (Line.Fault 66) (unless (numbersFault wordLimit n ws) (Line.OneTask j))) ≡ Line.OneTask k → count < taskLimit
+    taken n j false full q e = let z : _≡_ {A = ℕ} 0 1 = cc in absurd (omega arith)
+    taken n j true true q e = let z : _≡_ {A = ℕ} 0 1 = cc in absurd (omega arith)
+    taken n j true false q e = leb-false taskLimit count q
+
+    go : (budget task button g nothing : Bool) (f : ℕ)
         → cond budget (cond g (Line.Fault 65) (unless f (cond nothing (Line.Fault 27) (Line.Budget (number ws 0)))))
-        (cond task (cond (not g) (Line.Fault 64) (cond full (Line.Fault 66) (unless h (Line.OneTask (taskIn ws))))) (Line.Fault 60)) ≡ Line.OneTask k
+        (cond task (taskLine 4 (taskIn ws) given count ws) (cond button (taskLine 3 (buttonIn ws) given count ws) (Line.Fault 60))) ≡ Line.OneTask k
         → count < taskLimit
-    go true task true full nothing f h q e = let z : _≡_ {A = ℕ} 0 1 = cc in absurd (omega arith)
-    go true task false full true zero h q e = let z : _≡_ {A = ℕ} 0 1 = cc in absurd (omega arith)
-    go true task false full false zero h q e = let z : _≡_ {A = ℕ} 0 1 = cc in absurd (omega arith)
-    go true task false full nothing (suc f) h q e = let z : _≡_ {A = ℕ} 0 1 = cc in absurd (omega arith)
-    go false true false full nothing f h q e = let z : _≡_ {A = ℕ} 0 1 = cc in absurd (omega arith)
-    go false true true true nothing f h q e = let z : _≡_ {A = ℕ} 0 1 = cc in absurd (omega arith)
-    go false true true false nothing f h q e = leb-false taskLimit count q
-    go false false g full nothing f h q e = let z : _≡_ {A = ℕ} 0 1 = cc in absurd (omega arith)
+    go true task button true nothing f e = let z : _≡_ {A = ℕ} 0 1 = cc in absurd (omega arith)
+    go true task button false true zero e = let z : _≡_ {A = ℕ} 0 1 = cc in absurd (omega arith)
+    go true task button false false zero e = let z : _≡_ {A = ℕ} 0 1 = cc in absurd (omega arith)
+    go true task button false nothing (suc f) e = let z : _≡_ {A = ℕ} 0 1 = cc in absurd (omega arith)
+    go false true button g nothing f e = taken 4 (taskIn ws) given (leb taskLimit count) refl e
+    go false false true g nothing f e = taken 3 (buttonIn ws) given (leb taskLimit count) refl e
+    go false false false g nothing f e = let z : _≡_ {A = ℕ} 0 1 = cc in absurd (omega arith)
 
 -- Up to the lines that are left, reading on makes the form of the text; `line` counts the lines before them, or is 65,535.
 pub record Reached (s : List ℕ) (given : Bool) (b : ℕ) (t : Table) (line : ℕ) (ls : List (List ℕ)) : Type 0 where

@@ -12,7 +12,7 @@ use Rattle.values.specs.declared.Judgement.{Judgement}
 use Rattle.values.specs.declared.Admission.{Admission}
 use Rattle.values.specs.declared.Writing.{Writing}
 use Rattle.model.specs.Limits.{budgetLimit}
-use Rattle.model.specs.Tasks.{judged}
+use Rattle.model.specs.Tasks.{judgedMixed}
 use Rattle.model.specs.TableFile.{admit, fileOf, loadedFrom}
 use Rattle.model.specs.Writer.{Filled, fitted, tasksOf, writtenBy, fileWritten}
 use Rattle.model.specs.PlainText.{textLoaded, textOf, textWritten, fromText, toText}
@@ -21,7 +21,7 @@ use Rattle.writer.specs.RoundTrip.{tasks-back, few-and-fit, tasks-well-formed, 
 use Rattle.plaintext.specs.Canonical.{text-read}
 
 -- The text of a well-formed table and a budget is loaded as this budget and these tasks.
-pub text-loads : (t : Table) (m : Measure) (b : ℕ) → 0 < b → b < budgetLimit → judged t ≡ Judgement.WellFormed m
+pub text-loads : (t : Table) (m : Measure) (b : ℕ) → 0 < b → b < budgetLimit → judgedMixed t ≡ Judgement.WellFormed m
     → textLoaded (textOf b (tasksOf t)) ≡ admit b (tasksOf t)
 unfolding textLoaded
 text-loads t m b some limit well =
@@ -32,15 +32,15 @@ text-loads t m b some limit well =
 pub written-text-loads : (t : Table) (b : ℕ) (buffer : List ℕ) (n : ℕ) → b < budgetLimit → textWritten t b buffer .said ≡ Writing.Bytes n
     → textLoaded (take n (textWritten t b buffer .buffer)) ≡ admit b (tasksOf t)
 unfolding textWritten
-written-text-loads t b buffer n limit = go (judged t) refl
+written-text-loads t b buffer n limit = go (judgedMixed t) refl
   where
-    go : (j : Judgement) → judged t ≡ j → writtenBy b (textOf b (tasksOf t)) buffer j .said ≡ Writing.Bytes n → textLoaded (take n (writtenBy b (textOf b (tasksOf t)) buffer j .buffer)) ≡ admit b (tasksOf t)
+    go : (j : Judgement) → judgedMixed t ≡ j → writtenBy b (textOf b (tasksOf t)) buffer j .said ≡ Writing.Bytes n → textLoaded (take n (writtenBy b (textOf b (tasksOf t)) buffer j .buffer)) ≡ admit b (tasksOf t)
     go (Judgement.Refused r) well e = let z : _≡_ {A = ℕ} 0 1 = cc in absurd (omega arith)
     go (Judgement.WellFormed m) well e =
         let (some, front) = budgeted-front b (textOf b (tasksOf t)) buffer n e in
         rw front (text-loads t m b some limit well)
 
-module _ (t : Table) (m : Measure) (b : ℕ) (buffer : List ℕ) (some : 0 < b) (limit : b < budgetLimit) (well : judged t ≡ Judgement.WellFormed m) where
+module _ (t : Table) (m : Measure) (b : ℕ) (buffer : List ℕ) (some : 0 < b) (limit : b < budgetLimit) (well : judgedMixed t ≡ Judgement.WellFormed m) where
   -- From the text of a table to its file, and from its file to its text.
   pub text-to-file : fromText (textOf b (tasksOf t)) buffer ≡ fitted (fileOf b (tasksOf t)) buffer
   unfolding fileWritten

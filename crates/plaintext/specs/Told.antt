@@ -19,10 +19,10 @@ use Rattle.values.specs.declared.Loaded.{Loaded}
 use Rattle.model.specs.Notation.{text}
 use Rattle.model.specs.Limits.{taskLimit, wordLimit, budgetLimit, longestFile, longestText}
 use Rattle.model.specs.Values.{refusalSaid, writingSaid, admissionSaid}
-use Rattle.model.specs.Tasks.{noTask, judged}
+use Rattle.model.specs.Tasks.{noTask, judgedMixed}
 use Rattle.model.specs.TableFile.{fileOf, judgedTable, judgedForm, formOf, loadedFrom}
 use Rattle.model.specs.Writer.{Filled, tasksOf, writtenBy, fileWritten, fillTold}
-use Rattle.model.specs.PlainText.{same, numbersFault, number, unless, budgetSaid, budgetLine, taskIn, taskLine, lineOf, afterLine, readLines, linesOf, contentOf, wordsOf, textForm, formWritten, taskText, taskTexts, textOf, textWritten, toText, fromTextExported, toTextExported}
+use Rattle.model.specs.PlainText.{same, numbersFault, number, unless, budgetSaid, budgetLine, taskIn, buttonIn, taskLine, lineOf, afterLine, readLines, linesOf, contentOf, wordsOf, textForm, formWritten, taskText, taskTexts, textOf, textWritten, toText, fromTextExported, toTextExported}
 use Rattle.wellformed.specs.Ranges.{InRange, Ranged, holds-all}
 use Rattle.tablefile.specs.Refused.{AdmissionTellable, form-tellable}
 use Rattle.tablefile.specs.Written.{read-written}
@@ -52,9 +52,11 @@ unfolding lineOf budgetLine taskLine
 line-faulty given count [] = tt
 line-faulty given count (w ∷ ws) =
     let budget = unless-faulty (numbersFault budgetLimit 1 ws) (budgetSaid (number ws 0)) (either (eqb (number ws 0) 0) _ _ (lit< tt) tt) in
-    let task = unless-faulty (numbersFault wordLimit 4 ws) (Line.OneTask (taskIn ws)) tt in
     either (same w (text "budget")) _ _ (either given _ _ (lit< tt) budget)
-    (either (same w (text "task")) _ _ (either (not given) _ _ (lit< tt) (either (leb taskLimit count) _ _ (lit< tt) task)) (lit< tt))
+    (either (same w (text "task")) _ _ (task 4 (taskIn ws)) (either (same w (text "button")) _ _ (task 3 (buttonIn ws)) (lit< tt)))
+  where
+    task : (n : ℕ) (k : Task) → Faulty (taskLine n k given count ws)
+    task n k = either (not given) _ _ (lit< tt) (either (leb taskLimit count) _ _ (lit< tt) (unless-faulty (numbersFault wordLimit n ws) (Line.OneTask k) tt))
 
 -- What a line leads to is tellable if what follows it is.
 after-tellable : (go : Bool → ℕ → List Task → Loaded) (given : Bool) (b : ℕ) (ks : List Task) (n : ℕ) (l : Line) → Faulty l
@@ -118,10 +120,10 @@ pub refused-to-text : (file buffer : List ℕ) (r : Refusal) → loadedFrom file
 unfolding loadedFrom textWritten
 refused-to-text file buffer r = go (formOf file) (formOf file .admission) refl
   where
-    go : (l : Loaded) (a : Admission) → l .admission ≡ a → judgedForm l a .admission ≡ Admission.Refused r
+    go : (l : Loaded) (a : Admission) → l .admission ≡ a → judgedForm judgedMixed l a .admission ≡ Admission.Refused r
         → let f = formWritten buffer (textWritten (l .table) (l .budget) buffer) a in (writingSaid (f .said) ≡ refusalSaid r) × (f .buffer ≡ buffer)
     go l (Admission.Refused q) e h = (ap admissionSaid (sym e ∙ h), refl)
-    go l Admission.Admitted e h = by-table (judged (l .table)) h
+    go l Admission.Admitted e h = by-table (judgedMixed (l .table)) h
       where
         by-table : (j : Judgement) → judgedTable l j .admission ≡ Admission.Refused r → let f = writtenBy (l .budget) (textOf (l .budget) (tasksOf (l .table))) buffer j in (writingSaid (f .said) ≡ refusalSaid r) × (f .buffer ≡ buffer)
         by-table (Judgement.Refused q) h = (ap admissionSaid h, refl)

@@ -2,10 +2,12 @@
 ghost use mathlib.Core.Path.{_≡_};
 ghost use mathlib.Core.Bool.{true, cond};
 ghost use Prim.Native.Nat.{suc, _+_, _-_, _≤_, _<_, min};
+ghost use mathlib.Core.List.{_++_};
 ghost use lib.ListN.{length, take};
+ghost use Rattle.model.specs.Notation.{decimal};
 ghost use Rattle.model.specs.Limits.{taskLimit, longestText};
 ghost use Rattle.model.specs.TableFile.{refuseFile};
-ghost use Rattle.model.specs.PlainText.{isGap, isDigit, withoutReturn, contentOf, wordsOf, allDigits, numbersFault, same, budgetLine, taskLine, lineOf, textForm, textLoaded, taskText, taskTexts, textOf, textWritten, fromText, toText};
+ghost use Rattle.model.specs.PlainText.{isGap, isDigit, withoutReturn, contentOf, wordsOf, allDigits, numbersFault, same, budgetLine, lineOf, textForm, textLoaded, sortText, taskText, taskTexts, textOf, textWritten, fromText, toText};
 ghost use Rattle.model.specs.Writer.{tasksOf, fitted, budgeted};
 ghost use Rattle.counting.specs.Put.{Put};
 ghost use Rattle.wellformed.specs.Ranges.{Ranged};
@@ -14,12 +16,14 @@ ghost use Rattle.writer.specs.Records.{filled};
 ghost use Rattle.plaintext.specs.Marks.{isMark, lengthTo};
 ghost use Rattle.plaintext.specs.Words.{NextWord};
 ghost use Rattle.plaintext.specs.Numbers.{NumberRead, NumbersRead};
-ghost use Rattle.plaintext.specs.Texts.{budgetLineBytes, taskRoom, aside};
+ghost use Rattle.plaintext.specs.Lines.{numbersDue, taskFrom, WordsFit, sortLine};
+ghost use Rattle.plaintext.specs.Texts.{budgetLineBytes, nameRoom, taskRoom, aside};
 use values::Admission;
 use values::Judgement;
 use values::Line;
 use values::Loaded;
 use values::Refusal;
+use values::Sort;
 use values::TASK_LIMIT;
 use values::Table;
 use values::Task;
@@ -30,6 +34,8 @@ const RETURN: u8 = 13;
 const BUDGET_NUMBERS: usize = 1;
 
 const TASK_NUMBERS: usize = 4;
+
+const BUTTON_NUMBERS: usize = 3;
 
 const LARGEST_NUMBER: u64 = 4_294_967_295;
 
@@ -245,8 +251,38 @@ fn budget_line(rest: &[u8], given: bool) -> Line
     Line::Budget(budget)
 }
 
-fn task_line(rest: &[u8], given: bool, count: usize) -> Line
-    ensures { λ r. ⌜ r ≡ taskLine given count (wordsOf (now (rest .entry))) ⌝ }
+// A button has no offset.
+fn numbers_due(button: bool) -> usize
+    ensures { λ r. ⌜ r ≡ numbersDue button ⌝ }
+{
+    if button {
+        return BUTTON_NUMBERS;
+    }
+    TASK_NUMBERS
+}
+
+fn task_of(button: bool, values: [u64; TASK_NUMBERS]) -> Task
+    requires { ⌜ WordsFit button values ⌝ }
+    ensures { λ r. ⌜ r ≡ taskFrom button values ⌝ }
+{
+    if button {
+        return Task {
+            sort: Sort::Button,
+            cost: values[0] as u32,
+            deadline: values[1] as u32,
+            period: values[2] as u32,
+        };
+    }
+    Task {
+        sort: Sort::Periodic(values[0] as u32),
+        cost: values[1] as u32,
+        deadline: values[2] as u32,
+        period: values[3] as u32,
+    }
+}
+
+fn task_line(button: bool, rest: &[u8], given: bool, count: usize) -> Line
+    ensures { λ r. ⌜ r ≡ sortLine button given count (wordsOf (now (rest .entry))) ⌝ }
 {
     if !given {
         return Line::Fault(NO_BUDGET);
@@ -254,17 +290,12 @@ fn task_line(rest: &[u8], given: bool, count: usize) -> Line
     if TASK_LIMIT <= count {
         return Line::Fault(ONE_TASK_TOO_MANY);
     }
-    let read = numbers_in(rest, TASK_NUMBERS, LARGEST_NUMBER);
+    let read = numbers_in(rest, numbers_due(button), LARGEST_NUMBER);
     if read.fault != 0 {
         return Line::Fault(read.fault);
     }
     let values = read.values;
-    Line::OneTask(Task {
-        offset: values[0] as u32,
-        cost: values[1] as u32,
-        deadline: values[2] as u32,
-        period: values[3] as u32,
-    })
+    Line::OneTask(task_of(button, values))
 }
 
 fn line_of(line: &[u8], given: bool, count: usize) -> Line
@@ -282,7 +313,10 @@ fn line_of(line: &[u8], given: bool, count: usize) -> Line
         return budget_line(rest, given);
     }
     if same(name, b"task") {
-        return task_line(rest, given, count);
+        return task_line(false, rest, given, count);
+    }
+    if same(name, b"button") {
+        return task_line(true, rest, given, count);
     }
     Line::Fault(UNKNOWN_WORD)
 }
@@ -396,7 +430,7 @@ pub fn load(text: &[u8]) -> Loaded
     let admission = form.admission;
     match admission {
         Admission::Refused(_) => form,
-        Admission::Admitted => match table::judge(form.table) {
+        Admission::Admitted => match table::judge_mixed(form.table) {
             Judgement::Refused(why) => tablefile::refused_file(why),
             Judgement::WellFormed(_) => form,
         },
@@ -407,7 +441,7 @@ pub fn load(text: &[u8]) -> Loaded
 pub fn write(table: Table, budget: u64, buffer: &mut [u8]) -> Writing
     ensures { λ r. ⌜ filled r (now (buffer .exit)) ≡ textWritten table budget (now (buffer .entry)) ⌝ }
 {
-    match table::judge(table) {
+    match table::judge_mixed(table) {
         Judgement::Refused(why) => Writing::Refused(why),
         Judgement::WellFormed(_) => write_text(table, budget, buffer),
     }
@@ -465,10 +499,25 @@ fn put_task(buffer: &mut [u8], at: usize, task: Task) -> usize
     requires { ⌜ at + taskRoom ≤ length (now buffer) ⌝ }
     ensures { λ r. ⌜ Put (taskText task) at (now (buffer .entry)) (now (buffer .exit)) r ⌝ }
 {
-    let at = text::put_number(buffer, at, b"task ", task.offset as u64);
-    let at = text::put_number(buffer, at, b" ", task.cost as u64);
+    let sort = task.sort;
+    let at = put_name(buffer, at, sort, task.cost);
     let at = text::put_number(buffer, at, b" ", task.deadline as u64);
     text::put_line(buffer, at, b" ", task.period as u64)
+}
+
+// Up to the cost: a button has no offset before it.
+fn put_name(buffer: &mut [u8], at: usize, sort: Sort, cost: u32) -> usize
+    requires { ⌜ at + nameRoom ≤ length (now buffer) ⌝ }
+    ensures { λ r. ⌜ Put (sortText sort ++ decimal cost) at (now (buffer .entry)) (now (buffer .exit)) r ⌝ }
+    ensures { λ r. ⌜ r ≤ at + nameRoom ⌝ }
+{
+    match sort {
+        Sort::Periodic(offset) => {
+            let at = text::put_number(buffer, at, b"task ", offset as u64);
+            text::put_number(buffer, at, b" ", cost as u64)
+        }
+        Sort::Button => text::put_number(buffer, at, b"button ", cost as u64),
+    }
 }
 
 // The file of a text, in a lent buffer.

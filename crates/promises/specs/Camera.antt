@@ -18,14 +18,14 @@ use Rattle.values.specs.declared.Given.{Given}
 use Rattle.model.specs.Limits.{taskLimit, slotCountLimit}
 use Rattle.model.specs.Values.{refusal}
 use Rattle.model.specs.Notation.{sum, largest, count, first}
-use Rattle.model.specs.Tasks.{taskFault, firstFaulty, round, load, horizon, judged}
-use Rattle.model.specs.TableFile.{eight, readFrom, formOf, loadedFrom}
+use Rattle.model.specs.Tasks.{taskFault, firstFaulty, firstButton, round, load, horizon, judgedMixed, judged}
+use Rattle.model.specs.TableFile.{eight, readFrom, formOf, loadedFrom, periodicFrom}
 use Rattle.model.specs.Dispatcher.{admitted, turn, started, stepped}
 use Rattle.model.specs.Report.{Exported, refused}
 use Rattle.model.specs.Examples.{table-g, file-g}
 use Rattle.model.specs.History.{stateAt, ownerAt}
 use Rattle.model.specs.StateBuffer.{countsAt, stateBytes, bufferOf, stateIn, quiet, onFile, startExported, stepExported, handed}
-use Rattle.tablefile.specs.Admitted.{refused-for}
+use Rattle.tablefile.specs.Admitted.{periodic-for}
 use Rattle.statebuffer.specs.Loop as loop
 use Rattle.statebuffer.specs.Told.{start-apart, step-apart}
 
@@ -43,17 +43,17 @@ strange-start-buffer file buffer e = rw (e, onFile)
 pub strange-step-buffer : (file buffer : List ℕ) (done : ℕ) → eqb (length buffer) stateBytes ≡ false → stepExported file buffer done ≡ refused (refusal 50 (min (length buffer) 65535)) buffer
 strange-step-buffer file buffer done e = rw (e, onFile)
 
--- A file that is refused is refused by start and step as it is by the check, and a state as it is by the dispatcher's own step.
-pub refused-camera-start : (file buffer : List ℕ) (r : Refusal) → length buffer ≡ stateBytes → loadedFrom file .admission ≡ Admission.Refused r → startExported file buffer ≡ refused r buffer
+-- A file that is refused, by 11 too, is refused by start and step as it is by the check, and a state as it is by the dispatcher's own step.
+pub refused-camera-start : (file buffer : List ℕ) (r : Refusal) → length buffer ≡ stateBytes → periodicFrom file .admission ≡ Admission.Refused r → startExported file buffer ≡ refused r buffer
 unfolding started
-refused-camera-start file buffer r size h = elim (refused-for file r h) [
+refused-camera-start file buffer r size h = elim (periodic-for file r h) [
   | inl f ↦ rw (eq-eqb (length buffer) stateBytes size, f, onFile)
   | inr (f, j) ↦ rw (eq-eqb (length buffer) stateBytes size, f, onFile, j)
 ]
 
-pub refused-camera-step : (file buffer : List ℕ) (done : ℕ) (r : Refusal) → length buffer ≡ stateBytes → loadedFrom file .admission ≡ Admission.Refused r → stepExported file buffer done ≡ refused r buffer
+pub refused-camera-step : (file buffer : List ℕ) (done : ℕ) (r : Refusal) → length buffer ≡ stateBytes → periodicFrom file .admission ≡ Admission.Refused r → stepExported file buffer done ≡ refused r buffer
 unfolding stepped admitted
-refused-camera-step file buffer done r size h = elim (refused-for file r h) [
+refused-camera-step file buffer done r size h = elim (periodic-for file r h) [
   | inl f ↦ rw (eq-eqb (length buffer) stateBytes size, f, onFile)
   | inr (f, j) ↦ rw (eq-eqb (length buffer) stateBytes size, f, onFile, j)
 ]
@@ -73,7 +73,7 @@ start-or-refusal = start-apart
 pub step-or-refusal : (file buffer : List ℕ) (done : ℕ) → let e = stepExported file buffer done in ((e .number ≤ taskLimit) × ((e .number ≡ taskLimit) ⊎ (e .number < formOf file .table .count))) ⊎ ((r : Refusal) × (e ≡ refused r buffer) × ((0 < r .number) × (r .place < 65536)))
 step-or-refusal = step-apart
 
--- A camera's loop with a well-formed table's file and any done reports: the start returns 0, and step n returns the owner of
+-- A camera's loop with the file of a well-formed table of periodic tasks and any done reports: the start returns 0, and step n returns the owner of
 -- slot n and leaves the next state and what it told, for fewer than 2^64 steps.
 module _ (file : List ℕ) (t : Table) (m : Measure) (formed : formOf file .admission ≡ Admission.Admitted) (held : formOf file .table ≡ t) (well : judged t ≡ Judgement.WellFormed m) (lent : List ℕ) (size : length lent ≡ stateBytes) (done : ℕ → ℕ) where
   abbrev reports : ℕ → Bool
@@ -92,7 +92,7 @@ module _ (file : List ℕ) (t : Table) (m : Measure) (formed : formOf file .admi
 
 -- What is asked of the file is met by table g's.
 g-formed : (formOf file-g .admission ≡ Admission.Admitted) × (formOf file-g .table ≡ table-g) × (judged table-g ≡ Judgement.WellFormed (record { round = 4; load = 4; horizon = 8 }))
-unfolding formOf readFrom judged firstFaulty taskFault first round load horizon largest sum count
+unfolding formOf readFrom judged judgedMixed firstButton firstFaulty taskFault first round load horizon largest sum count
 g-formed = (refl, refl, refl)
 
 pub g-camera : (done : ℕ → ℕ) (n : ℕ) → n < slotCountLimit → (startExported file-g (replicate stateBytes 0) .number ≡ 0) × (stepExported file-g (handed file-g (replicate stateBytes 0) done n) (done n) .number ≡ ownerAt table-g (λ k. not (eqb (done k) 0)) n)

@@ -22,11 +22,11 @@ use Rattle.values.specs.declared.Admission.{Admission}
 use Rattle.values.specs.declared.Given.{Given}
 use Rattle.values.specs.declared.Answer.{Answer}
 use Rattle.values.specs.declared.Loaded.{Loaded}
-use Rattle.model.specs.Limits.{taskLimit, slotCountLimit, sumPlace, slotLimit, roundLimit, reportBytes, budgetLimit, budgetBytes, taskBytes, longestFile}
+use Rattle.model.specs.Limits.{taskLimit, slotCountLimit, sumPlace, slotLimit, roundLimit, reportBytes, budgetLimit, budgetBytes, taskBytes, buttonBytes, longestFile}
 use Rattle.model.specs.Values.{refusal, refusalSaid, judgementSaid, admissionSaid, givenSaid, outcomeSaid}
-use Rattle.model.specs.Tasks.{task, round, measure, judged, load, horizon}
+use Rattle.model.specs.Tasks.{task, isButton, offset, round, measure, judgedMixed, judged, load, horizon}
 use Rattle.model.specs.Verdict.{verdict, brief, Permitted}
-use Rattle.model.specs.TableFile.{budgetKind, eight, admit, fileOf, formOf, loadedFrom}
+use Rattle.model.specs.TableFile.{budgetKind, eight, admit, taskRecord, taskRecords, fileOf, formOf, loadedFrom, periodicFrom}
 use Rattle.model.specs.Dispatcher as model
 use Rattle.model.specs.Dispatcher.{State, slotCount, firstStrange, lastStrange, admitted as stateAdmitted, turn, after, stepAdmitted, started, stepped, isLate, ownerNow}
 use Rattle.dispatch.specs.declared.Dispatcher.{Dispatcher}
@@ -38,7 +38,7 @@ use Rattle.model.specs.Report.{reportOf, Exported, refused, written, outcomeTol
 use Rattle.model.specs.Notation.{count, first, bits}
 use Rattle.wellformed.specs.Ranges.{InRange, Ranged}
 use Rattle.wellformed.specs.Round.{round-pos, period-divides, round-least}
-use Rattle.wellformed.specs.WellFormed.{judged-iff}
+use Rattle.wellformed.specs.WellFormed.{mixed-iff, judged-iff, periodic-iff, refused-both}
 use Rattle.backlog.specs.Unique.{permitted-unique}
 use Rattle.backlog.specs.Computed.{answerOf, computed}
 use Rattle.backlog.specs.Taken.{Belongs, belongs-after, slots-after}
@@ -47,10 +47,11 @@ use Rattle.tablefile.specs.declared.Reading.{Reading}
 use Rattle.tablefile.specs.Reading.{readingAt}
 use Rattle.tablefile.specs.Said.{recordSaid, numbersAt, Has, record-said}
 use Rattle.tablefile.specs.Admitted.{admitted}
+use Rattle.tablefile.specs.Periodic.{periodic-refused, periodic-read}
 use Rattle.tablefile.specs.Longer.{first-form, first-bytes}
 use Rattle.tablefile.specs.Refused.{AdmissionTellable, load-tellable}
 use Rattle.tablefile.specs.Written as tablefile
-use Rattle.tablefile.specs.Written.{AllFit, form-length, written-read, read-written}
+use Rattle.tablefile.specs.Written.{AllFit, form-length, records-le, written-read, read-written}
 use Rattle.report.specs.Permitted.{Fitting, permitted-fits}
 use Rattle.statebuffer.specs.Told.{Apart}
 use Rattle.promises.specs.Demand2.{answer-exactly}
@@ -59,11 +60,17 @@ use Rattle.promises.specs.Demand2.{answer-exactly}
 pub one-judgement : (t : Table) (a b : Judgement) → a ≡ judged t → b ≡ judged t → a ≡ b
 one-judgement t a b e f = e ∙ sym f
 
+pub one-mixed-judgement : (t : Table) (a b : Judgement) → a ≡ judgedMixed t → b ≡ judgedMixed t → a ≡ b
+one-mixed-judgement t a b e f = e ∙ sym f
+
 pub one-form : (file : List ℕ) (a b : Loaded) → a ≡ formOf file → b ≡ formOf file → a ≡ b
 one-form file a b e f = e ∙ sym f
 
 pub one-loading : (file : List ℕ) (a b : Loaded) → a ≡ loadedFrom file → b ≡ loadedFrom file → a ≡ b
 one-loading file a b e f = e ∙ sym f
+
+pub one-periodic-loading : (file : List ℕ) (a b : Loaded) → a ≡ periodicFrom file → b ≡ periodicFrom file → a ≡ b
+one-periodic-loading file a b e f = e ∙ sym f
 
 pub one-start : (t : Table) (a b : Started) → startedOf a ≡ started t → startedOf b ≡ started t → a ≡ b
 one-start t a b e f = one-started a b (e ∙ sym f)
@@ -73,7 +80,7 @@ one-step t d done a b e f = one-stepped a b (e ∙ sym f)
 
 -- A table is well-formed exactly if it has 1 to `taskLimit` tasks, each of them keeps its ranges, and H keeps its limit.
 abbrev pub InRanges : Task → Type 0
-InRanges k = (1 ≤ k .period) × (k .period ≤ slotLimit) × (1 ≤ k .deadline) × (k .deadline ≤ k .period) × (1 ≤ k .cost) × (k .cost ≤ k .deadline) × (k .offset ≤ slotLimit)
+InRanges k = (1 ≤ k .period) × (k .period ≤ slotLimit) × (1 ≤ k .deadline) × (k .deadline ≤ k .period) × (1 ≤ k .cost) × (k .cost ≤ k .deadline) × (offset k ≤ slotLimit)
 
 abbrev pub KeepsRanges : Table → Type 0
 KeepsRanges t = (1 ≤ t .count) × (t .count ≤ taskLimit) × ((i : ℕ) → i < t .count → InRanges (task t i))
@@ -84,17 +91,24 @@ ranged-of t (some, few, each) = record { some = some; few = few; each = λ i l. 
     ranges : {k : Task} → InRanges k → InRange k
     ranges (a, b, c, d, e, f, g) = record { period-pos = a; period-le = b; deadline-pos = c; deadline-le = d; cost-pos = e; cost-le = f; offset-le = g }
 
-pub well-formed-exactly : (t : Table) (m : Measure) → (judged t ≡ Judgement.WellFormed m) ↔ (KeepsRanges t × (round t ≤ roundLimit) × (m ≡ measure t))
-well-formed-exactly t m = (fwd, λ (keeps, h, same). judged-iff t m .1 (ranged-of t keeps, h, same))
+pub well-formed-exactly : (t : Table) (m : Measure) → (judgedMixed t ≡ Judgement.WellFormed m) ↔ (KeepsRanges t × (round t ≤ roundLimit) × (m ≡ measure t))
+well-formed-exactly t m = (fwd, λ (keeps, h, same). mixed-iff t m .1 (ranged-of t keeps, h, same))
   where
-    fwd : judged t ≡ Judgement.WellFormed m → KeepsRanges t × (round t ≤ roundLimit) × (m ≡ measure t)
+    fwd : judgedMixed t ≡ Judgement.WellFormed m → KeepsRanges t × (round t ≤ roundLimit) × (m ≡ measure t)
     fwd e =
-        let (r, h, same) = judged-iff t m .0 e in
+        let (r, h, same) = mixed-iff t m .0 e in
         ((r .some, r .few, λ i l. let k = r .each i l in (k .period-pos, k .period-le, k .deadline-pos, k .deadline-le, k .cost-pos, k .cost-le, k .offset-le)), h, same)
 
--- Its judge then says 0 with H, load and horizon.
+-- Where only periodic tasks are allowed it has no button besides.
+pub periodic-exactly : (t : Table) (m : Measure) → (judged t ≡ Judgement.WellFormed m) ↔ ((judgedMixed t ≡ Judgement.WellFormed m) × ((i : ℕ) → i < t .count → isButton (task t i) ≡ false))
+periodic-exactly = periodic-iff
+
+-- Either judge then says 0 with H, load and horizon.
 pub well-formed-said : (t : Table) (m : Measure) → judged t ≡ Judgement.WellFormed m → judgementSaid (judged t) ≡ 0 ∷ round t ∷ load t ∷ horizon t ∷ []
-well-formed-said t m e = let (r, h, same) = judged-iff t m .0 e in rw (e, same) refl
+well-formed-said t m e = let (r, h, same, none) = judged-iff t m .0 e in rw (e, same) refl
+
+pub well-mixed-said : (t : Table) (m : Measure) → judgedMixed t ≡ Judgement.WellFormed m → judgementSaid (judgedMixed t) ≡ 0 ∷ round t ∷ load t ∷ horizon t ∷ []
+well-mixed-said t m e = let (r, h, same) = mixed-iff t m .0 e in rw (e, same) refl
 
 -- H of a table that keeps its ranges, refused by 7 or not, is the least number above 0 that each period divides.
 pub round-is-least : (t : Table) → KeepsRanges t → (0 < round t) × ((i : ℕ) → i < t .count → task t i .period ∣ round t) × ((x : ℕ) → 0 < x → ((i : ℕ) → i < t .count → task t i .period ∣ x) → round t ≤ x)
@@ -119,6 +133,11 @@ told-some refuse tell l Admission.Admitted = let a = answerOf (l .table) (l .bud
 told-refused : {A : Type 0} (refuse : Refusal → A) (tell : List ℕ → A) (l : Loaded) (x : A) (r : Refusal) (a : Admission) → a ≡ Admission.Refused r → FileTold refuse tell l x a → x ≡ refuse r
 told-refused refuse tell l x r (Admission.Refused w) q e = let s : w ≡ r = cc in e ∙ rw s
 told-refused refuse tell l x r Admission.Admitted q e = let z : _≡_ {A = ℕ} 0 1 = cc in absurd (omega arith)
+
+button-refused : {A : Type 0} (refuse : Refusal → A) (tell : List ℕ → A) (l : Loaded) (x : A) (r : Refusal) (a : Admission) → a ≡ Admission.Admitted → judged (l .table) ≡ Judgement.Refused r → FileTold refuse tell l x a → x ≡ refuse r
+unfolding Permitted
+button-refused refuse tell l x r (Admission.Refused w) q j e = let z : _≡_ {A = ℕ} 0 1 = cc in absurd (omega arith)
+button-refused refuse tell l x r Admission.Admitted q j (a, p, e) = let b = rw j at p in e ∙ rw b
 
 -- Whether a buffer and a file are taken: the buffer is looked at first.
 abbrev taken : List ℕ → List ℕ → Admission
@@ -152,15 +171,15 @@ report-or-refusal file buffer e = told-apart buffer (loadedFrom file) e (taken f
     tellable true q = (omega arith, omega (arith, ltb-true (length buffer) reportBytes q))
     tellable false q = load-tellable file
 
--- It reports on every file that is read, if the buffer is not short.
-pub reported-export : (file buffer : List ℕ) (e : Exported) → ltb (length buffer) reportBytes ≡ false → loadedFrom file .admission ≡ Admission.Admitted → Checked file buffer e → Reported (loadedFrom file) buffer e
-reported-export file buffer e long good = told (taken file buffer) (rw long good)
+-- It reports on every file that is read and has no button, if the buffer is not short.
+pub reported-export : (file buffer : List ℕ) (e : Exported) → ltb (length buffer) reportBytes ≡ false → periodicFrom file .admission ≡ Admission.Admitted → Checked file buffer e → Reported (loadedFrom file) buffer e
+reported-export file buffer e long good = told (taken file buffer) (rw long (periodic-read file good .0))
   where
     l : Loaded
     l = loadedFrom file
 
     tested : (a : Answer) → Permitted (l .table) (l .budget) a → a .outcome ≡ Outcome.Tested (verdict (l .table) (l .budget))
-    tested a p = let (same, (m, well)) = admitted file good in answer-exactly (l .table) m (rw same well) (l .budget) a p .outcome
+    tested a p = let (read, same, (m, well)) = periodic-read file good in answer-exactly (l .table) m well (l .budget) a p .outcome
 
     report : (a : Answer) (v : Verdict) → Permitted (l .table) (l .budget) a → a .outcome ≡ Outcome.Tested v → e ≡ outcomeTold (λ r. refused r buffer) (λ s. written s buffer) (l .table .count) (quickPass (l .table)) a (a .outcome) → Reported l buffer e
     report a v p o q =
@@ -191,7 +210,7 @@ pub whole-file : (file : List ℕ) → (formOf (take (suc longestFile) file) ≡
 whole-file file = (first-form file, first-bytes file)
 
 -- A file is read exactly if its form is good and its table well-formed, and is then as its form has it.
-pub read-exactly : (file : List ℕ) → (loadedFrom file .admission ≡ Admission.Admitted) ↔ ((formOf file .admission ≡ Admission.Admitted) × ((m : Measure) × (judged (formOf file .table) ≡ Judgement.WellFormed m)))
+pub read-exactly : (file : List ℕ) → (loadedFrom file .admission ≡ Admission.Admitted) ↔ ((formOf file .admission ≡ Admission.Admitted) × ((m : Measure) × (judgedMixed (formOf file .table) ≡ Judgement.WellFormed m)))
 unfolding loadedFrom
 read-exactly file = (λ h. let (same, well) = admitted file h in (ap (λ (l : Loaded). l .admission) (sym same) ∙ h, well), λ (good, (m, well)). rw (good, well) refl)
 
@@ -199,7 +218,7 @@ pub read-as-formed : (file : List ℕ) → loadedFrom file .admission ≡ Admiss
 read-as-formed file h = admitted file h .0
 
 -- A file that is read, and a start on a well-formed table, say 0.
-pub read-said : (file : List ℕ) (m : Measure) → formOf file .admission ≡ Admission.Admitted → judged (formOf file .table) ≡ Judgement.WellFormed m → admissionSaid (loadedFrom file .admission) ≡ 0 ∷ []
+pub read-said : (file : List ℕ) (m : Measure) → formOf file .admission ≡ Admission.Admitted → judgedMixed (formOf file .table) ≡ Judgement.WellFormed m → admissionSaid (loadedFrom file .admission) ≡ 0 ∷ []
 read-said file m good well = ap admissionSaid (read-exactly file .1 (good, (m, well)))
 
 pub started-said : (t : Table) (m : Measure) → judged t ≡ Judgement.WellFormed m → admissionSaid (started t .admission) ≡ 0 ∷ []
@@ -224,14 +243,23 @@ pub nothing-read : (file : List ℕ) → getD file 0 0 ≡ budgetKind → budget
 unfolding loadedFrom
 nothing-read file kind long none = rw (tablefile.nothing-read file kind long none) (refl, refl)
 
--- A file whose form is good has the bytes of a budget, of each task and of the end, and so no more than the longest legal file.
+-- A file whose form is good has the bytes of a budget, of each task, by its sort, and of the end, and so no more than the longest legal file.
 pub legal-length : (file : List ℕ) → formOf file .admission ≡ Admission.Admitted
-    → (formOf file .table .count ≤ taskLimit) × (length file ≡ budgetBytes + formOf file .table .count * taskBytes + 1) × (length file ≤ longestFile)
-legal-length file h = let (few, size) = form-length file h in (few, size, omega arith)
+    → (ks : List Task) × (length ks ≤ taskLimit) × (formOf file ≡ admit (formOf file .budget) ks) × (length file ≡ budgetBytes + length (taskRecords ks) + 1) × (length file ≤ longestFile)
+legal-length file h =
+    let (ks, few, same, size) = form-length file h in
+    let whole = tablefile.file-length (formOf file .budget) ks in
+    (ks, few, same, omega arith, omega (arith, records-le ks))
 
--- A refused file leaves the report buffer as it was.
-pub refused-export : (file buffer : List ℕ) (e : Exported) (r : Refusal) → ltb (length buffer) reportBytes ≡ false → loadedFrom file .admission ≡ Admission.Refused r → Checked file buffer e → e ≡ refused r buffer
-refused-export file buffer e r long q = told-refused (λ r. refused r buffer) (λ s. written s buffer) (loadedFrom file) e r (taken file buffer) (rw long q)
+pub record-bytes : (k : Task) → length (taskRecord k) ≡ cond (isButton k) buttonBytes taskBytes
+record-bytes = tablefile.record-length
+
+-- A refused file, or one with a button, leaves the report buffer as it was.
+pub refused-export : (file buffer : List ℕ) (e : Exported) (r : Refusal) → ltb (length buffer) reportBytes ≡ false → periodicFrom file .admission ≡ Admission.Refused r → Checked file buffer e → e ≡ refused r buffer
+refused-export file buffer e r long q checked = elim (periodic-refused file r q) [
+  | inl f ↦ told-refused (λ r. refused r buffer) (λ s. written s buffer) (loadedFrom file) e r (taken file buffer) (rw long f) checked
+  | inr (f, j) ↦ button-refused (λ r. refused r buffer) (λ s. written s buffer) (loadedFrom file) e r (taken file buffer) (rw long f) j checked
+]
 
 -- A short buffer is refused by 30 at its length, before the file is looked at, and stays as it was.
 pub short-buffer : (file buffer : List ℕ) (e : Exported) → ltb (length buffer) reportBytes ≡ true → Checked file buffer e → e ≡ refused (refusal 30 (length buffer)) buffer
@@ -241,7 +269,10 @@ short-buffer file buffer e short = told-refused (λ r. refused r buffer) (λ s. 
 pub refused-table : (t : Table) (r : Refusal) → judged t ≡ Judgement.Refused r → judgementSaid (judged t) ≡ refusalSaid r
 refused-table t r e = rw e refl
 
-pub refused-load : (file : List ℕ) (r : Refusal) → formOf file .admission ≡ Admission.Admitted → judged (formOf file .table) ≡ Judgement.Refused r → admissionSaid (loadedFrom file .admission) ≡ refusalSaid r
+pub refused-mixed-table : (t : Table) (r : Refusal) → judgedMixed t ≡ Judgement.Refused r → (judgementSaid (judgedMixed t) ≡ refusalSaid r) × (judgementSaid (judged t) ≡ refusalSaid r)
+refused-mixed-table t r e = (rw e refl, rw (refused-both t r e) refl)
+
+pub refused-load : (file : List ℕ) (r : Refusal) → formOf file .admission ≡ Admission.Admitted → judgedMixed (formOf file .table) ≡ Judgement.Refused r → admissionSaid (loadedFrom file .admission) ≡ refusalSaid r
 unfolding loadedFrom
 refused-load file r good e = rw (good, e) refl
 

@@ -1,4 +1,5 @@
--- THE DISTANCE TEST, T-05 of document 02: quick pass is distance pass, and that is said only of tables that the exact test passes.
+-- THE DISTANCE TEST, T-05 of document 02: quick pass is distance pass, and that is said of a table without buttons only if the exact test passes it.
+-- What it means of tables with buttons stands in `Buttons`.
 use mathlib.Core.Path.{_≡_, refl, sym, _∙_}
 use mathlib.Core.Logic.{inl, inr, _↔_}
 use mathlib.Core.List.{List, [], _∷_}
@@ -17,19 +18,20 @@ use Rattle.values.specs.declared.QuickAnswer.{QuickAnswer}
 use Rattle.values.specs.declared.DistanceAnswer.{DistanceAnswer}
 use Rattle.values.specs.declared.Admission.{Admission}
 use Rattle.model.specs.Values.{refusalSaid, distanceSaid}
-use Rattle.model.specs.Tasks.{task, release, round, load, horizon, judged}
+use Rattle.model.specs.Tasks.{task, isButton, release, round, load, horizon, judgedMixed, judged}
 use Rattle.model.specs.Verdict.{verdict}
-use Rattle.model.specs.TableFile.{loadedFrom}
-use Rattle.model.specs.Patterns.{light, quickAnswer, distance, distancePass, distanceJudged, distanceAnswer}
+use Rattle.model.specs.TableFile.{loadedFrom, periodicFrom}
+use Rattle.model.specs.Patterns.{light, quickAnswer, distance, distancePass, distanceAnswer}
 use Rattle.model.specs.Report.{refusalNumber, distanceNumber, distanceExported}
-use Rattle.counting.specs.Count.{tests, is-true, is-false}
-use Rattle.wellformed.specs.WellFormed.{well-formed}
+use Rattle.counting.specs.Count.{tests, is-false}
+use Rattle.wellformed.specs.WellFormed.{periodic-iff, well-mixed, well-formed}
 use Rattle.patterns.specs.Quick.{quick-case}
-use Rattle.patterns.specs.Distance.{distance-le}
+use Rattle.patterns.specs.Distance.{distance-button, distance-le}
 use Rattle.patterns.specs.Attained.{distance-attained}
-use Rattle.patterns.specs.DistancePass.{distance-light, distance-passes}
+use Rattle.patterns.specs.DistancePass.{distance-case, distance-told, distance-passes}
 use Rattle.patterns.specs.QuickDistance.{quick-distance}
-use Rattle.tablefile.specs.Admitted.{admitted}
+use Rattle.tablefile.specs.Admitted.{well-table}
+use Rattle.tablefile.specs.Periodic.{periodic-read}
 use Rattle.promises.specs.FileNumbers.{Apart, Refuses, refused-file, read-file, file-apart}
 
 -- The distance test has one answer to every table.
@@ -37,7 +39,7 @@ pub one-distance : (t : Table) (a b : DistanceAnswer) → a ≡ distanceAnswer t
 one-distance t a b e f = e ∙ sym f
 
 -- A refused table is refused by its number and place; of any other 0 is said, with 2 for overload, 1 for pass and 0 for no answer.
-pub refused-distance : (t : Table) (r : Refusal) → judged t ≡ Judgement.Refused r → distanceSaid (distanceAnswer t) ≡ refusalSaid r
+pub refused-distance : (t : Table) (r : Refusal) → judgedMixed t ≡ Judgement.Refused r → distanceSaid (distanceAnswer t) ≡ refusalSaid r
 unfolding distanceAnswer
 refused-distance t r e = rw e refl
 
@@ -45,7 +47,7 @@ refused-distance t r e = rw e refl
 abbrev told : Bool → Bool → DistanceAnswer
 told light pass = cond light (cond pass DistanceAnswer.Pass DistanceAnswer.NoAnswer) DistanceAnswer.Overload
 
-pub distance-said : (t : Table) (m : Measure) → judged t ≡ Judgement.WellFormed m → distanceSaid (distanceAnswer t) ≡ cond (light t) (cond (distancePass t) (0 ∷ 1 ∷ []) (0 ∷ 0 ∷ [])) (0 ∷ 2 ∷ [])
+pub distance-said : (t : Table) (m : Measure) → judgedMixed t ≡ Judgement.WellFormed m → distanceSaid (distanceAnswer t) ≡ cond (light t) (cond (distancePass t) (0 ∷ 1 ∷ []) (0 ∷ 0 ∷ [])) (0 ∷ 2 ∷ [])
 unfolding distanceAnswer
 distance-said t m well = rw well (go (light t) (distancePass t))
   where
@@ -54,42 +56,38 @@ distance-said t m well = rw well (go (light t) (distancePass t))
     go true false = refl
     go false b = refl
 
--- By the cases of the table and of the test: an answer of pass is a pass of a well-formed table.
-distance-case : (t : Table) (j : Judgement) → distanceJudged t j ≡ DistanceAnswer.Pass → ((m : Measure) × (j ≡ Judgement.WellFormed m)) × T (distancePass t)
-distance-case t (Judgement.Refused r) e = let z : _≡_ {A = ℕ} 0 1 = cc in absurd (omega arith)
-distance-case t (Judgement.WellFormed m) e = ((m, refl), go (light t) (distancePass t) e)
-  where
-    go : (a b : Bool) → told a b ≡ DistanceAnswer.Pass → T b
-    go true true e = tt
-    go true false e = let z : _≡_ {A = ℕ} 0 1 = cc in absurd (omega arith)
-    go false b e = let z : _≡_ {A = ℕ} 0 1 = cc in absurd (omega arith)
-
 -- The distance of one task from another: no release of the one is followed, then or later, by one of the other at less, and some is at just that.
 pub record Smallest (one other : Task) (d : ℕ) : Type 0 where
   pub least : (j m : ℕ) → release one j ≤ release other m → release one j + d ≤ release other m
   pub attained : (j : ℕ) × (m : ℕ) × (release other m ≡ release one j + d)
 
-pub distance-is-smallest : (t : Table) (m : Measure) → judged t ≡ Judgement.WellFormed m → (i k : ℕ) → i < t .count → k < t .count → Smallest (task t i) (task t k) (distance (task t i) (task t k))
-distance-is-smallest t m well i k l n =
-    let r = well-formed t m well .ranged in
+pub distance-is-smallest : (t : Table) (m : Measure) → judgedMixed t ≡ Judgement.WellFormed m → (i k : ℕ) → i < t .count → k < t .count → isButton (task t i) ≡ false → isButton (task t k) ≡ false
+    → Smallest (task t i) (task t k) (distance (task t i) (task t k))
+distance-is-smallest t m well i k l n first periodic =
+    let r = well-mixed t m well .ranged in
     let p = r .each i l .period-pos in
-    record { least = distance-le (task t i) (task t k) p; attained = distance-attained (task t i) (task t k) p (r .each k n .period-pos) }
+    record { least = distance-le (task t i) (task t k) p; attained = distance-attained (task t i) (task t k) periodic p (r .each k n .period-pos) }
+
+-- A button has distance 0 from each.
+pub button-distance : (one other : Task) → isButton other ≡ true → distance one other ≡ 0
+button-distance = distance-button
 
 -- The chain. Quick pass is distance pass,
 pub quick-means-distance : (t : Table) → quickAnswer t ≡ QuickAnswer.Pass → distanceAnswer t ≡ DistanceAnswer.Pass
 unfolding quickAnswer distanceAnswer
 quick-means-distance t e =
-    let ((m, well), p) = quick-case t (judged t) e in
-    let d : T (distancePass t) = quick-distance t (well-formed t m well .ranged) p in
-    rw (well, is-true (light t) (let l = distance-light t d in omega tests), is-true (distancePass t) d) refl
+    let ((m, w), p) = quick-case t (judged t) e in
+    let well = periodic-iff t m .0 w .0 in
+    rw well (distance-told t m (quick-distance t (well-mixed t m well .ranged) p))
 
--- and distance pass means that the exact test passes the table, with every budget that reaches the horizon.
-pub distance-means-passes : (t : Table) → distanceAnswer t ≡ DistanceAnswer.Pass → (budget : ℕ) → horizon t ≤ budget → verdict t budget ≡ Verdict.Passes
+-- and distance pass means that the exact test passes the table, if it has no button, with every budget that reaches the horizon.
+pub distance-means-passes : (t : Table) (m : Measure) → judged t ≡ Judgement.WellFormed m → distanceAnswer t ≡ DistanceAnswer.Pass
+    → (budget : ℕ) → horizon t ≤ budget → verdict t budget ≡ Verdict.Passes
 unfolding distanceAnswer
-distance-means-passes t e = let ((m, well), p) = distance-case t (judged t) e in distance-passes t (well-formed t m well .ranged) p
+distance-means-passes t m periodic e = let (well, p) = distance-case t (judgedMixed t) e in distance-passes t (well-formed t m periodic .ranged) p
 
 -- Overload is said exactly if the load is above 1, as by the exact test.
-pub distance-overload : (t : Table) (m : Measure) → judged t ≡ Judgement.WellFormed m → (distanceAnswer t ≡ DistanceAnswer.Overload) ↔ (round t < load t)
+pub distance-overload : (t : Table) (m : Measure) → judgedMixed t ≡ Judgement.WellFormed m → (distanceAnswer t ≡ DistanceAnswer.Overload) ↔ (round t < load t)
 unfolding distanceAnswer
 distance-overload t m well = (λ e. heavy (light t) refl (distancePass t) (rw well at e), λ h. rw (well, is-false (light t) (λ x. absurd (omega tests))) refl)
   where
@@ -114,7 +112,7 @@ pub read-distance-file : (file : List ℕ) → loadedFrom file .admission ≡ Ad
 read-distance-file file = read-file file (λ t. distanceNumber (distanceAnswer t))
 
 -- So exactly the numbers from 65,536 on are refusals, and any other is at most 2.
-pub distance-file-apart : (file : List ℕ) → Apart file 2 (distanceExported file)
+pub distance-file-apart : (file : List ℕ) → Apart (loadedFrom file .admission) 2 (distanceExported file)
 unfolding distanceAnswer
 distance-file-apart file = file-apart file (λ t. distanceNumber (distanceAnswer t)) refuses 2 (λ t m well. rw well (low (light t) (distancePass t)))
   where
@@ -123,16 +121,14 @@ distance-file-apart file = file-apart file (λ t. distanceNumber (distanceAnswer
     low true false = omega arith
     low false b = omega arith
 
--- And 1 means that the exact test passes the table.
-pub distance-file-means : (file : List ℕ) → distanceExported file ≡ 1 → (budget : ℕ) → horizon (loadedFrom file .table) ≤ budget → verdict (loadedFrom file .table) budget ≡ Verdict.Passes
+-- And 1 means that the table passes, and so what this means.
+pub distance-file-pass : (file : List ℕ) → distanceExported file ≡ 1 → distanceAnswer (loadedFrom file .table) ≡ DistanceAnswer.Pass
 unfolding distanceAnswer
-distance-file-means file e = elim (distance-file-apart file) [
+distance-file-pass file e = elim (distance-file-apart file) [
   | inr (r, h, q, (a, b)) ↦ absurd (omega arith)
   | inl (h, l) ↦ (
-      let t = loadedFrom file .table in
-      let (same, (m, well)) = admitted file h in
-      let well′ : judged t ≡ Judgement.WellFormed m = rw same well in
-      distance-means-passes t (rw well′ (pass (light t) (distancePass t) (rw well′ at (sym (read-distance-file file h) ∙ e))))
+      let (m, well) = well-table file {l = loadedFrom file} refl h in
+      rw well (pass (light (loadedFrom file .table)) (distancePass (loadedFrom file .table)) (rw well at (sym (read-distance-file file h) ∙ e)))
       )
 ]
   where
@@ -140,3 +136,7 @@ distance-file-means file e = elim (distance-file-apart file) [
     pass true true n = refl
     pass true false n = absurd (omega arith)
     pass false b n = absurd (omega arith)
+
+pub distance-file-means : (file : List ℕ) → distanceExported file ≡ 1 → periodicFrom file .admission ≡ Admission.Admitted
+    → (budget : ℕ) → horizon (loadedFrom file .table) ≤ budget → verdict (loadedFrom file .table) budget ≡ Verdict.Passes
+distance-file-means file e h = let (read, same, (m, well)) = periodic-read file h in distance-means-passes (loadedFrom file .table) m well (distance-file-pass file e)

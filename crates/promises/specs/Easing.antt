@@ -18,14 +18,14 @@ use Rattle.values.specs.declared.Answer.{Answer}
 use Rattle.values.specs.declared.Easing.{Easing}
 use Rattle.values.specs.declared.Admission.{Admission}
 use Rattle.model.specs.Notation.{bit, sum, largest, count, some, first, last, fill}
-use Rattle.model.specs.Tasks.{taskFault, firstFaulty, round, load, horizon, judged}
-use Rattle.model.specs.Demand.{jobsIn, demand, lateAt}
+use Rattle.model.specs.Tasks.{taskFault, firstFaulty, round, load, horizon, judgedMixed, firstButton, judged}
+use Rattle.model.specs.Demand.{arrivedIn, demand, lateAt}
 use Rattle.model.specs.Run.{tieOrder, choose, ownerOf, served, Worst}
 use Rattle.model.specs.Idle.{idleAt, firstIdle}
 use Rattle.model.specs.Verdict.{needed, lateStart, verdict, settledBy, Permitted}
 use Rattle.model.specs.Dispatcher.{startOf, ownerNow, after}
 use Rattle.model.specs.History.{stateAt}
-use Rattle.model.specs.TableFile.{tableOf, loadedFrom}
+use Rattle.model.specs.TableFile.{tableOf, periodicFrom}
 use Rattle.model.specs.Report.{refusalNumber}
 use Rattle.model.specs.Easing.{Eased, Lowered, unmatched, keptSet, easing, firstTasks, easedNumber, easedExported}
 use Rattle.model.specs.Examples.{of, table-e, two-due}
@@ -37,8 +37,8 @@ use Rattle.backlog.specs.Lowered.{lowered-worst}
 use Rattle.backlog.specs.Unique.{permitted-unique}
 use Rattle.backlog.specs.WalkWorst.{worstBy}
 use Rattle.backlog.specs.Computed.{answerOf, computed}
-use Rattle.tablefile.specs.Admitted.{well-table}
-use Rattle.tablefile.specs.Refused.{AdmissionTellable, load-tellable}
+use Rattle.tablefile.specs.Refused.{AdmissionTellable}
+use Rattle.tablefile.specs.Periodic.{well-periodic, periodic-tellable}
 use Rattle.promises.specs.Demand2.{passed-exactly}
 
 -- Easings may follow one another: what is eased and eased again is eased. Lowering costs alone is an easing.
@@ -71,14 +71,14 @@ module _ (before after : Table) (m n : Measure) (well : judged before ≡ Judgem
 -- A longer period is no easing: document 02's table passes, and with the second period 3 it is late at 4.
 pub longer-period-late :
     (verdict table-e 1000 ≡ Verdict.Passes) × (verdict (tableOf (of 1 1 1 2 ∷ of 0 1 1 3 ∷ [])) 1000 ≡ Verdict.Late 3 4 2)
-unfolding verdict needed lateStart lateAt first last round load horizon largest sum count demand jobsIn
+unfolding verdict needed lateStart lateAt first last round load horizon largest sum count demand arrivedIn
 longer-period-late = (refl, refl)
 
 -- Longer deadlines may slow a task: with deadline 3 for 1, and else the same table, the worst response of task 0 grows from 1 to 2.
 pub longer-deadline-slows :
     Eased (two-due 1) (two-due 3)
     × ((a a' : Answer) → Permitted (two-due 1) 8 a → Permitted (two-due 3) 8 a' → (getD (a .worst) 0 0 ≡ 1) × (getD (a' .worst) 0 0 ≡ 2))
-unfolding answerOf judged firstFaulty taskFault first last round load horizon largest sum count verdict settledBy needed lateStart lateAt demand jobsIn worstBy stateAt startOf after ownerNow choose fill firstIdle idleAt ownerOf served
+unfolding answerOf judged judgedMixed firstButton firstFaulty taskFault first last round load horizon largest sum count verdict settledBy needed lateStart lateAt demand arrivedIn worstBy stateAt startOf after ownerNow choose fill firstIdle idleAt ownerOf served
 longer-deadline-slows = (
   record {
     kept = λ i. i;
@@ -131,46 +131,46 @@ module _ (before after : Table) where
 pub one-eased-export : (old new : List ℕ) (a b : ℕ) → a ≡ easedExported old new → b ≡ easedExported old new → a ≡ b
 one-eased-export old new a b e f = e ∙ sym f
 
--- A file is read; a file is refused, in a way that its number and place are told by one number v.
+-- A file is read, and has no button; a file is refused, by 11 at a button too, in a way that its number and place are told by one number v.
 abbrev Read : List ℕ → Type 0
-Read file = loadedFrom file .admission ≡ Admission.Admitted
+Read file = periodicFrom file .admission ≡ Admission.Admitted
 
 abbrev RefusedAs : List ℕ → ℕ → Type 0
-RefusedAs file v = (r : Refusal) × (loadedFrom file .admission ≡ Admission.Refused r) × (v ≡ refusalNumber r) × ((0 < r .number) × (r .place < 65536))
+RefusedAs file v = (r : Refusal) × (periodicFrom file .admission ≡ Admission.Refused r) × (v ≡ refusalNumber r) × ((0 < r .number) × (r .place < 65536))
 
 -- What the number means, by its remainder by 4 and its quotient v.
 abbrev pub EasedMeans : List ℕ → List ℕ → ℕ → ℕ → Type 0
 EasedMeans old new rest v =
-    ((rest ≡ 0) × Read old × Read new × (easing (loadedFrom old .table) (loadedFrom new .table) ≡ Easing.Unmatched v))
-    ⊎ ((rest ≡ 1) × Read old × Read new × (easing (loadedFrom old .table) (loadedFrom new .table) ≡ Easing.Kept v))
+    ((rest ≡ 0) × Read old × Read new × (easing (periodicFrom old .table) (periodicFrom new .table) ≡ Easing.Unmatched v))
+    ⊎ ((rest ≡ 1) × Read old × Read new × (easing (periodicFrom old .table) (periodicFrom new .table) ≡ Easing.Kept v))
     ⊎ ((rest ≡ 2) × RefusedAs old v)
     ⊎ ((rest ≡ 3) × Read old × RefusedAs new v)
 
 pub eased-means : (old new : List ℕ) → EasedMeans old new (easedExported old new % 4) (easedExported old new / 4)
-eased-means old new = go (loadedFrom old .admission) (loadedFrom new .admission) refl refl (load-tellable old) (load-tellable new) (easing (loadedFrom old .table) (loadedFrom new .table)) refl
+eased-means old new = go (periodicFrom old .admission) (periodicFrom new .admission) refl refl (periodic-tellable old) (periodic-tellable new) (easing (periodicFrom old .table) (periodicFrom new .table)) refl
   where
-    go : (a b : Admission) → loadedFrom old .admission ≡ a → loadedFrom new .admission ≡ b → AdmissionTellable a → AdmissionTellable b → (x : Easing) → easing (loadedFrom old .table) (loadedFrom new .table) ≡ x
-        → EasedMeans old new (easedNumber (loadedFrom old .table) (loadedFrom new .table) a b % 4) (easedNumber (loadedFrom old .table) (loadedFrom new .table) a b / 4)
+    go : (a b : Admission) → periodicFrom old .admission ≡ a → periodicFrom new .admission ≡ b → AdmissionTellable a → AdmissionTellable b → (x : Easing) → easing (periodicFrom old .table) (periodicFrom new .table) ≡ x
+        → EasedMeans old new (easedNumber (periodicFrom old .table) (periodicFrom new .table) a b % 4) (easedNumber (periodicFrom old .table) (periodicFrom new .table) a b / 4)
     go (Admission.Refused r) b p q h g x e = inr (inr (inl (omega arith, (r, p, omega arith, h))))
     go Admission.Admitted (Admission.Refused r) p q h g x e = inr (inr (inr (omega arith, p, (r, q, omega arith, g))))
     go Admission.Admitted Admission.Admitted p q h g (Easing.Unmatched i) e = let v : (4 * i) / 4 ≡ i = omega arith in rw e (inl (omega arith, p, q, rw v refl))
     go Admission.Admitted Admission.Admitted p q h g (Easing.Kept set) e = let v : (4 * set + 1) / 4 ≡ set = omega arith in rw e (inr (inl (omega arith, p, q, rw v refl)))
 
 -- Where it says that the new file's table is an easing of the old one's, it is one.
-told-eased : (old new : List ℕ) → easedExported old new % 4 ≡ 1 → Read old × Read new × Eased (loadedFrom old .table) (loadedFrom new .table)
+told-eased : (old new : List ℕ) → easedExported old new % 4 ≡ 1 → Read old × Read new × Eased (periodicFrom old .table) (periodicFrom new .table)
 told-eased old new one = go (eased-means old new)
   where
-    go : EasedMeans old new (easedExported old new % 4) (easedExported old new / 4) → Read old × Read new × Eased (loadedFrom old .table) (loadedFrom new .table)
+    go : EasedMeans old new (easedExported old new % 4) (easedExported old new / 4) → Read old × Read new × Eased (periodicFrom old .table) (periodicFrom new .table)
     go (inl x) = absurd (omega (arith, x .0))
-    go (inr (inl (r, p, q, e))) = (p, q, easing-exactly (loadedFrom old .table) (loadedFrom new .table) .0 (_, e))
+    go (inr (inl (r, p, q, e))) = (p, q, easing-exactly (periodicFrom old .table) (periodicFrom new .table) .0 (_, e))
     go (inr (inr (inl x))) = absurd (omega (arith, x .0))
     go (inr (inr (inr x))) = absurd (omega (arith, x .0))
 
 -- So if the old one passes, the new one needs no test.
 pub eased-files-pass : (old new : List ℕ) → easedExported old new % 4 ≡ 1 → (budget budget' : ℕ)
-    → verdict (loadedFrom old .table) budget ≡ Verdict.Passes → horizon (loadedFrom new .table) ≤ budget' → verdict (loadedFrom new .table) budget' ≡ Verdict.Passes
+    → verdict (periodicFrom old .table) budget ≡ Verdict.Passes → horizon (periodicFrom new .table) ≤ budget' → verdict (periodicFrom new .table) budget' ≡ Verdict.Passes
 eased-files-pass old new one =
     let (p, q, e) = told-eased old new one in
-    let (m, well) = well-table old refl p in
-    let (n, well-after) = well-table new refl q in
-    easing-is-safe (loadedFrom old .table) (loadedFrom new .table) m n well well-after e
+    let (m, well) = well-periodic old p in
+    let (n, well-after) = well-periodic new q in
+    easing-is-safe (periodicFrom old .table) (periodicFrom new .table) m n well well-after e

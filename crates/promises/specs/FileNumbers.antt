@@ -1,4 +1,4 @@
--- A CALL ON A FILE ALONE: whatever it says of a table (`tell`), a refused file is refused as by the check, and no number means two things.
+-- A CALL ON A FILE ALONE: whatever it says of a table (`tell`), a refused file is refused as it is by loading it, and no number means two things.
 use mathlib.Core.Path.{_≡_, refl}
 use mathlib.Core.Logic.{_⊎_, inl, inr}
 use mathlib.Core.List.{List}
@@ -8,20 +8,25 @@ use Rattle.values.specs.declared.Refusal.{Refusal}
 use Rattle.values.specs.declared.Measure.{Measure}
 use Rattle.values.specs.declared.Judgement.{Judgement}
 use Rattle.values.specs.declared.Admission.{Admission}
-use Rattle.model.specs.Tasks.{judged}
-use Rattle.model.specs.TableFile.{formOf, loadedFrom}
+use Rattle.model.specs.Tasks.{judgedMixed, judged}
+use Rattle.model.specs.TableFile.{formOf, loadedFrom, periodicFrom}
 use Rattle.model.specs.Report.{refusalNumber, fileNumber}
+use Rattle.wellformed.specs.WellFormed.{refused-both}
 use Rattle.tablefile.specs.Admitted.{admitted, refused-for}
 use Rattle.tablefile.specs.Refused.{AdmissionTellable, load-tellable}
+use Rattle.tablefile.specs.Periodic.{periodic-refused, periodic-read, periodic-tellable}
 
--- The number n is at most `most` and of a file that is read, or the refusal of one that is refused: its number is above 0 and its place below
+-- The number n is at most `most` and of what is admitted, or the refusal of what is refused: its number is above 0 and its place below
 -- 65,536, so that exactly the numbers from 65,536 on are refusals.
-abbrev pub Apart : List ℕ → ℕ → ℕ → Type 0
-Apart file most n = ((loadedFrom file .admission ≡ Admission.Admitted) × (n ≤ most)) ⊎ ((r : Refusal) × (loadedFrom file .admission ≡ Admission.Refused r) × (n ≡ refusalNumber r) × ((0 < r .number) × (r .place < 65536)))
+abbrev pub Apart : Admission → ℕ → ℕ → Type 0
+Apart a most n = ((a ≡ Admission.Admitted) × (n ≤ most)) ⊎ ((r : Refusal) × (a ≡ Admission.Refused r) × (n ≡ refusalNumber r) × ((0 < r .number) × (r .place < 65536)))
 
--- The call refuses the tables that are refused, as they are.
+-- The call refuses the tables that are refused, as they are; or those as well that have a button, by 11.
 abbrev pub Refuses : (Table → ℕ) → Type 0
-Refuses tell = (t : Table) (r : Refusal) → judged t ≡ Judgement.Refused r → tell t ≡ refusalNumber r
+Refuses tell = (t : Table) (r : Refusal) → judgedMixed t ≡ Judgement.Refused r → tell t ≡ refusalNumber r
+
+abbrev pub RefusesButtons : (Table → ℕ) → Type 0
+RefusesButtons tell = (t : Table) (r : Refusal) → judged t ≡ Judgement.Refused r → tell t ≡ refusalNumber r
 
 module _ (file : List ℕ) (tell : Table → ℕ) where
   pub refused-file : Refuses tell → (r : Refusal) → loadedFrom file .admission ≡ Admission.Refused r → fileNumber file tell ≡ refusalNumber r
@@ -33,9 +38,20 @@ module _ (file : List ℕ) (tell : Table → ℕ) where
       let good : formOf file .admission ≡ Admission.Admitted = rw e at h in
       rw (e, good, fileNumber) refl
 
-  pub file-apart : Refuses tell → (most : ℕ) → ((t : Table) (m : Measure) → judged t ≡ Judgement.WellFormed m → tell t ≤ most) → Apart file most (fileNumber file tell)
+  pub file-apart : Refuses tell → (most : ℕ) → ((t : Table) (m : Measure) → judgedMixed t ≡ Judgement.WellFormed m → tell t ≤ most) → Apart (loadedFrom file .admission) most (fileNumber file tell)
   file-apart refuses most low = go (loadedFrom file .admission) refl (load-tellable file)
     where
-      go : (a : Admission) → loadedFrom file .admission ≡ a → AdmissionTellable a → Apart file most (fileNumber file tell)
-      go (Admission.Refused r) e h = inr (r, e, refused-file refuses r e, h)
-      go Admission.Admitted e h = let (same, (m, well)) = admitted file e in inl (e, rw (read-file e) (low (loadedFrom file .table) m (rw same well)))
+      go : (a : Admission) → loadedFrom file .admission ≡ a → AdmissionTellable a → Apart a most (fileNumber file tell)
+      go (Admission.Refused r) e h = inr (r, refl, refused-file refuses r e, h)
+      go Admission.Admitted e h = let (same, (m, well)) = admitted file e in inl (refl, rw (read-file e) (low (loadedFrom file .table) m (rw same well)))
+
+  -- Of a call that refuses buttons: the file is then refused by 11 at the lowest.
+  pub refused-periodic : RefusesButtons tell → (r : Refusal) → periodicFrom file .admission ≡ Admission.Refused r → fileNumber file tell ≡ refusalNumber r
+  refused-periodic refuses r h = elim (periodic-refused file r h) [ inl e ↦ refused-file (λ t w f. refuses t w (refused-both t w f)) r e | inr (e, f) ↦ rw (read-file e) (refuses (loadedFrom file .table) r f) ]
+
+  pub periodic-apart : RefusesButtons tell → (most : ℕ) → ((t : Table) (m : Measure) → judged t ≡ Judgement.WellFormed m → tell t ≤ most) → Apart (periodicFrom file .admission) most (fileNumber file tell)
+  periodic-apart refuses most low = go (periodicFrom file .admission) refl (periodic-tellable file)
+    where
+      go : (a : Admission) → periodicFrom file .admission ≡ a → AdmissionTellable a → Apart a most (fileNumber file tell)
+      go (Admission.Refused r) e h = inr (r, refl, refused-periodic refuses r e, h)
+      go Admission.Admitted e h = let (read, same, (m, well)) = periodic-read file e in inl (refl, rw (read-file read) (low (loadedFrom file .table) m well))

@@ -19,15 +19,16 @@ use Rattle.model.specs.Values.{refusal}
 use Rattle.model.specs.Limits.{slotLimit}
 use Rattle.model.specs.Tasks.{task, judged}
 use Rattle.model.specs.Verdict.{verdict}
-use Rattle.model.specs.TableFile.{formOf, loadedFrom}
-use Rattle.model.specs.Report.{refusalNumber, fileNumber}
+use Rattle.model.specs.TableFile.{formOf, loadedFrom, periodicFrom}
+use Rattle.model.specs.Report.{refusalNumber}
 use Rattle.model.specs.Largest.{withCost, largestCost, costTold, costJudged, costAnswer, costNumber, largestExported}
 use Rattle.wellformed.specs.WellFormed.{well-formed}
 use Rattle.wellformed.specs.Refused.{Tellable, JudgementTellable, judged-tellable}
 use Rattle.backlog.specs.Largest.{largest-cost}
-use Rattle.tablefile.specs.Refused.{AdmissionTellable, load-tellable}
+use Rattle.tablefile.specs.Refused.{AdmissionTellable}
+use Rattle.tablefile.specs.Periodic.{periodic-read, periodic-tellable}
 use Rattle.tablefile.specs.Admitted.{admitted}
-use Rattle.promises.specs.FileNumbers.{Refuses, refused-file, read-file}
+use Rattle.promises.specs.FileNumbers.{RefusesButtons, read-file, refused-periodic}
 
 -- One answer is permitted to every table, task number and budget.
 pub one-largest-cost : (t : Table) (i budget : ℕ) (a b : LargestCost) → a ≡ costAnswer t i budget → b ≡ costAnswer t i budget → a ≡ b
@@ -124,15 +125,15 @@ cost-tellable t i budget r l e = go (judged t) (judged-tellable t) e
 pub one-largest-export : (file : List ℕ) (i a b : ℕ) → a ≡ largestExported file i → b ≡ largestExported file i → a ≡ b
 one-largest-export file i a b e f = e ∙ sym f
 
--- A refused file is refused as by the check; of any other its table is answered for, with the file's budget.
+-- A refused file is refused as by loading it, and one with a button by 11; of any other its table is answered for, with the file's budget.
 abbrev tell : List ℕ → ℕ → Table → ℕ
 tell file i t = costNumber (costAnswer t (min i 65535) (formOf file .budget))
 
-tell-refuses : (file : List ℕ) (i : ℕ) → Refuses (tell file i)
+tell-refuses : (file : List ℕ) (i : ℕ) → RefusesButtons (tell file i)
 tell-refuses file i t r e = rw (cost-refused t (min i 65535) (formOf file .budget) r e)
 
-pub largest-refused-file : (file : List ℕ) (i : ℕ) (r : Refusal) → loadedFrom file .admission ≡ Admission.Refused r → largestExported file i ≡ refusalNumber r
-largest-refused-file file i = refused-file file (tell file i) (tell-refuses file i)
+pub largest-refused-file : (file : List ℕ) (i : ℕ) (r : Refusal) → periodicFrom file .admission ≡ Admission.Refused r → largestExported file i ≡ refusalNumber r
+largest-refused-file file i = refused-periodic file (tell file i) (tell-refuses file i)
 
 pub largest-exported : (file : List ℕ) (i : ℕ) → loadedFrom file .admission ≡ Admission.Admitted
     → largestExported file i ≡ costNumber (costAnswer (loadedFrom file .table) (min i 65535) (loadedFrom file .budget))
@@ -153,8 +154,8 @@ answer-apart t i budget l = go (costAnswer t i budget) refl
     go (LargestCost.Cost c) e = inl (omega (arith, cost-fits t i budget c e))
 
 pub largest-or-refusal : (file : List ℕ) (i : ℕ) → Apart (largestExported file i)
-largest-or-refusal file i = go (loadedFrom file .admission) refl (load-tellable file)
+largest-or-refusal file i = go (periodicFrom file .admission) refl (periodic-tellable file)
   where
-    go : (a : Admission) → loadedFrom file .admission ≡ a → AdmissionTellable a → Apart (largestExported file i)
+    go : (a : Admission) → periodicFrom file .admission ≡ a → AdmissionTellable a → Apart (largestExported file i)
     go (Admission.Refused r) e h = inr (r, largest-refused-file file i r e, h)
-    go Admission.Admitted e h = rw (largest-exported file i e) (answer-apart (loadedFrom file .table) (min i 65535) (loadedFrom file .budget) (omega arith))
+    go Admission.Admitted e h = rw (largest-exported file i (periodic-read file e .0)) (answer-apart (loadedFrom file .table) (min i 65535) (loadedFrom file .budget) (omega arith))

@@ -9,6 +9,7 @@ pub mod PlainText
 pub mod FileNumbers
 pub mod QuickTests
 pub mod DistanceTest
+pub mod Buttons
 pub mod Easing
 pub mod Largest
 pub mod Engines

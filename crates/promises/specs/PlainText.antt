@@ -15,7 +15,7 @@ use Rattle.values.specs.declared.Loaded.{Loaded}
 use Rattle.values.specs.declared.Writing.{Writing}
 use Rattle.model.specs.Limits.{taskLimit, budgetLimit, longestFile, longestText}
 use Rattle.model.specs.Values.{refusalSaid, writingSaid, admissionSaid}
-use Rattle.model.specs.Tasks.{judged}
+use Rattle.model.specs.Tasks.{judgedMixed}
 use Rattle.model.specs.TableFile.{admit, fileOf, formOf, loadedFrom}
 use Rattle.model.specs.Report.{Exported, refused}
 use Rattle.model.specs.Writer.{Filled, fitted, tasksOf, fileWritten}
@@ -58,7 +58,7 @@ pub text-of-nothing : (ks : List Task) → admissionSaid (textForm (textOf 0 ks)
 text-of-nothing ks = rw (text-nothing ks) refl
 
 -- Nor is it written: of a well-formed table it is refused by 27 at 0, whatever the buffer, which stays as it was.
-pub nothing-text-writing : (t : Table) (m : Measure) (buffer : List ℕ) → judged t ≡ Judgement.WellFormed m
+pub nothing-text-writing : (t : Table) (m : Measure) (buffer : List ℕ) → judgedMixed t ≡ Judgement.WellFormed m
     → let f = textWritten t 0 buffer in (writingSaid (f .said) ≡ 27 ∷ 0 ∷ []) × (f .buffer ≡ buffer)
 unfolding textWritten
 nothing-text-writing t m buffer well = rw well (refl, refl)
@@ -72,11 +72,11 @@ written-text-loads t budget buffer n limit e =
 
 -- The text of a well-formed table and a budget above 0 is made its file, and its file its text.
 pub text-to-file : (t : Table) (m : Measure) (budget : ℕ) (buffer : List ℕ) → 0 < budget → budget < budgetLimit
-    → judged t ≡ Judgement.WellFormed m → fromText (textOf budget (tasksOf t)) buffer ≡ fitted (fileOf budget (tasksOf t)) buffer
+    → judgedMixed t ≡ Judgement.WellFormed m → fromText (textOf budget (tasksOf t)) buffer ≡ fitted (fileOf budget (tasksOf t)) buffer
 text-to-file = round.text-to-file
 
 pub file-to-text : (t : Table) (m : Measure) (budget : ℕ) (buffer : List ℕ) → 0 < budget → budget < budgetLimit
-    → judged t ≡ Judgement.WellFormed m → toText (fileOf budget (tasksOf t)) buffer ≡ fitted (textOf budget (tasksOf t)) buffer
+    → judgedMixed t ≡ Judgement.WellFormed m → toText (fileOf budget (tasksOf t)) buffer ≡ fitted (textOf budget (tasksOf t)) buffer
 file-to-text = round.file-to-text
 
 -- Of a file that is not refused, the file of the text that was written of it is that file, byte for byte.
@@ -91,7 +91,7 @@ unfolding textLoaded
 refused-text s buffer r e = rw e (refl, refl, refl)
 
 -- So is a table for itself that a text of good form holds.
-pub refused-text-table : (s buffer : List ℕ) (r : Refusal) → textForm s .admission ≡ Admission.Admitted → judged (textForm s .table) ≡ Judgement.Refused r
+pub refused-text-table : (s buffer : List ℕ) (r : Refusal) → textForm s .admission ≡ Admission.Admitted → judgedMixed (textForm s .table) ≡ Judgement.Refused r
     → let f = fromText s buffer in (admissionSaid (textLoaded s .admission) ≡ refusalSaid r) × (writingSaid (f .said) ≡ refusalSaid r) × (f .buffer ≡ buffer)
 unfolding textLoaded fileWritten
 refused-text-table s buffer r e f = rw (e, f) (refl, refl, refl)

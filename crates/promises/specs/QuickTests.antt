@@ -18,15 +18,15 @@ use Rattle.model.specs.Values.{refusalSaid, quickSaid}
 use Rattle.model.specs.Tasks.{round, load, horizon, judged}
 use Rattle.model.specs.Schedule.{Schedule, Good}
 use Rattle.model.specs.Verdict.{verdict}
-use Rattle.model.specs.TableFile.{loadedFrom}
+use Rattle.model.specs.TableFile.{loadedFrom, periodicFrom}
 use Rattle.model.specs.Patterns.{startingAt, simultaneous, quickPass, quickAnswer}
 use Rattle.model.specs.Report.{refusalNumber, quickNumber, quickExported}
 use Rattle.counting.specs.Count.{is-true, is-false}
 use Rattle.wellformed.specs.WellFormed.{well-formed}
 use Rattle.patterns.specs.Starting.{starting-ranged}
 use Rattle.patterns.specs.Quick.{quick-case, quick-light, quick-passes, quick-same, quick-iff}
-use Rattle.tablefile.specs.Admitted.{admitted}
-use Rattle.promises.specs.FileNumbers.{Apart, Refuses, refused-file, read-file, file-apart}
+use Rattle.tablefile.specs.Periodic.{periodic-read}
+use Rattle.promises.specs.FileNumbers.{Apart, RefusesButtons, read-file, refused-periodic, periodic-apart}
 
 -- The quick test has one answer to every table.
 pub one-quick : (t : Table) (a b : QuickAnswer) → a ≡ quickAnswer t → b ≡ quickAnswer t → a ≡ b
@@ -84,21 +84,21 @@ quick-exactly t m well = ((λ e. exact .0 (quick-case t (judged t) e .1), λ h. 
 pub one-quick-export : (file : List ℕ) (a b : ℕ) → a ≡ quickExported file → b ≡ quickExported file → a ≡ b
 one-quick-export file a b e f = e ∙ sym f
 
--- A file that is refused is refused as it is by the check, and one that is read gives its table's answer: 1 for pass, 0 for none.
-refuses : Refuses (λ t. quickNumber (quickAnswer t))
+-- A file that is refused, as it is by loading it or by 11 for a button, is refused so, and any other gives its table's answer: 1 for pass, 0 for none.
+refuses : RefusesButtons (λ t. quickNumber (quickAnswer t))
 unfolding quickAnswer
 refuses t r e = rw e refl
 
-pub refused-quick-file : (file : List ℕ) (r : Refusal) → loadedFrom file .admission ≡ Admission.Refused r → quickExported file ≡ refusalNumber r
-refused-quick-file file = refused-file file (λ t. quickNumber (quickAnswer t)) refuses
+pub refused-quick-file : (file : List ℕ) (r : Refusal) → periodicFrom file .admission ≡ Admission.Refused r → quickExported file ≡ refusalNumber r
+refused-quick-file file = refused-periodic file (λ t. quickNumber (quickAnswer t)) refuses
 
 pub read-quick-file : (file : List ℕ) → loadedFrom file .admission ≡ Admission.Admitted → quickExported file ≡ quickNumber (quickAnswer (loadedFrom file .table))
 read-quick-file file = read-file file (λ t. quickNumber (quickAnswer t))
 
 -- So exactly the numbers from 65,536 on are refusals, and any other is 0 or 1.
-pub quick-file-apart : (file : List ℕ) → Apart file 1 (quickExported file)
+pub quick-file-apart : (file : List ℕ) → Apart (periodicFrom file .admission) 1 (quickExported file)
 unfolding quickAnswer
-quick-file-apart file = file-apart file (λ t. quickNumber (quickAnswer t)) refuses 1 (λ t m well. rw well (low (quickPass t)))
+quick-file-apart file = periodic-apart file (λ t. quickNumber (quickAnswer t)) refuses 1 (λ t m well. rw well (low (quickPass t)))
   where
     low : (b : Bool) → quickNumber (cond b QuickAnswer.Pass QuickAnswer.NoAnswer) ≤ 1
     low true = omega arith
@@ -108,10 +108,10 @@ pub quick-file-means : (file : List ℕ) → quickExported file ≡ 1 → (budge
 quick-file-means file e = elim (quick-file-apart file) [
   | inr (r, h, q, (a, b)) ↦ absurd (omega arith)
   | inl (h, l) ↦ (
-      let (same, (m, well)) = admitted file h in
-      elim (quick-exactly (loadedFrom file .table) m (rw same well) .1) [
+      let (read, same, (m, well)) = periodic-read file h in
+      elim (quick-exactly (loadedFrom file .table) m well .1) [
         | inl q ↦ quick-means-passes (loadedFrom file .table) q
-        | inr q ↦ absurd (omega (arith, read-quick-file file h, ap quickNumber q))
+        | inr q ↦ absurd (omega (arith, read-quick-file file read, ap quickNumber q))
       ]
       )
 ]

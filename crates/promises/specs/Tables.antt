@@ -9,8 +9,8 @@ use Rattle.values.specs.declared.Outcome.{Outcome}
 use Rattle.values.specs.declared.Answer.{Answer}
 use Rattle.model.specs.Values.{outcomeSaid}
 use Rattle.model.specs.Notation.{sum, largest, count, first, last, fill}
-use Rattle.model.specs.Tasks.{taskFault, firstFaulty, round, load, horizon, judged}
-use Rattle.model.specs.Demand.{jobsIn, demand, lateAt}
+use Rattle.model.specs.Tasks.{taskFault, firstFaulty, round, load, horizon, judgedMixed, firstButton, judged}
+use Rattle.model.specs.Demand.{arrivedIn, demand, lateAt}
 use Rattle.model.specs.Run.{choose, ownerOf, served}
 use Rattle.model.specs.Idle.{idleAt, firstIdle}
 use Rattle.model.specs.Verdict.{needed, lateStart, verdict, settledBy, brief, Permitted}
@@ -72,7 +72,7 @@ all-permitted (r ∷ rs) e =
 
 -- The test, computed.
 rows-computed : map (λ r. answerOf (r .table) (r .budget)) rows ≡ map (λ r. r .answer) rows
-unfolding answerOf judged firstFaulty taskFault first last round load horizon largest sum count verdict settledBy needed lateStart lateAt demand jobsIn worstBy stateAt startOf after ownerNow choose fill firstIdle idleAt ownerOf served
+unfolding answerOf judged judgedMixed firstButton firstFaulty taskFault first last round load horizon largest sum count verdict settledBy needed lateStart lateAt demand arrivedIn worstBy stateAt startOf after ownerNow choose fill firstIdle idleAt ownerOf served
 rows-computed = refl
 
 pub tables-answered : AllPermitted rows

@@ -2,27 +2,25 @@
 -- interval, `settledBy` and the measures take no order of the tasks at all; of what else is told of a run, any two orders say the same.
 use mathlib.Core.Path.{_≡_, ap}
 use mathlib.Core.Logic.{_↔_}
-use mathlib.Core.Bool.{Bool, _&&_}
+use mathlib.Core.Bool.{Bool, cond, not, _&&_, _||_}
 use Prim.Native.Nat.{ℕ}
 use native.Mathlib.Nat.{le-refl}
-use lib.Dec.{eqb}
 use Rattle.values.specs.declared.Table.{Table}
 use Rattle.values.specs.declared.Measure.{Measure}
 use Rattle.values.specs.declared.Judgement.{Judgement}
-use Rattle.model.specs.Notation.{every}
-use Rattle.model.specs.Tasks.{horizon, judged}
+use Rattle.model.specs.Notation.{some, every}
+use Rattle.model.specs.Tasks.{task, isButton, horizon, judgedMixed, judged}
 use Rattle.model.specs.Schedule.{Good}
 use Rattle.model.specs.Run.{Order, run}
 use Rattle.model.specs.Idle.{idleAt, firstIdle, missedAt}
 use Rattle.model.specs.Patterns.{calmBy, light, simultaneous, quickPass, pattern, distancePass}
-use Rattle.counting.specs.Count.{count-eq}
-use Rattle.wellformed.specs.WellFormed.{well-formed}
+use Rattle.wellformed.specs.WellFormed.{well-mixed, well-formed}
 use Rattle.patterns.specs.IdleInstants.{idle-any-order}
 use Rattle.patterns.specs.FirstIdle.{first-any-order}
 use Rattle.patterns.specs.Missed.{missed-any-order}
 use Rattle.patterns.specs.Calm.{calm-any-order}
 use Rattle.patterns.specs.Quick.{simultaneous-ranged}
-use Rattle.patterns.specs.DistancePass.{pattern-ranged}
+use Rattle.patterns.specs.DistancePass.{patterns-any-order}
 use Rattle.promises.specs.Demand2.{passes-exactly, run-is-good}
 
 -- Alike in two orders of a table's tasks: whether the run is good, whether it has missed a deadline by u, whether u is idle, and the first idle instant.
@@ -46,11 +44,16 @@ module _ (t : Table) (m : Measure) (well : judged t ≡ Judgement.WellFormed m) 
         first-idle = first-any-order t r rank other;
       }
 
-  -- The quick test and the distance test say the same by the runs of any order.
+  -- The quick test says the same by the runs of any order, and so does the distance test.
   pub quick-any-order : (rank : Order) → quickPass t ≡ (light t && calmBy rank (simultaneous t))
   unfolding quickPass
   quick-any-order rank = ap (λ (b : Bool). light t && b) (calm-any-order (simultaneous t) (simultaneous-ranged t (well-formed t m well .ranged)) rank)
 
-  pub distance-any-order : (rank : Order) → distancePass t ≡ (light t && every (λ i. calmBy rank (pattern t i)) (t .count))
-  unfolding distancePass
-  distance-any-order rank = ap (λ (k : ℕ). light t && eqb k (t .count)) (count-eq _ _ (t .count) (λ i l. calm-any-order (pattern t i) (pattern-ranged t (well-formed t m well .ranged) i l) rank))
+-- The patterns of the distance test by the runs of any order.
+abbrev pub calmPatternsBy : Order → Table → Bool
+calmPatternsBy rank t =
+    cond (some (λ i. not (isButton (task t i))) (t .count)) (every (λ i. isButton (task t i) || calmBy rank (pattern t i)) (t .count)) (calmBy rank (simultaneous t))
+
+pub distance-any-order : (t : Table) (m : Measure) → judgedMixed t ≡ Judgement.WellFormed m → (rank : Order) → distancePass t ≡ (light t && calmPatternsBy rank t)
+unfolding distancePass
+distance-any-order t m well rank = ap (λ (b : Bool). light t && b) (patterns-any-order t (well-mixed t m well .ranged) rank)

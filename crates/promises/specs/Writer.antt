@@ -16,7 +16,7 @@ use Rattle.values.specs.declared.Loaded.{Loaded}
 use Rattle.values.specs.declared.Writing.{Writing}
 use Rattle.model.specs.Limits.{taskLimit, budgetLimit, longestFile}
 use Rattle.model.specs.Values.{refusal, refusalSaid, writingSaid}
-use Rattle.model.specs.Tasks.{task, judged}
+use Rattle.model.specs.Tasks.{task, judgedMixed}
 use Rattle.model.specs.TableFile.{fileOf, loadedFrom}
 use Rattle.model.specs.Report.{Exported, refused}
 use Rattle.model.specs.Writer.{Filled, tasksOf, fileWritten, rowWords, rows, rowTask, isTask, tableIn, fillTold, writeExported}
@@ -31,24 +31,24 @@ pub one-write-export : (words : List ℕ) (budget : ℕ) (buffer : List ℕ) (a 
 one-write-export words budget buffer a b e f = e ∙ sym f
 
 -- A refused table is refused by its number and place, whatever the buffer, and the buffer stays as it was.
-pub refused-writing : (t : Table) (budget : ℕ) (buffer : List ℕ) (r : Refusal) → judged t ≡ Judgement.Refused r
+pub refused-writing : (t : Table) (budget : ℕ) (buffer : List ℕ) (r : Refusal) → judgedMixed t ≡ Judgement.Refused r
     → let f = fileWritten t budget buffer in (writingSaid (f .said) ≡ refusalSaid r) × (f .buffer ≡ buffer)
 unfolding fileWritten
 refused-writing t budget buffer r e = rw e (refl, refl)
 
 -- Then a budget of 0 is refused by 27 at 0, whatever the buffer, and the buffer stays as it was.
-pub nothing-writing : (t : Table) (m : Measure) (buffer : List ℕ) → judged t ≡ Judgement.WellFormed m
+pub nothing-writing : (t : Table) (m : Measure) (buffer : List ℕ) → judgedMixed t ≡ Judgement.WellFormed m
     → let f = fileWritten t 0 buffer in (writingSaid (f .said) ≡ 27 ∷ 0 ∷ []) × (f .buffer ≡ buffer)
 unfolding fileWritten
 nothing-writing t m buffer well = rw well (refl, refl)
 
 -- Then a buffer that is shorter than the file is refused by 31 at its length, and stays as it was.
-pub short-writing : (t : Table) (m : Measure) (budget : ℕ) (buffer : List ℕ) → judged t ≡ Judgement.WellFormed m → 0 < budget
+pub short-writing : (t : Table) (m : Measure) (budget : ℕ) (buffer : List ℕ) → judgedMixed t ≡ Judgement.WellFormed m → 0 < budget
     → length buffer < length (fileOf budget (tasksOf t)) → let f = fileWritten t budget buffer in (writingSaid (f .said) ≡ 31 ∷ length buffer ∷ []) × (f .buffer ≡ buffer)
 short-writing t m budget buffer well some h = rw (told.short-writing t m budget buffer well some h) (refl, refl)
 
 -- Any other gets the file at its front, of at most `longestFile` bytes, and its length is told; the bytes behind it stay as they were.
-pub long-writing : (t : Table) (m : Measure) (budget : ℕ) (buffer : List ℕ) → judged t ≡ Judgement.WellFormed m → 0 < budget
+pub long-writing : (t : Table) (m : Measure) (budget : ℕ) (buffer : List ℕ) → judgedMixed t ≡ Judgement.WellFormed m → 0 < budget
     → length (fileOf budget (tasksOf t)) ≤ length buffer
     → let f = fileWritten t budget buffer in
     let file = fileOf budget (tasksOf t) in

@@ -8,17 +8,17 @@ use Rattle.values.specs.declared.Table.{Table}
 use Rattle.values.specs.declared.Measure.{Measure}
 use Rattle.values.specs.declared.Judgement.{Judgement}
 use Rattle.model.specs.Limits.{taskLimit}
-use Rattle.model.specs.Tasks.{judged}
+use Rattle.model.specs.Tasks.{judgedMixed}
 use Rattle.model.specs.Patterns.{startingAt, light, calm, quickPass}
 use Rattle.counting.specs.Count.{tests, is-true, is-false}
-use Rattle.wellformed.specs.WellFormed.{WellFormed, well-formed}
+use Rattle.wellformed.specs.WellFormed.{WellFormed, well-mixed}
 use Rattle.patterns.specs.Starting.{starting-eq}
 use Rattle.patterns.specs.Quick.{quick-light}
 use Rattle.slots.specs.Slot.{at}
 
-module _ (t : Table) {m : Measure} (well : judged t ≡ Judgement.WellFormed m) where
+module _ (t : Table) {m : Measure} (well : judgedMixed t ≡ Judgement.WellFormed m) where
   abbrev facts : WellFormed t m
-  facts = well-formed t m well
+  facts = well-mixed t m well
 
   -- An array of zeros starts all tasks at 0.
   pub no-offset : (i : ℕ) → i < t .count → at (replicate taskLimit 0) i ≡ 0

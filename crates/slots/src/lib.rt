@@ -71,7 +71,7 @@ pub fn offsets(t: Table) -> Numbers
     let n = t.count;
     let mut wait = [0u32; TASK_LIMIT];
     for i in 0..n {
-        wait[i] = t.tasks[i].offset;
+        wait[i] = sorts::offset_of(t.tasks[i]);
     }
     wait
 }

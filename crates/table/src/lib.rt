@@ -1,10 +1,10 @@
-// Judges any table: document 01's refusals 1 to 7, or what a well-formed table measures.
+// Judges any table: document 01's refusals 1 to 7, and 11 where only periodic tasks are allowed, or what a well-formed table measures.
 ghost use mathlib.Core.Path.{_≡_};
 ghost use Prim.Native.Nat.{_≤_};
 ghost use Rattle.values.specs.declared.Judgement.{Judgement};
 ghost use Rattle.model.specs.Values.{refusal};
 ghost use Rattle.model.specs.Limits.{taskLimit};
-ghost use Rattle.model.specs.Tasks.{within, taskFault, firstFaulty, load, horizon, judged};
+ghost use Rattle.model.specs.Tasks.{within, taskFault, firstFaulty, firstButton, load, horizon, judgedMixed, judged};
 ghost use Rattle.wellformed.specs.Ranges.{Ranged};
 ghost use Rattle.wellformed.specs.Round.{RoundTold, RoundKept};
 use values::Judgement;
@@ -16,8 +16,25 @@ use values::TASK_LIMIT;
 use values::Table;
 use values::Task;
 
+// Where only periodic tasks are allowed.
 pub fn judge(t: Table) -> Judgement
     ensures { λ r. ⌜ r ≡ judged t ⌝ }
+{
+    match judge_mixed(t) {
+        Judgement::Refused(why) => Judgement::Refused(why),
+        Judgement::WellFormed(measure) => {
+            let button = first_button(t);
+            if button < t.count {
+                return refused(11, button as u32);
+            }
+            Judgement::WellFormed(measure)
+        }
+    }
+}
+
+// Tasks of both sorts.
+pub fn judge_mixed(t: Table) -> Judgement
+    ensures { λ r. ⌜ r ≡ judgedMixed t ⌝ }
 {
     let n = t.count;
     if n == 0 {
@@ -39,6 +56,19 @@ pub fn judge(t: Table) -> Judgement
         load: load_of(t, round),
         horizon: horizon_of(t, round),
     })
+}
+
+pub fn first_button(t: Table) -> usize
+    requires { ⌜ t .count ≤ taskLimit ⌝ }
+    ensures { λ r. ⌜ r ≡ firstButton t ⌝ }
+{
+    let n = t.count;
+    for i in 0..n {
+        if sorts::is_button(t.tasks[i]) {
+            return i;
+        }
+    }
+    n
 }
 
 fn refused(number: u32, place: u32) -> Judgement
@@ -72,7 +102,7 @@ fn task_fault(k: Task) -> u32
     if !within(1, k.deadline, k.cost) {
         return 5;
     }
-    if !within(0, SLOT_LIMIT, k.offset) {
+    if !within(0, SLOT_LIMIT, sorts::offset_of(k)) {
         return 6;
     }
     0
@@ -123,7 +153,7 @@ fn horizon_of(t: Table, round: u64) -> u64
     let n = t.count;
     let mut latest: u64 = 0;
     for i in 0..n {
-        let offset = t.tasks[i].offset as u64;
+        let offset = sorts::offset_of(t.tasks[i]) as u64;
         if offset > latest {
             latest = offset;
         }

@@ -8,4 +8,5 @@ pub mod Loading
 pub mod Admitted
 pub mod Longer
 pub mod Refused
+pub mod Periodic
 pub mod Written

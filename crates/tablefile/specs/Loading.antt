@@ -9,10 +9,10 @@ use Rattle.values.specs.declared.Table.{Table}
 use Rattle.tablefile.specs.declared.Record.{Record}
 use Rattle.values.specs.declared.Admission.{Admission}
 use Rattle.values.specs.declared.Loaded.{Loaded}
-use Rattle.model.specs.Limits.{taskLimit, budgetBytes, taskBytes, longestFile}
+use Rattle.model.specs.Limits.{taskLimit, budgetBytes, longestFile}
 use Rattle.model.specs.TableFile.{tableOf, formOf}
 use Rattle.tablefile.specs.declared.Reading.{Reading}
-use Rattle.tablefile.specs.Reading.{readingAt}
+use Rattle.tablefile.specs.Reading.{recordBytes, readingAt}
 use Rattle.tablefile.specs.Built.{withTask, stored}
 use Rattle.tablefile.specs.Steps.{Reached, first, bounds, Follows, step}
 
@@ -37,7 +37,7 @@ module _ {s : List ℕ} {b : ℕ} {t : Table} {at : ℕ} (l : Loading s b t at) 
   pub has-room : {k : Task} → Reading.Whole (Record.OneTask k) ≡ readingAt s at (t .count) → t .count < taskLimit
   has-room {k} e = rw (l .table) (omega (arith, bounds (follows e), length-append (l .ks) (k ∷ [])))
 
-  pub after-task : {k : Task} → Reading.Whole (Record.OneTask k) ≡ readingAt s at (t .count) → Loading s b (withTask t k) (at + taskBytes)
+  pub after-task : {k : Task} → Reading.Whole (Record.OneTask k) ≡ readingAt s at (t .count) → Loading s b (withTask t k) (at + recordBytes k)
   after-task {k} e =
       record { ks = l .ks ++ (k ∷ []); table = rw (l .table) (stored (l .ks) k (rw (l .table) at (has-room e))); reached = follows e }
 

@@ -9,8 +9,9 @@ use lib.ListN.{getD, length, take}
 use lib.Seq.{length-take-le, take-all, getD-take}
 use Rattle.values.specs.declared.Task.{Task}
 use Rattle.values.specs.declared.Loaded.{Loaded}
-use Rattle.model.specs.Limits.{taskLimit, budgetBytes, taskBytes, longestFile}
-use Rattle.model.specs.TableFile.{four, eight, taskIn, readRecord, readFrom, formOf, judgedForm, loadedFrom}
+use Rattle.model.specs.Limits.{taskLimit, budgetBytes, taskBytes, buttonBytes, longestFile}
+use Rattle.model.specs.Tasks.{judgedMixed}
+use Rattle.model.specs.TableFile.{four, eight, taskIn, buttonIn, refuseFile, whole, readRecord, readFrom, formOf, judgedForm, loadedFrom}
 
 -- Two files of more bytes than the longest legal one, with the same first ones.
 module _ (s s′ : List ℕ) (long : longestFile < length s) (long′ : longestFile < length s′) (same : (i : ℕ) → i ≤ longestFile → getD s i 0 ≡ getD s′ i 0) where
@@ -20,15 +21,21 @@ module _ (s s′ : List ℕ) (long : longestFile < length s) (long′ : longestF
   task-same : (at : ℕ) → at + taskBytes < longestFile → taskIn s (at + 1) ≡ taskIn s′ (at + 1)
   task-same at h = rw (four-same (at + 1) (omega arith), four-same (at + 1 + 4) (omega arith), four-same (at + 1 + 8) (omega arith), four-same (at + 1 + 12) (omega arith))
 
-  record-same : (b : ℕ) (ks : List Task) (at : ℕ) {l l′ : Loaded} → at < longestFile → l ≡ l′ → readRecord s b ks at l ≡ readRecord s′ b ks at l′
-  record-same b ks at h e = rw (lt-leb (length s) at (omega arith), lt-leb (length s′) at (omega arith), lt-ltb (at + 1) (length s) (omega arith), lt-ltb (at + 1) (length s′) (omega arith), same at (omega arith), e)
+  button-same : (at : ℕ) → at + buttonBytes < longestFile → buttonIn s (at + 1) ≡ buttonIn s′ (at + 1)
+  button-same at h = rw (four-same (at + 1) (omega arith), four-same (at + 1 + 4) (omega arith), four-same (at + 1 + 8) (omega arith))
+
+  record-same : (b : ℕ) (ks : List Task) (at : ℕ) (go go′ : ℕ → Task → Loaded) → at < longestFile
+      → go taskBytes (taskIn s (at + 1)) ≡ go′ taskBytes (taskIn s′ (at + 1)) → go buttonBytes (buttonIn s (at + 1)) ≡ go′ buttonBytes (buttonIn s′ (at + 1))
+      → readRecord s b ks at go ≡ readRecord s′ b ks at go′
+  record-same b ks at go go′ h e f = rw (lt-leb (length s) at (omega arith), lt-leb (length s′) at (omega arith), lt-ltb (at + 1) (length s) (omega arith), lt-ltb (at + 1) (length s′) (omega arith), same at (omega arith), e, f)
 
   from-same : (b : ℕ) (ks : List Task) (room at : ℕ) → at + room * taskBytes < longestFile → readFrom s b ks room at ≡ readFrom s′ b ks room at
   unfolding readFrom
-  from-same b ks zero at h = record-same b ks at (omega arith) refl
+  from-same b ks zero at h = record-same b ks at (λ bytes k. refuseFile 25 at) (λ bytes k. refuseFile 25 at) (omega arith) refl refl
   from-same b ks (suc room) at h =
-      record-same b ks at (omega arith)
+      record-same b ks at (λ bytes k. whole s at bytes (readFrom s b (ks ++ (k ∷ [])) room (at + bytes))) (λ bytes k. whole s′ at bytes (readFrom s′ b (ks ++ (k ∷ [])) room (at + bytes))) (omega arith)
       (rw (le-ltb (length s) (at + taskBytes) (omega arith), le-ltb (length s′) (at + taskBytes) (omega arith), task-same at (omega arith)) (from-same b (ks ++ (taskIn s′ (at + 1) ∷ [])) room (at + taskBytes) (omega arith)))
+      (rw (le-ltb (length s) (at + buttonBytes) (omega arith), le-ltb (length s′) (at + buttonBytes) (omega arith), button-same at (omega arith)) (from-same b (ks ++ (buttonIn s′ (at + 1) ∷ [])) room (at + buttonBytes) (omega arith)))
 
   form-same : formOf s ≡ formOf s′
   unfolding formOf
@@ -42,4 +49,4 @@ first-form s = elim (decLe (length s) (suc longestFile)) [
 
 pub first-bytes : (s : List ℕ) → loadedFrom (take (suc longestFile) s) ≡ loadedFrom s
 unfolding loadedFrom
-first-bytes s = ap (λ (l : Loaded). judgedForm l (l .admission)) (first-form s)
+first-bytes s = ap (λ (l : Loaded). judgedForm judgedMixed l (l .admission)) (first-form s)

@@ -1,41 +1,70 @@
 -- The reader takes exactly the files of a budget and tasks: a budget, tasks in their order, the end.
-use mathlib.Core.Path.{_≡_, refl, sym, ap, _∙_}
+use mathlib.Core.Path.{_≡_, refl, sym, ap, subst, _∙_}
 use mathlib.Core.Bool.{Bool, true, false, cond, _||_}
-use mathlib.Core.List.{List, [], _∷_, _++_, append-nil}
+use mathlib.Core.List.{List, [], _∷_, _++_, append-nil, append-assoc}
 use Prim.Native.Nat.{ℕ, zero, suc, _+_, _*_, _/_, _%_, _≤_, _<_}
 use native.Mathlib.Nat.{add-zero}
 use native.Mathlib.Omega.{arith}
 use borrow.Author.Tests.{eqb-true, eqb-false, eq-eqb, ne-eqb, le-ltb, lt-leb, leb-false, ltb-false}
 use lib.Dec.{leb, ltb, eqb}
-use lib.ListN.{length, getD, drop, length-drop, drop-of-length-le}
+use lib.ListN.{length, getD, drop, length-drop, length-append, drop-of-length-le}
 use lib.Seq.{append-snoc, drop-cons, getD-drop, drop-drop}
+use Rattle.values.specs.declared.Sort.{Sort}
 use Rattle.values.specs.declared.Task.{Task}
 use Rattle.values.specs.declared.Admission.{Admission}
 use Rattle.values.specs.declared.Loaded.{Loaded}
-use Rattle.model.specs.Limits.{taskLimit, wordLimit, budgetLimit, budgetBytes, taskBytes}
-use Rattle.model.specs.Tasks.{noTask}
-use Rattle.model.specs.TableFile.{budgetKind, endKind, four, eight, taskIn, refuseFile, admit, whole, worth, readRecord, readFrom, formOf, bytesOf, taskRecord, taskRecords, fileOf}
+use Rattle.model.specs.Limits.{taskLimit, wordLimit, budgetLimit, budgetBytes, taskBytes, buttonBytes}
+use Rattle.model.specs.Tasks.{noTask, buttonSort, isButton, sortOffset, offset}
+use Rattle.model.specs.TableFile.{budgetKind, taskKind, endKind, buttonKind, four, eight, taskIn, buttonIn, refuseFile, admit, whole, readRecord, readFrom, formOf, bytesOf, taskRecord, taskRecords, fileOf}
+use Rattle.tablefile.specs.Reading.{recordSize, recordBytes, bodyIn, record-size}
 use Rattle.tablefile.specs.Part.{task-part}
 use Rattle.words.specs.Word.{word-back, word-fits, word-here}
 
 -- Each number of a task fits a word; and so for each of these tasks.
 abbrev pub Fits32 : Task → Type 0
-Fits32 k = (k .offset < wordLimit) × (k .cost < wordLimit) × (k .deadline < wordLimit) × (k .period < wordLimit)
+Fits32 k = (offset k < wordLimit) × (k .cost < wordLimit) × (k .deadline < wordLimit) × (k .period < wordLimit)
 
 abbrev pub AllFit : List Task → Type 0
 AllFit ks = (i : ℕ) → i < length ks → Fits32 (getD ks i noTask)
 
 -- ---- What is read stands in the file
 
+-- The kind of a task's record, by its sort; and the bytes of the record.
+abbrev kindOf : Bool → ℕ
+kindOf button = cond button buttonKind taskKind
+
+sort-length : (q : Sort) (c d p : ℕ) → length (taskRecord (record { sort = q; cost = c; deadline = d; period = p })) ≡ recordSize (buttonSort q)
+unfolding bytesOf
+sort-length (Sort.Periodic o) c d p = refl
+sort-length Sort.Button c d p = refl
+
+pub record-length : (k : Task) → length (taskRecord k) ≡ recordBytes k
+record-length k = sort-length (k .sort) (k .cost) (k .deadline) (k .period)
+
+pub file-length : (b : ℕ) (ks : List Task) → length (fileOf b ks) ≡ budgetBytes + length (taskRecords ks) + 1
+unfolding bytesOf
+file-length b ks = omega (arith, length-append (taskRecords ks) (endKind ∷ []))
+
+-- No task has more bytes than a periodic one, and so no file more than the longest legal one.
+pub records-le : (ks : List Task) → length (taskRecords ks) ≤ length ks * taskBytes
+unfolding taskRecords
+records-le [] = omega arith
+records-le (k ∷ ks) = omega (arith, records-le ks, length-append (taskRecord k) (taskRecords ks), record-length k, record-size (isButton k))
+
 module _ (s : List ℕ) where
   -- From this place on the file holds these tasks one after another, then the end and nothing more.
   abbrev Stand : ℕ → List Task → Type 0
   Stand at [] = (getD s at 0 ≡ 3) × (length s ≡ at + 1)
-  Stand at (k ∷ ks) = (getD s at 0 ≡ 2) × (taskIn s (at + 1) ≡ k) × Stand (at + taskBytes) ks
+  Stand at (k ∷ ks) = (getD s at 0 ≡ kindOf (isButton k)) × (bodyIn (isButton k) s (at + 1) ≡ k) × Stand (at + recordBytes k) ks
 
-  stand-length : (at : ℕ) (ks : List Task) → Stand at ks → length s ≡ at + length ks * taskBytes + 1
+  stand-body : (button : Bool) (at : ℕ) (ks : List Task) → getD s at 0 ≡ kindOf button → Stand (at + recordSize button) ks → Stand at (bodyIn button s (at + 1) ∷ ks)
+  stand-body true at ks kind rest = (kind, refl, rest)
+  stand-body false at ks kind rest = (kind, refl, rest)
+
+  stand-length : (at : ℕ) (ks : List Task) → Stand at ks → length s ≡ at + length (taskRecords ks) + 1
+  unfolding taskRecords
   stand-length at [] (kind, stop) = omega arith
-  stand-length at (k ∷ ks) (kind, body, rest) = omega (arith, stand-length (at + taskBytes) ks rest)
+  stand-length at (k ∷ ks) (kind, body, rest) = omega (arith, stand-length (at + recordBytes k) ks rest, record-length k, length-append (taskRecord k) (taskRecords ks))
 
   -- If the file is taken, tasks stand from this place on, no more than there is room for, and were read after the tasks ks.
   abbrev Takes : ℕ → List Task → ℕ → ℕ → Loaded → Type 0
@@ -51,35 +80,35 @@ module _ (s : List ℕ) where
       go true = refusal-takes b ks room at 20 place
       go false = h
 
-  record-takes : (b : ℕ) (ks : List Task) (room at : ℕ) (l : Loaded) → (getD s at 0 ≡ 2 → Takes b ks room at l) → Takes b ks room at (readRecord s b ks at l)
-  record-takes b ks room at l task =
-      go (leb (length s) at) (eqb (getD s at 0) 1) (eqb (getD s at 0) 2) (eqb (getD s at 0) 3) (ltb (at + 1) (length s))
-      (leb-false (length s) at) (eqb-true (getD s at 0) 2) (eqb-true (getD s at 0) 3) (ltb-false (at + 1) (length s))
+  record-takes : (b : ℕ) (ks : List Task) (room at : ℕ) (next : ℕ → Task → Loaded)
+      → ((button : Bool) → getD s at 0 ≡ kindOf button → Takes b ks room at (next (recordSize button) (bodyIn button s (at + 1)))) → Takes b ks room at (readRecord s b ks at next)
+  record-takes b ks room at next task =
+      go (leb (length s) at) (eqb (getD s at 0) 1) (eqb (getD s at 0) 2) (eqb (getD s at 0) 4) (eqb (getD s at 0) 3) (ltb (at + 1) (length s))
+      (leb-false (length s) at) (eqb-true (getD s at 0) 2) (eqb-true (getD s at 0) 4) (eqb-true (getD s at 0) 3) (ltb-false (at + 1) (length s))
     where
       refuses : (n p : ℕ) → Takes b ks room at (refuseFile n p)
       refuses = refusal-takes b ks room at
 
-      go : (past budget two three more : Bool)
-          → (past ≡ false → at < length s) → (two ≡ true → getD s at 0 ≡ 2) → (three ≡ true → getD s at 0 ≡ 3) → (more ≡ false → length s ≤ at + 1)
-          → let ended = cond more (refuseFile 24 (at + 1)) (admit b ks) in
-          Takes b ks room at (cond past (refuseFile 26 (length s)) (cond budget (refuseFile 23 at) (cond two l (cond three ended (refuseFile 21 at)))))
-      go true budget two three more inside task-kind end-kind last = refuses 26 (length s)
-      go false true two three more inside task-kind end-kind last = refuses 23 at
-      go false false true three more inside task-kind end-kind last = task (task-kind refl)
-      go false false false true true inside task-kind end-kind last = refuses 24 (at + 1)
-      go false false false true false inside task-kind end-kind last =
+      go : (past budget two four three more : Bool)
+          → (past ≡ false → at < length s) → (two ≡ true → getD s at 0 ≡ 2) → (four ≡ true → getD s at 0 ≡ 4) → (three ≡ true → getD s at 0 ≡ 3) → (more ≡ false → length s ≤ at + 1)
+          → let ended = cond three (cond more (refuseFile 24 (at + 1)) (admit b ks)) (refuseFile 21 at) in
+          Takes b ks room at (cond past (refuseFile 26 (length s)) (cond budget (refuseFile 23 at) (cond two (next taskBytes (taskIn s (at + 1))) (cond four (next buttonBytes (buttonIn s (at + 1))) ended))))
+      go true budget two four three more inside task-kind button-kind end-kind last = refuses 26 (length s)
+      go false true two four three more inside task-kind button-kind end-kind last = refuses 23 at
+      go false false true four three more inside task-kind button-kind end-kind last = task false (task-kind refl)
+      go false false false true three more inside task-kind button-kind end-kind last = task true (button-kind refl)
+      go false false false false true true inside task-kind button-kind end-kind last = refuses 24 (at + 1)
+      go false false false false true false inside task-kind button-kind end-kind last =
           λ h. ([], omega arith, (end-kind refl, omega (arith, inside refl, last refl)), ap (admit b) (sym (append-nil ks)))
-      go false false false false more inside task-kind end-kind last = refuses 21 at
+      go false false false false false more inside task-kind button-kind end-kind last = refuses 21 at
 
   from-takes : (b : ℕ) (ks : List Task) (room at : ℕ) → Takes b ks room at (readFrom s b ks room at)
   unfolding readFrom
-  from-takes b ks zero at = record-takes b ks zero at (refuseFile 25 at) (λ kind. refusal-takes b ks zero at 25 at)
+  from-takes b ks zero at = record-takes b ks zero at (λ bytes k. refuseFile 25 at) (λ button kind. refusal-takes b ks zero at 25 at)
   from-takes b ks (suc room) at =
-      let k = taskIn s (at + 1) in
-      let next = from-takes b (ks ++ (k ∷ [])) room (at + taskBytes) in
-      record-takes b ks (suc room) at _
-      (λ kind. whole-takes b ks (suc room) at at taskBytes _
-      (λ h. let (more, few, stand, same) = next h in (k ∷ more, omega arith, (kind, refl, stand), same ∙ ap (admit b) (append-snoc ks k more))))
+      record-takes b ks (suc room) at (λ bytes k. whole s at bytes (readFrom s b (ks ++ (k ∷ [])) room (at + bytes)))
+      (λ button kind. let k = bodyIn button s (at + 1) in whole-takes b ks (suc room) at at (recordSize button) (readFrom s b (ks ++ (k ∷ [])) room (at + recordSize button))
+      (λ h. let (more, few, stand, same) = from-takes b (ks ++ (k ∷ [])) room (at + recordSize button) h in (k ∷ more, omega arith, stand-body button at more kind stand, same ∙ ap (admit b) (append-snoc ks k more))))
 
   -- If the file is taken, it holds a budget and tasks, and these were read.
   abbrev Holds : Loaded → Type 0
@@ -92,7 +121,7 @@ module _ (s : List ℕ) where
   form-holds : Holds (formOf s)
   unfolding formOf
   form-holds =
-      go (eqb (length s) 0) (eqb (getD s 0 0) 1) (ltb (length s) budgetBytes) (eqb (eight s 1) 0) (eqb (getD s 0 0) 2 || eqb (getD s 0 0) 3)
+      go (eqb (length s) 0) (eqb (getD s 0 0) 1) (ltb (length s) budgetBytes) (eqb (eight s 1) 0) (eqb (getD s 0 0) 2 || (eqb (getD s 0 0) 3 || eqb (getD s 0 0) 4))
       (eqb-true (getD s 0 0) 1) (λ e. omega (arith, eqb-false (eight s 1) 0 e))
     where
       go : (none budget short nothing other : Bool) → (budget ≡ true → getD s 0 0 ≡ 1) → (nothing ≡ false → 0 < eight s 1)
@@ -105,10 +134,12 @@ module _ (s : List ℕ) where
       go false false short nothing true kind some = refusal-holds 22 0
       go false false short nothing false kind some = refusal-holds 21 0
 
-  -- A file of good form has the bytes of a budget, of its tasks, at most `taskLimit`, and of the end.
+  -- A file of good form has the bytes of the file of its budget and tasks, at most `taskLimit`.
   pub form-length : formOf s .admission ≡ Admission.Admitted
-      → (formOf s .table .count ≤ taskLimit) × (length s ≡ budgetBytes + formOf s .table .count * taskBytes + 1)
-  form-length h = let (kind, some, (ks, few, stand, same)) = form-holds h in rw same (few, stand-length budgetBytes ks stand)
+      → (ks : List Task) × (length ks ≤ taskLimit) × (formOf s ≡ admit (formOf s .budget) ks) × (length s ≡ length (fileOf (formOf s .budget) ks))
+  form-length h =
+      let (kind, some, (ks, few, stand, same)) = form-holds h in
+      (ks, few, rw same, omega (arith, stand-length budgetBytes ks stand, file-length (formOf s .budget) ks))
 
   -- A whole budget of 0 is refused, whatever follows it.
   pub nothing-read : getD s 0 0 ≡ budgetKind → budgetBytes ≤ length s → eight s 1 ≡ 0 → formOf s ≡ refuseFile 27 0
@@ -118,18 +149,23 @@ module _ (s : List ℕ) where
 
   -- ---- What stands in the file is read
 
-  end-read : (b : ℕ) (ks : List Task) (at : ℕ) (l : Loaded) → Stand at [] → readRecord s b ks at l ≡ admit b (ks ++ [])
-  end-read b ks at l (kind, stop) = rw (lt-leb (length s) at (omega arith), kind, le-ltb (at + 1) (length s) (omega arith), append-nil ks)
+  end-read : (b : ℕ) (ks : List Task) (at : ℕ) (next : ℕ → Task → Loaded) → Stand at [] → readRecord s b ks at next ≡ admit b (ks ++ [])
+  end-read b ks at next (kind, stop) = rw (lt-leb (length s) at (omega arith), kind, le-ltb (at + 1) (length s) (omega arith), append-nil ks)
+
+  task-read : (b : ℕ) (ks : List Task) (at : ℕ) (button : Bool) (next : ℕ → Task → Loaded) → at < length s → getD s at 0 ≡ kindOf button
+      → readRecord s b ks at next ≡ next (recordSize button) (bodyIn button s (at + 1))
+  task-read b ks at true next inside kind = rw (lt-leb (length s) at (omega arith), kind)
+  task-read b ks at false next inside kind = rw (lt-leb (length s) at (omega arith), kind)
 
   stand-read : (b : ℕ) (ks : List Task) (room at : ℕ) (more : List Task) → Stand at more → length more ≤ room → readFrom s b ks room at ≡ admit b (ks ++ more)
   unfolding readFrom
-  stand-read b ks zero at [] stand few = end-read b ks at _ stand
-  stand-read b ks (suc room) at [] stand few = end-read b ks at _ stand
+  stand-read b ks zero at [] stand few = end-read b ks at (λ bytes j. refuseFile 25 at) stand
+  stand-read b ks (suc room) at [] stand few = end-read b ks at (λ bytes j. whole s at bytes (readFrom s b (ks ++ (j ∷ [])) room (at + bytes))) stand
   stand-read b ks zero at (k ∷ more) stand few = absurd (omega arith)
   stand-read b ks (suc room) at (k ∷ more) (kind, body, rest) few =
-      let size = stand-length (at + taskBytes) more rest in
-      rw (lt-leb (length s) at (omega arith), kind, le-ltb (length s) (at + taskBytes) (omega arith), body)
-      (stand-read b (ks ++ (k ∷ [])) room (at + taskBytes) more rest (omega arith) ∙ ap (admit b) (append-snoc ks k more))
+      task-read b ks at (isButton k) (λ bytes j. whole s at bytes (readFrom s b (ks ++ (j ∷ [])) room (at + bytes))) (omega (arith, stand-length (at + recordBytes k) more rest)) kind
+      ∙ rw (le-ltb (length s) (at + recordBytes k) (omega (arith, stand-length (at + recordBytes k) more rest)), body)
+      (stand-read b (ks ++ (k ∷ [])) room (at + recordBytes k) more rest (omega arith) ∙ ap (admit b) (append-snoc ks k more))
 
   form-read : (ks : List Task) → length ks ≤ taskLimit → getD s 0 0 ≡ 1 → 0 < eight s 1 → Stand budgetBytes ks → formOf s ≡ admit (eight s 1) ks
   unfolding formOf
@@ -140,9 +176,24 @@ module _ (s : List ℕ) where
 
 -- ---- What is written is read
 
-task-back : (k : Task) (rest : List ℕ) → Fits32 k → taskIn (drop 1 (taskRecord k ++ rest)) 0 ≡ k
-unfolding bytesOf
-task-back k rest (o, c, d, t) = rw (word-back (k .offset) o, word-back (k .cost) c, word-back (k .deadline) d, word-back (k .period) t)
+-- A task of this sort and these numbers; what stands in front of its record, and behind its kind.
+module _ (c d p : ℕ) (rest : List ℕ) where
+  abbrev sorted : Sort → Task
+  sorted q = record { sort = q; cost = c; deadline = d; period = p }
+
+  sort-kind : (q : Sort) → getD (taskRecord (sorted q) ++ rest) 0 0 ≡ kindOf (buttonSort q)
+  sort-kind (Sort.Periodic o) = refl
+  sort-kind Sort.Button = refl
+
+  sort-behind : (q : Sort) → drop (recordSize (buttonSort q)) (taskRecord (sorted q) ++ rest) ≡ rest
+  unfolding bytesOf
+  sort-behind (Sort.Periodic o) = refl
+  sort-behind Sort.Button = refl
+
+  sort-back : (q : Sort) → Fits32 (sorted q) → bodyIn (buttonSort q) (drop 1 (taskRecord (sorted q) ++ rest)) 0 ≡ sorted q
+  unfolding bytesOf
+  sort-back (Sort.Periodic o) (a, b, e, t) = rw (word-back o a, word-back c b, word-back d e, word-back p t)
+  sort-back Sort.Button (a, b, e, t) = rw (word-back c b, word-back d e, word-back p t)
 
 module _ (s : List ℕ) (at : ℕ) where
   kind-at : {r : List ℕ} → drop at s ≡ r → getD s at 0 ≡ getD r 0 0
@@ -155,9 +206,13 @@ written-stands : (s : List ℕ) (at : ℕ) (ks : List Task) → AllFit ks → dr
 unfolding bytesOf taskRecords
 written-stands s at [] fits e = (kind-at s at e, omega (arith, length-drop at s, ap (λ (r : List ℕ). length r) e))
 written-stands s at (k ∷ ks) fits e =
-    let body : taskIn s (at + 1) ≡ taskIn (drop 1 (taskRecords (k ∷ ks) ++ (endKind ∷ []))) 0 = sym (task-part s (at + 1)) ∙ ap (λ (r : List ℕ). taskIn r 0) (behind s at 1 e) in
-    let task : taskIn s (at + 1) ≡ k = body ∙ task-back k (taskRecords ks ++ (endKind ∷ [])) (fits 0 (omega arith)) in
-    (kind-at s at e, task, written-stands s (at + taskBytes) ks (λ i l. fits (suc i) (omega arith)) (behind s at taskBytes e))
+    let rest = taskRecords ks ++ (endKind ∷ []) in
+    let here : drop at s ≡ taskRecord k ++ rest = e ∙ append-assoc (taskRecord k) (taskRecords ks) (endKind ∷ []) in
+    let body : bodyIn (isButton k) s (at + 1) ≡ bodyIn (isButton k) (drop 1 (taskRecord k ++ rest)) 0 = sym (task-part (isButton k) s (at + 1)) ∙ ap (λ (r : List ℕ). bodyIn (isButton k) r 0) (behind s at 1 here) in (
+      kind-at s at here ∙ sort-kind (k .cost) (k .deadline) (k .period) rest (k .sort),
+      body ∙ sort-back (k .cost) (k .deadline) (k .period) rest (k .sort) (fits 0 (omega arith)),
+      written-stands s (at + recordBytes k) ks (λ i l. fits (suc i) (omega arith)) (behind s at (recordBytes k) here ∙ sort-behind (k .cost) (k .deadline) (k .period) rest (k .sort)),
+    )
 
 pub written-read : (b : ℕ) (ks : List Task) → 0 < b → b < budgetLimit → AllFit ks → length ks ≤ taskLimit
     → formOf (fileOf b ks) ≡ admit b ks
@@ -171,16 +226,24 @@ written-read b ks some limit fits few =
 -- ---- What is read was written
 
 module _ (s : List ℕ) (bytes : (i : ℕ) → getD s i 0 < 256) where
+  body-fits : (button : Bool) (at : ℕ) → Fits32 (bodyIn button s at)
+  body-fits true at = let fits = word-fits s bytes in (omega arith, fits at, fits (at + 4), fits (at + 8))
+  body-fits false at = let fits = word-fits s bytes in (fits at, fits (at + 4), fits (at + 8), fits (at + 12))
+
   stand-fits : (at : ℕ) (ks : List Task) → Stand s at ks → AllFit ks
   stand-fits at [] stand i l = absurd (omega arith)
-  stand-fits at (k ∷ ks) (kind, body, rest) zero l =
-      let fits = word-fits s bytes in
-      rw (← body) (fits (at + 1), fits (at + 1 + 4), fits (at + 1 + 8), fits (at + 1 + 12))
-  stand-fits at (k ∷ ks) (kind, body, rest) (suc i) l = stand-fits (at + taskBytes) ks rest i (omega arith)
+  stand-fits at (k ∷ ks) (kind, body, rest) zero l = subst Fits32 body (body-fits (isButton k) (at + 1))
+  stand-fits at (k ∷ ks) (kind, body, rest) (suc i) l = stand-fits (at + recordBytes k) ks rest i (omega arith)
 
-  task-written : (at : ℕ) → getD s at 0 ≡ 2 → at + taskBytes ≤ length s → drop at s ≡ taskRecord (taskIn s (at + 1)) ++ drop (at + taskBytes) s
+  task-written : (button : Bool) (at : ℕ) → getD s at 0 ≡ kindOf button → at + recordSize button ≤ length s → drop at s ≡ taskRecord (bodyIn button s (at + 1)) ++ drop (at + recordSize button) s
   unfolding bytesOf
-  task-written at kind h =
+  task-written true at kind h =
+      let body : suc at ≡ at + 1 = omega arith in
+      let cost = word-here s bytes (at + 1) (at + 1 + 4) refl (omega arith) in
+      let deadline = word-here s bytes (at + 1 + 4) (at + 1 + 8) (omega arith) (omega arith) in
+      let spacing = word-here s bytes (at + 1 + 8) (at + buttonBytes) (omega arith) (omega arith) in
+      rw (drop-cons s at 0 (omega arith), kind, body, cost, deadline, spacing)
+  task-written false at kind h =
       let body : suc at ≡ at + 1 = omega arith in
       let offset = word-here s bytes (at + 1) (at + 1 + 4) refl (omega arith) in
       let cost = word-here s bytes (at + 1 + 4) (at + 1 + 8) (omega arith) (omega arith) in
@@ -194,10 +257,11 @@ module _ (s : List ℕ) (bytes : (i : ℕ) → getD s i 0 < 256) where
       let none : drop (suc at) s ≡ [] = drop-of-length-le s {i = suc at} (omega arith) in
       rw (drop-cons s at 0 (omega arith), kind, none)
   stand-written at (k ∷ ks) (kind, body, rest) =
-      let size = stand-length s (at + taskBytes) ks rest in
-      task-written at kind (omega arith)
-      ∙ ap (λ (t : Task). taskRecord t ++ drop (at + taskBytes) s) body
-      ∙ ap (λ (r : List ℕ). taskRecord k ++ r) (stand-written (at + taskBytes) ks rest)
+      let size = stand-length s (at + recordBytes k) ks rest in
+      task-written (isButton k) at kind (omega arith)
+      ∙ ap (λ (t : Task). taskRecord t ++ drop (at + recordBytes k) s) body
+      ∙ ap (λ (r : List ℕ). taskRecord k ++ r) (stand-written (at + recordBytes k) ks rest)
+      ∙ sym (append-assoc (taskRecord k) (taskRecords ks) (endKind ∷ []))
 
   file-written : (ks : List Task) → getD s 0 0 ≡ 1 → Stand s budgetBytes ks → s ≡ fileOf (eight s 1) ks
   unfolding bytesOf

@@ -3,6 +3,7 @@ use values::Admission;
 use values::Judgement;
 use values::Loaded;
 use values::Refusal;
+use values::Sort;
 use values::TASK_LIMIT;
 use values::Table;
 use values::Task;
@@ -11,8 +12,8 @@ ghost use mathlib.Core.List.{[]};
 ghost use Prim.Native.Nat.{_+_, _<_, _≤_};
 ghost use lib.ListN.{length};
 ghost use Rattle.model.specs.Limits.{longestFile};
-ghost use Rattle.model.specs.TableFile.{taskIn, tableOf, refuseFile, formOf, loadedFrom};
-ghost use Rattle.tablefile.specs.Reading.{taskBody, refused, budgetReading, taskReading, endReading, readingAt};
+ghost use Rattle.model.specs.TableFile.{tableOf, refuseFile, formOf, loadedFrom, periodicFrom};
+ghost use Rattle.tablefile.specs.Reading.{bodyBytes, recordBytes, bodyIn, refused, budgetReading, taskReading, endReading, readingAt};
 
 pub const BUDGET: u8 = 1;
 
@@ -20,9 +21,13 @@ pub const TASK: u8 = 2;
 
 pub const END: u8 = 3;
 
+pub const BUTTON: u8 = 4;
+
 const BUDGET_BODY: usize = 8;
 
 const TASK_BODY: usize = 16;
+
+const BUTTON_BODY: usize = 12;
 
 pub const BUDGET_BYTES: usize = 1 + BUDGET_BODY;
 
@@ -44,7 +49,7 @@ const NO_END: u32 = 26;
 
 const NOTHING: u32 = 27;
 
-// A record is a budget, a task or the end, with its numbers.
+// A record is a budget, a task of either sort or the end, with its numbers.
 pub enum Record {
     Budget(u64),
     OneTask(Task),
@@ -57,17 +62,41 @@ pub enum Reading {
     Whole(Record),
 }
 
-// A cast by a function of its own: who reads a word has nothing to show of its width.
-fn task_in(body: &[u8]) -> Task
-    requires { ⌜ taskBody ≤ length (now body) ⌝ }
-    ensures { λ r. ⌜ r ≡ taskIn (now (body .entry)) 0 ⌝ }
+// A button's body is a task's without the offset.
+fn body_bytes(button: bool) -> usize
+    ensures { λ r. ⌜ r ≡ bodyBytes button ⌝ }
 {
+    if button {
+        return BUTTON_BODY;
+    }
+    TASK_BODY
+}
+
+fn task_in(button: bool, body: &[u8]) -> Task
+    requires { ⌜ bodyBytes button ≤ length (now body) ⌝ }
+    ensures { λ r. ⌜ r ≡ bodyIn button (now (body .entry)) 0 ⌝ }
+{
+    if button {
+        return Task {
+            sort: Sort::Button,
+            cost: words::word_at(body, 0),
+            deadline: words::word_at(body, 4),
+            period: words::word_at(body, 8),
+        };
+    }
     Task {
-        offset: words::word_at(body, 0),
+        sort: Sort::Periodic(words::word_at(body, 0)),
         cost: words::word_at(body, 4),
         deadline: words::word_at(body, 8),
         period: words::word_at(body, 12),
     }
+}
+
+// The kind and the body.
+pub fn record_bytes(task: Task) -> usize
+    ensures { λ r. ⌜ r ≡ recordBytes task ⌝ }
+{
+    1 + body_bytes(sorts::is_button(task))
 }
 
 // Reading stops within the longest legal file, so a place fits a refusal whatever the file's length.
@@ -98,9 +127,9 @@ fn budget_reading(rest: &[u8], at: usize) -> Reading
     Reading::Whole(Record::Budget(budget))
 }
 
-fn task_reading(rest: &[u8], at: usize, count: usize) -> Reading
+fn task_reading(button: bool, rest: &[u8], at: usize, count: usize) -> Reading
     requires { ⌜ at < longestFile ⌝ }
-    ensures { λ r. ⌜ r ≡ taskReading (now (rest .entry)) at count ⌝ }
+    ensures { λ r. ⌜ r ≡ taskReading button (now (rest .entry)) at count ⌝ }
 {
     if at == 0 {
         return refusal(NO_BUDGET, at);
@@ -108,10 +137,10 @@ fn task_reading(rest: &[u8], at: usize, count: usize) -> Reading
     if TASK_LIMIT <= count {
         return refusal(ONE_TASK_TOO_MANY, at);
     }
-    if rest.len() < TASK_BODY {
+    if rest.len() < body_bytes(button) {
         return refusal(CUT_SHORT, at);
     }
-    Reading::Whole(Record::OneTask(task_in(rest)))
+    Reading::Whole(Record::OneTask(task_in(button, rest)))
 }
 
 fn end_reading(rest: &[u8], at: usize) -> Reading
@@ -142,7 +171,8 @@ fn reading_at(file: &[u8], at: usize, count: usize) -> Reading
     let rest = &file[from..];
     match file[at] {
         BUDGET => budget_reading(rest, at),
-        TASK => task_reading(rest, at, count),
+        TASK => task_reading(false, rest, at, count),
+        BUTTON => task_reading(true, rest, at, count),
         END => end_reading(rest, at),
         _ => refusal(UNKNOWN_KIND, at),
     }
@@ -152,7 +182,7 @@ pub fn no_tasks() -> Table
     ensures { λ r. ⌜ r ≡ tableOf [] ⌝ }
 {
     let none = Task {
-        offset: 0,
+        sort: Sort::Periodic(0),
         cost: 0,
         deadline: 0,
         period: 0,
@@ -195,7 +225,7 @@ pub fn form_of(file: &[u8]) -> Loaded
                     let count = table.count;
                     table.tasks[count] = task;
                     table.count = count + 1;
-                    at = at + TASK_BYTES;
+                    at = at + record_bytes(task);
                 }
                 Record::End => {
                     return Loaded {
@@ -216,9 +246,24 @@ pub fn load(file: &[u8]) -> Loaded
     let admission = form.admission;
     match admission {
         Admission::Refused(_) => form,
-        Admission::Admitted => match table::judge(form.table) {
+        Admission::Admitted => match table::judge_mixed(form.table) {
             Judgement::Refused(why) => refused_file(why),
             Judgement::WellFormed(_) => form,
+        },
+    }
+}
+
+// Where only periodic tasks are allowed: refused by 11 too.
+pub fn load_periodic(file: &[u8]) -> Loaded
+    ensures { λ r. ⌜ r ≡ periodicFrom (now (file .entry)) ⌝ }
+{
+    let loaded = load(file);
+    let admission = loaded.admission;
+    match admission {
+        Admission::Refused(_) => loaded,
+        Admission::Admitted => match table::judge(loaded.table) {
+            Judgement::Refused(button) => refused_file(button),
+            Judgement::WellFormed(_) => loaded,
         },
     }
 }

@@ -1,12 +1,13 @@
 // Document 01's tables, and the means to write others.
 use std::num::wrapping_add_u32;
+use values::Sort;
 use values::TASK_LIMIT;
 use values::Table;
 use values::Task;
 
 pub fn task(offset: u32, cost: u32, deadline: u32, period: u32) -> Task {
     Task {
-        offset,
+        sort: Sort::Periodic(offset),
         cost,
         deadline,
         period,

@@ -15,9 +15,15 @@ pub const STATE_BYTES: usize = 4 * (TASK_LIMIT + TASK_LIMIT + 4) + 8 * (TASK_LIM
 
 pub const SLOT_COUNT_LIMIT: u64 = 0xffff_ffff_ffff_ffff;
 
-// A task: the first release, the slots of each job, the deadline after each release, and the period.
+// How the jobs of a task come: from an offset on, every period, or as a button is pressed, with no offset at all.
+pub enum Sort {
+    Periodic(u32),
+    Button,
+}
+
+// A task: its sort, the slots of each job, the deadline after each release, and the period, which is a button's least spacing.
 pub struct Task {
-    pub offset: u32,
+    pub sort: Sort,
     pub cost: u32,
     pub deadline: u32,
     pub period: u32,

@@ -11,7 +11,7 @@ use lib.ListN.{length, List·getD-eq-default}
 use Rattle.values.specs.declared.Task.{Task}
 use Rattle.values.specs.declared.Table.{Table}
 use Rattle.model.specs.Limits.{taskLimit, slotLimit}
-use Rattle.model.specs.Tasks.{noTask, task, within, taskFault, firstFaulty}
+use Rattle.model.specs.Tasks.{noTask, task, offset, within, taskFault, firstFaulty}
 use Rattle.counting.specs.Count.{and-iff}
 use Rattle.counting.specs.Search.{first-before, first-none}
 
@@ -23,7 +23,7 @@ pub record InRange (k : Task) : Type 0 where
   pub deadline-le : k .deadline ≤ k .period
   pub cost-pos : 1 ≤ k .cost
   pub cost-le : k .cost ≤ k .deadline
-  pub offset-le : k .offset ≤ slotLimit
+  pub offset-le : offset k ≤ slotLimit
 
 -- A table has a task, not too many, and each keeps its ranges.
 pub record Ranged (t : Table) : Type 0 where
@@ -63,7 +63,7 @@ faultless k e =
     let (period, e₁) = kept (within 1 slotLimit (k .period)) 2 e in
     let (deadline, e₂) = kept (within 1 (k .period) (k .deadline)) 3 e₁ in
     let (cost, e₃) = kept (within 1 (k .deadline) (k .cost)) 4 e₂ in
-    let (offset, none) = kept (within 0 slotLimit (k .offset)) 5 e₃ in
+    let (start, none) = kept (within 0 slotLimit (offset k)) 5 e₃ in
     let p = within-iff 1 slotLimit (k .period) .0 period in
     let d = within-iff 1 (k .period) (k .deadline) .0 deadline in
     let c = within-iff 1 (k .deadline) (k .cost) .0 cost in
@@ -74,7 +74,7 @@ faultless k e =
       deadline-le = d .1;
       cost-pos = c .0;
       cost-le = c .1;
-      offset-le = within-iff 0 slotLimit (k .offset) .0 offset .1;
+      offset-le = within-iff 0 slotLimit (offset k) .0 start .1;
     }
 
 -- A task that keeps its ranges has no fault.
@@ -85,7 +85,7 @@ no-fault k r =
       kept-test (within 1 slotLimit (k .period)) 3 (within-iff 1 slotLimit (k .period) .1 (r .period-pos, r .period-le)),
       kept-test (within 1 (k .period) (k .deadline)) 4 (within-iff 1 (k .period) (k .deadline) .1 (r .deadline-pos, r .deadline-le)),
       kept-test (within 1 (k .deadline) (k .cost)) 5 (within-iff 1 (k .deadline) (k .cost) .1 (r .cost-pos, r .cost-le)),
-      kept-test (within 0 slotLimit (k .offset)) 6 (within-iff 0 slotLimit (k .offset) .1 (omega arith, r .offset-le)),
+      kept-test (within 0 slotLimit (offset k)) 6 (within-iff 0 slotLimit (offset k) .1 (omega arith, r .offset-le)),
     )
 
 -- The test by which the model looks for a faulty task.

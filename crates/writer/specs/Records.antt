@@ -1,48 +1,59 @@
 -- The records of a file, put one after another: their lengths, and the turn of the loop over the tasks.
-use mathlib.Core.Path.{_≡_, refl, _∙_}
+use mathlib.Core.Path.{_≡_, refl}
 use mathlib.Core.List.{List, [], _∷_, _++_, append-nil, append-assoc}
 use mathlib.Core.Logic.{_≢_}
-use Prim.Native.Nat.{ℕ, _+_, _*_, _≤_, _<_}
+use Prim.Native.Nat.{ℕ, zero, suc, _+_, _≤_, _<_}
 use native.Mathlib.Numerals.{add-one}
 use native.Mathlib.Omega.{arith}
 use borrow.Author.Tests.{eq-eqb, ne-eqb, lt-ltb, le-ltb}
 use lib.ListN.{length, getD, take, length-append}
-use lib.Seq.{length-take-le, take-suc, sets-eq}
+use lib.Seq.{take-suc, sets-eq}
+use Rattle.values.specs.declared.Sort.{Sort}
 use Rattle.values.specs.declared.Task.{Task}
 use Rattle.values.specs.declared.Table.{Table}
 use Rattle.values.specs.declared.Writing.{Writing}
-use Rattle.model.specs.Limits.{budgetBytes, taskBytes}
+use Rattle.model.specs.Limits.{budgetBytes}
 use Rattle.model.specs.Values.{refusal}
-use Rattle.model.specs.Tasks.{noTask}
-use Rattle.model.specs.TableFile.{bytesOf, taskRecord, taskRecords, fileOf}
+use Rattle.model.specs.Tasks.{noTask, buttonSort}
+use Rattle.model.specs.TableFile.{sortBytes, taskRecord, taskRecords}
 use Rattle.model.specs.Writer.{Filled, fitted, budgeted, tasksOf}
 use Rattle.counting.specs.Put.{Put, join}
+use Rattle.tablefile.specs.Reading.{recordSize, recordBytes}
+use Rattle.tablefile.specs.Written.{record-length}
 
 -- What a writer said and what the buffer then holds, as the model has them.
 abbrev pub filled : Writing → List ℕ → Filled
 filled w l = record { said = w; buffer = l }
 
--- The bytes of a file of n tasks.
-abbrev pub fileBytes : ℕ → ℕ
-fileBytes n = budgetBytes + n * taskBytes + 1
+-- Behind the sort of a task stand three words.
+pub sort-size : (q : Sort) → length (sortBytes q) + 12 ≡ recordSize (buttonSort q)
+sort-size (Sort.Periodic o) = refl
+sort-size Sort.Button = refl
 
-pub records-length : (ks : List Task) → length (taskRecords ks) ≡ length ks * taskBytes
-unfolding taskRecords bytesOf
-records-length [] = refl
-records-length (k ∷ ks) = omega (arith, records-length ks)
+-- The bytes of a table's tasks, and of its file.
+abbrev pub recordsBytes : Table → ℕ
+recordsBytes t = length (taskRecords (tasksOf t))
 
-pub file-length : (b : ℕ) (ks : List Task) → length (fileOf b ks) ≡ fileBytes (length ks)
-unfolding bytesOf
-file-length b ks = omega (arith, length-append (taskRecords ks) (3 ∷ []), records-length ks)
+abbrev pub fileBytes : Table → ℕ
+fileBytes t = budgetBytes + recordsBytes t + 1
 
--- The file of a table that holds all the tasks that it counts.
-pub table-length : (b : ℕ) (t : Table) → t .count ≤ length (t .tasks) → length (fileOf b (tasksOf t)) ≡ fileBytes (t .count)
-table-length b t h = file-length b (tasksOf t) ∙ rw (length-take-le (t .count) (t .tasks) h)
+-- More tasks have no fewer bytes.
+pub records-more : (ks : List Task) (i n : ℕ) → i ≤ n → length (taskRecords (take i ks)) ≤ length (taskRecords (take n ks))
+unfolding taskRecords
+records-more ks zero n h = omega arith
+records-more [] (suc i) (suc n) h = omega arith
+records-more (k ∷ ks) (suc i) (suc n) h =
+    omega (arith, records-more ks i n (omega arith), length-append (taskRecord k) (taskRecords (take i ks)), length-append (taskRecord k) (taskRecords (take n ks)))
 
 records-append : (ks : List Task) (k : Task) → taskRecords (ks ++ (k ∷ [])) ≡ taskRecords ks ++ taskRecord k
 unfolding taskRecords
 records-append [] k = append-nil (taskRecord k)
 records-append (x ∷ ks) k = simp (records-append ks k, append-assoc)
+
+-- One task more has its own bytes more.
+pub records-step : (ks : List Task) (i : ℕ) → i < length ks → length (taskRecords (take (i + 1) ks)) ≡ length (taskRecords (take i ks)) + recordBytes (getD ks i noTask)
+records-step ks i h =
+    rw (add-one i, take-suc ks i noTask, records-append (take i ks) (getD ks i noTask)) (omega (arith, length-append (taskRecords (take i ks)) (taskRecord (getD ks i noTask)), record-length (getD ks i noTask)))
 
 -- A turn of the loop that puts the tasks.
 pub one-more : (ks : List Task) (i : ℕ) {before between after : List ℕ} {at middle next : ℕ} → i < length ks

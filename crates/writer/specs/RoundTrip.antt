@@ -17,11 +17,11 @@ use Rattle.values.specs.declared.Admission.{Admission}
 use Rattle.values.specs.declared.Loaded.{Loaded}
 use Rattle.values.specs.declared.Writing.{Writing}
 use Rattle.model.specs.Limits.{taskLimit, budgetLimit}
-use Rattle.model.specs.Tasks.{noTask, task, measure, judged}
+use Rattle.model.specs.Tasks.{noTask, task, measure, judgedMixed}
 use Rattle.model.specs.TableFile.{tableOf, admit, fileOf, judgedForm, formOf, loadedFrom}
-use Rattle.model.specs.Writer.{Filled, unwritten, fitted, budgeted, tasksOf, fileWritten, writtenBy}
+use Rattle.model.specs.Writer.{unwritten, fitted, budgeted, tasksOf, fileWritten, writtenBy}
 use Rattle.wellformed.specs.Ranges.{Ranged, holds-all}
-use Rattle.wellformed.specs.WellFormed.{well-formed, same-well-formed}
+use Rattle.wellformed.specs.WellFormed.{well-mixed, same-well-formed}
 use Rattle.tablefile.specs.Admitted.{admitted}
 use Rattle.tablefile.specs.Written.{AllFit, written-read, read-written}
 
@@ -36,9 +36,9 @@ ranged-fit t r i l =
     let k = r .each i (omega arith) in
     rw (getD-take (t .count) (t .tasks) i noTask (omega arith)) (omega (arith, k .offset-le), omega (arith, k .cost-le, k .deadline-le, k .period-le), omega (arith, k .deadline-le, k .period-le), omega (arith, k .period-le))
 
-module _ (t : Table) (m : Measure) (b : ℕ) (well : judged t ≡ Judgement.WellFormed m) where
+module _ (t : Table) (m : Measure) (b : ℕ) (well : judgedMixed t ≡ Judgement.WellFormed m) where
   ranged : Ranged t
-  ranged = well-formed t m well .ranged
+  ranged = well-mixed t m well .ranged
 
   size : length (tasksOf t) ≡ t .count
   size = length-take-le (t .count) (t .tasks) (holds-all t ranged)
@@ -48,13 +48,13 @@ module _ (t : Table) (m : Measure) (b : ℕ) (well : judged t ≡ Judgement.Well
   few-and-fit = (omega (arith, size, ranged .few), ranged-fit t ranged)
 
   -- A table of these tasks is well-formed too.
-  pub tasks-well-formed : judged (tableOf (tasksOf t)) ≡ Judgement.WellFormed (measure (tableOf (tasksOf t)))
+  pub tasks-well-formed : judgedMixed (tableOf (tasksOf t)) ≡ Judgement.WellFormed (measure (tableOf (tasksOf t)))
   tasks-well-formed =
       let same : (i : ℕ) → i < t .count → task (tableOf (tasksOf t)) i ≡ task t i = λ i l. List·getD-append (tasksOf t) _ noTask i (omega (arith, size)) ∙ getD-take (t .count) (t .tasks) i noTask l in
       same-well-formed t (tableOf (tasksOf t)) m size same well
 
   -- What has a form that holds this budget and these tasks is loaded as such.
-  pub formed-loads : {l : Loaded} → l ≡ admit b (tasksOf t) → judgedForm l (l .admission) ≡ admit b (tasksOf t)
+  pub formed-loads : {l : Loaded} → l ≡ admit b (tasksOf t) → judgedForm judgedMixed l (l .admission) ≡ admit b (tasksOf t)
   formed-loads e = rw (e, tasks-well-formed)
 
   -- The file of a well-formed table and a budget is loaded as this budget and these tasks.
@@ -84,9 +84,9 @@ budgeted-front b bytes buffer n = go (eqb b 0) (eqb-false b 0)
 pub written-loads : (t : Table) (b : ℕ) (buffer : List ℕ) (n : ℕ) → b < budgetLimit → fileWritten t b buffer .said ≡ Writing.Bytes n
     → loadedFrom (take n (fileWritten t b buffer .buffer)) ≡ admit b (tasksOf t)
 unfolding fileWritten
-written-loads t b buffer n limit = go (judged t) refl
+written-loads t b buffer n limit = go (judgedMixed t) refl
   where
-    go : (j : Judgement) → judged t ≡ j → writtenBy b (fileOf b (tasksOf t)) buffer j .said ≡ Writing.Bytes n → loadedFrom (take n (writtenBy b (fileOf b (tasksOf t)) buffer j .buffer)) ≡ admit b (tasksOf t)
+    go : (j : Judgement) → judgedMixed t ≡ j → writtenBy b (fileOf b (tasksOf t)) buffer j .said ≡ Writing.Bytes n → loadedFrom (take n (writtenBy b (fileOf b (tasksOf t)) buffer j .buffer)) ≡ admit b (tasksOf t)
     go (Judgement.Refused r) well e = let z : _≡_ {A = ℕ} 0 1 = cc in absurd (omega arith)
     go (Judgement.WellFormed m) well e =
         let (some, front) = budgeted-front b (fileOf b (tasksOf t)) buffer n e in
@@ -96,7 +96,7 @@ written-loads t b buffer n limit = go (judged t) refl
 pub loaded-file : (file : List ℕ) → ((i : ℕ) → getD file i 0 < 256) → loadedFrom file .admission ≡ Admission.Admitted
     → let l = loadedFrom file in
     (0 < l .budget) × (l .budget < budgetLimit) × (fileOf (l .budget) (tasksOf (l .table)) ≡ file)
-    × ((m : Measure) × (judged (l .table) ≡ Judgement.WellFormed m))
+    × ((m : Measure) × (judgedMixed (l .table) ≡ Judgement.WellFormed m))
 loaded-file file bytes h =
     let (same, well) = admitted file h in
     let (some, limit, (ks, few, fit, whole, held)) = read-written file bytes (ap (λ (l : Loaded). l .admission) (sym same) ∙ h) in

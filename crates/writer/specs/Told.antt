@@ -9,6 +9,7 @@ use native.Mathlib.Omega.{arith}
 use borrow.Author.Tests.{ne-eqb, lt-ltb, le-ltb, ltb-true}
 use lib.Dec.{ltb, eqb, lit<}
 use lib.ListN.{length, getD, drop, replicate, length-replicate}
+use lib.Seq.{length-take-le}
 use Rattle.values.specs.declared.Table.{Table}
 use Rattle.values.specs.declared.Refusal.{Refusal}
 use Rattle.values.specs.declared.Measure.{Measure}
@@ -16,7 +17,7 @@ use Rattle.values.specs.declared.Judgement.{Judgement}
 use Rattle.values.specs.declared.Admission.{Admission}
 use Rattle.values.specs.declared.Writing.{Writing}
 use Rattle.model.specs.Limits.{taskLimit, longestFile}
-use Rattle.model.specs.Tasks.{noTask, task, judged}
+use Rattle.model.specs.Tasks.{noTask, task, judgedMixed}
 use Rattle.model.specs.TableFile.{fileOf, loadedFrom}
 use Rattle.model.specs.Report.{Exported, refused}
 use Rattle.model.specs.Values.{refusal}
@@ -24,27 +25,27 @@ use Rattle.model.specs.Writer.{unwritten, fitted, budgeted, tasksOf, fileWritte
 use Rattle.counting.specs.Search.{first-is, first-none}
 use Rattle.counting.specs.Fill.{fill-passed}
 use Rattle.wellformed.specs.Ranges.{Ranged, holds-all}
-use Rattle.wellformed.specs.WellFormed.{well-formed}
-use Rattle.wellformed.specs.Refused.{Tellable, JudgementTellable, judged-tellable}
-use Rattle.writer.specs.Records.{table-length}
+use Rattle.wellformed.specs.WellFormed.{well-mixed}
+use Rattle.wellformed.specs.Refused.{Tellable, JudgementTellable, mixed-tellable}
+use Rattle.tablefile.specs.Written.{file-length, records-le}
 use Rattle.writer.specs.RoundTrip as round
 
 -- The file of a table that keeps its ranges is no longer than the longest legal file.
 short-file : (t : Table) (b : ℕ) → Ranged t → length (fileOf b (tasksOf t)) ≤ longestFile
-short-file t b r = omega (arith, table-length b t (holds-all t r), r .few)
+short-file t b r = omega (arith, file-length b (tasksOf t), records-le (tasksOf t), length-take-le (t .count) (t .tasks) (holds-all t r), r .few)
 
-pub short-writing : (t : Table) (m : Measure) (b : ℕ) (buffer : List ℕ) → judged t ≡ Judgement.WellFormed m → 0 < b
+pub short-writing : (t : Table) (m : Measure) (b : ℕ) (buffer : List ℕ) → judgedMixed t ≡ Judgement.WellFormed m → 0 < b
     → length buffer < length (fileOf b (tasksOf t)) → fileWritten t b buffer ≡ unwritten 31 (length buffer) buffer
 unfolding fileWritten
 short-writing t m b buffer well some h = rw (well, ne-eqb b 0 (omega arith), lt-ltb (length buffer) (length (fileOf b (tasksOf t))) h)
 
-pub long-writing : (t : Table) (m : Measure) (b : ℕ) (buffer : List ℕ) → judged t ≡ Judgement.WellFormed m → 0 < b
+pub long-writing : (t : Table) (m : Measure) (b : ℕ) (buffer : List ℕ) → judgedMixed t ≡ Judgement.WellFormed m → 0 < b
     → length (fileOf b (tasksOf t)) ≤ length buffer
     → let file = fileOf b (tasksOf t) in
     (fileWritten t b buffer ≡ record { said = Writing.Bytes (length file); buffer = file ++ drop (length file) buffer }) × (length file ≤ longestFile)
 unfolding fileWritten
 long-writing t m b buffer well some h =
-    (rw (well, ne-eqb b 0 (omega arith), le-ltb (length buffer) (length (fileOf b (tasksOf t))) h), short-file t b (well-formed t m well .ranged))
+    (rw (well, ne-eqb b 0 (omega arith), le-ltb (length buffer) (length (fileOf b (tasksOf t))) h), short-file t b (well-mixed t m well .ranged))
 
 pub loaded-writes : (file buffer : List ℕ) → ((i : ℕ) → getD file i 0 < 256) → loadedFrom file .admission ≡ Admission.Admitted → length file ≤ length buffer
     → fileWritten (loadedFrom file .table) (loadedFrom file .budget) buffer ≡ record { said = Writing.Bytes (length file); buffer = file ++ drop (length file) buffer }
@@ -77,12 +78,12 @@ module _ (most : ℕ) (small : most < 65536) (buffer : List ℕ) where
 
   -- The bytes of a table and a budget, if those of a well-formed one are not too many.
   pub table-apart : (t : Table) (b : ℕ) (bytes : List ℕ) → (Ranged t → length bytes ≤ most)
-      → let f = writtenBy b bytes buffer (judged t) in Apart most buffer bytes (fillTold (f .buffer) (f .said))
-  table-apart t b bytes few = go (judged t) refl (judged-tellable t)
+      → let f = writtenBy b bytes buffer (judgedMixed t) in Apart most buffer bytes (fillTold (f .buffer) (f .said))
+  table-apart t b bytes few = go (judgedMixed t) refl (mixed-tellable t)
     where
-      go : (j : Judgement) → judged t ≡ j → JudgementTellable j → let f = writtenBy b bytes buffer j in Apart most buffer bytes (fillTold (f .buffer) (f .said))
+      go : (j : Judgement) → judgedMixed t ≡ j → JudgementTellable j → let f = writtenBy b bytes buffer j in Apart most buffer bytes (fillTold (f .buffer) (f .said))
       go (Judgement.Refused r) e n = inr (r, refl, n)
-      go (Judgement.WellFormed m) e n = budgeted-apart b bytes (few (well-formed t m e .ranged))
+      go (Judgement.WellFormed m) e n = budgeted-apart b bytes (few (well-mixed t m e .ranged))
 
 module _ (buffer : List ℕ) where
   pub file-apart : (t : Table) (b : ℕ) → let f = fileWritten t b buffer in Apart longestFile buffer (fileOf b (tasksOf t)) (fillTold (f .buffer) (f .said))

@@ -3,18 +3,20 @@ ghost use mathlib.Core.Path.{_≡_};
 ghost use mathlib.Core.List.{[], _∷_};
 ghost use Prim.Native.Nat.{_+_, _*_, _≤_, _<_};
 ghost use lib.ListN.{length};
-ghost use Rattle.model.specs.Limits.{taskLimit, budgetBytes, taskBytes};
-ghost use Rattle.model.specs.TableFile.{budgetRecord, taskRecord, taskRecords, fileOf};
-ghost use Rattle.model.specs.Writer.{tasksOf, fitted, budgeted, fileWritten};
+ghost use Rattle.model.specs.Limits.{taskLimit, budgetBytes};
+ghost use Rattle.model.specs.TableFile.{budgetRecord, sortBytes, taskRecord, taskRecords, fileOf};
+ghost use Rattle.model.specs.Writer.{tasksOf, budgeted, fileWritten};
 ghost use Rattle.counting.specs.Put.{Put};
-ghost use Rattle.writer.specs.Records.{filled, fileBytes};
+ghost use Rattle.tablefile.specs.Reading.{recordBytes};
+ghost use Rattle.writer.specs.Records.{filled, recordsBytes, fileBytes};
 use tablefile::BUDGET;
 use tablefile::BUDGET_BYTES;
+use tablefile::BUTTON;
 use tablefile::END;
 use tablefile::TASK;
-use tablefile::TASK_BYTES;
 use values::Judgement;
 use values::Refusal;
+use values::Sort;
 use values::Table;
 use values::Task;
 use values::Writing;
@@ -27,7 +29,7 @@ const SHORT_BUFFER: u32 = 31;
 pub fn write(table: Table, budget: u64, buffer: &mut [u8]) -> Writing
     ensures { λ r. ⌜ filled r (now (buffer .exit)) ≡ fileWritten table budget (now (buffer .entry)) ⌝ }
 {
-    match table::judge(table) {
+    match table::judge_mixed(table) {
         Judgement::Refused(why) => Writing::Refused(why),
         Judgement::WellFormed(_) => write_file(table, budget, buffer),
     }
@@ -41,17 +43,23 @@ fn write_file(table: Table, budget: u64, buffer: &mut [u8]) -> Writing
     if budget == 0 {
         return no_budget();
     }
-    if buffer.len() < file_bytes(table.count) {
+    if buffer.len() < file_bytes(table) {
         return short_buffer(buffer.len());
     }
     Writing::Bytes(put_file(table, budget, buffer))
 }
 
-fn file_bytes(tasks: usize) -> usize
-    requires { ⌜ tasks ≤ taskLimit ⌝ }
-    ensures { λ r. ⌜ r ≡ fileBytes tasks ⌝ }
+fn file_bytes(table: Table) -> usize
+    requires { ⌜ table .count ≤ taskLimit ⌝ }
+    requires { ⌜ table .count ≤ length (table .tasks) ⌝ }
+    ensures { λ r. ⌜ r ≡ fileBytes table ⌝ }
 {
-    BUDGET_BYTES + tasks * TASK_BYTES + 1
+    let count = table.count;
+    let mut bytes = BUDGET_BYTES + 1;
+    for i in 0..count {
+        bytes += tablefile::record_bytes(table.tasks[i]);
+    }
+    bytes
 }
 
 // A budget of 0 tests nothing.
@@ -78,7 +86,7 @@ pub fn short_buffer(bytes: usize) -> Writing
 fn put_file(table: Table, budget: u64, buffer: &mut [u8]) -> usize
     requires { ⌜ table .count ≤ taskLimit ⌝ }
     requires { ⌜ table .count ≤ length (table .tasks) ⌝ }
-    requires { ⌜ fileBytes (table .count) ≤ length (now buffer) ⌝ }
+    requires { ⌜ fileBytes table ≤ length (now buffer) ⌝ }
     ensures { λ r. ⌜ Put (fileOf budget (tasksOf table)) 0 (now (buffer .entry)) (now (buffer .exit)) r ⌝ }
 {
     let at = put_budget(buffer, budget);
@@ -98,9 +106,9 @@ fn put_budget(buffer: &mut [u8], budget: u64) -> usize
 fn put_tasks(buffer: &mut [u8], at: usize, table: Table) -> usize
     requires { ⌜ table .count ≤ taskLimit ⌝ }
     requires { ⌜ table .count ≤ length (table .tasks) ⌝ }
-    requires { ⌜ at + table .count * taskBytes ≤ length (now buffer) ⌝ }
+    requires { ⌜ at + recordsBytes table ≤ length (now buffer) ⌝ }
     ensures { λ r. ⌜ Put (taskRecords (tasksOf table)) at (now (buffer .entry)) (now (buffer .exit)) r ⌝ }
-    ensures { λ r. ⌜ r ≡ at + table .count * taskBytes ⌝ }
+    ensures { λ r. ⌜ r ≡ at + recordsBytes table ⌝ }
 {
     let count = table.count;
     let mut next = at;
@@ -111,15 +119,29 @@ fn put_tasks(buffer: &mut [u8], at: usize, table: Table) -> usize
 }
 
 fn put_task(buffer: &mut [u8], at: usize, task: Task) -> usize
-    requires { ⌜ at + taskBytes ≤ length (now buffer) ⌝ }
+    requires { ⌜ at + recordBytes task ≤ length (now buffer) ⌝ }
     ensures { λ r. ⌜ Put (taskRecord task) at (now (buffer .entry)) (now (buffer .exit)) r ⌝ }
-    ensures { λ r. ⌜ r ≡ at + taskBytes ⌝ }
+    ensures { λ r. ⌜ r ≡ at + recordBytes task ⌝ }
 {
-    let at = put_kind(buffer, at, TASK);
-    let at = words::put_word(buffer, at, task.offset);
+    let sort = task.sort;
+    let at = put_sort(buffer, at, sort);
     let at = words::put_word(buffer, at, task.cost);
     let at = words::put_word(buffer, at, task.deadline);
     words::put_word(buffer, at, task.period)
+}
+
+// The kind, and the offset of a task that has one.
+fn put_sort(buffer: &mut [u8], at: usize, sort: Sort) -> usize
+    requires { ⌜ at + length (sortBytes sort) ≤ length (now buffer) ⌝ }
+    ensures { λ r. ⌜ Put (sortBytes sort) at (now (buffer .entry)) (now (buffer .exit)) r ⌝ }
+{
+    match sort {
+        Sort::Periodic(offset) => {
+            let at = put_kind(buffer, at, TASK);
+            words::put_word(buffer, at, offset)
+        }
+        Sort::Button => put_kind(buffer, at, BUTTON),
+    }
 }
 
 fn put_kind(buffer: &mut [u8], at: usize, kind: u8) -> usize

@@ -8,7 +8,7 @@ ghost use lib.ListN.{length};
 ghost use Rattle.model.specs.Limits.{taskLimit, reportBytes};
 ghost use Rattle.values.specs.declared.Admission.{Admission};
 ghost use Rattle.model.specs.Verdict.{Permitted};
-ghost use Rattle.model.specs.TableFile.{loadedFrom};
+ghost use Rattle.model.specs.TableFile.{loadedFrom, periodicFrom};
 ghost use Rattle.model.specs.Dispatcher.{started, stepped};
 ghost use Rattle.model.specs.Report.{quickNumber, quickExported, distanceNumber, distanceExported, Checked};
 ghost use Rattle.model.specs.StateBuffer.{stateBytes, stateIn, quiet, startWritten, stepWritten, startExported, stepExported};
@@ -245,9 +245,9 @@ fn easing_number(told: Easing) -> u64
 
 fn eased_from(table: Table, new: &[u8]) -> u64
     requires { ⌜ table .count ≤ taskLimit ⌝ }
-    ensures { λ r. ⌜ r ≡ easedNumber table (loadedFrom (now (new .entry)) .table) Admission.Admitted (loadedFrom (now (new .entry)) .admission) ⌝ }
+    ensures { λ r. ⌜ r ≡ easedNumber table (periodicFrom (now (new .entry)) .table) Admission.Admitted (periodicFrom (now (new .entry)) .admission) ⌝ }
 {
-    let loaded = tablefile::load(new);
+    let loaded = tablefile::load_periodic(new);
     let admission = loaded.admission;
     match admission {
         Admission::Refused(why) => refused_file(why, NEW_REFUSED),
@@ -263,7 +263,7 @@ fn eased_from(table: Table, new: &[u8]) -> u64
 pub extern "C" fn yolizadwa_eased(old: &[u8], new: &[u8]) -> u64
     ensures { λ r. ⌜ r ≡ easedExported (now (old .entry)) (now (new .entry)) ⌝ }
 {
-    let loaded = tablefile::load(old);
+    let loaded = tablefile::load_periodic(old);
     let admission = loaded.admission;
     match admission {
         Admission::Refused(why) => refused_file(why, OLD_REFUSED),

@@ -1,6 +1,7 @@
--- The difference of the offsets, reduced by the common divisor.
-use mathlib.Core.Path.{ap, _∙_}
-use lib.IntN.{ℤ}
+-- 0 for a button; else the difference of the offsets, reduced by the common divisor.
+use mathlib.Core.Path.{ap, ap₂, _∙_}
+use Prim.Native.Nat.{ℕ}
+use lib.IntN.{ℤ, pos, _-ℤ_}
 use borrow.Author.Needs.{needs, sfits-of}
 use mir.Syntax.{w64}
 use mir.Facts.{toZ-ofZ}
@@ -9,24 +10,52 @@ use Rattle.distance.specs.Passing.{divisor-pos}
 use Rattle.distance.proofs.distance_of.Statement.{statement}
 use Rattle.distance.proofs.distance_of.Tie as tie
 
+is-button-requires : tie.Need-is-button-requires
+is-button-requires c κs = search needs
+
+returns : tie.Need-returns
+unfolding distance
+returns c = rw (← c .before .is-button .ensures, c .if1 .taken)
+
 common-divisor-requires : tie.Need-common-divisor-requires
-common-divisor-requires c κs = c .pre .0
+common-divisor-requires c κs = c .before .before .pre .0
+
+offset-of-requires : tie.Need-offset-of-requires
+offset-of-requires c κs = search needs
+
+offset-of-requires-2 : tie.Need-offset-of-requires-2
+offset-of-requires-2 c κs = search needs
 
 difference-requires : tie.Need-difference-requires
 difference-requires c κs = search needs
 
 reduced-requires : tie.Need-reduced-requires
 reduced-requires c κs =
-    let h = c .before in
-    rw (h .common-divisor .ensures) (divisor-pos (h .before .args .one) (h .before .args .other) (h .before .pre .0) (h .before .pre .1))
+    let h = c .before .before .before in
+    let s = h .before .before .before in
+    rw (h .common-divisor .ensures) (divisor-pos (s .args .one) (s .args .other) (s .pre .0) (s .pre .1))
 
-returns : tie.Need-returns
+returns-2 : tie.Need-returns-2
 unfolding distance
-returns c =
+returns-2 c =
     let d = c .before in
-    let g = d .before .common-divisor in
-    c .reduced .ensures ∙ ap (λ (z : ℤ). reduced z (g .result)) (toZ-ofZ {w = w64} {z = d .difference .result} (sfits-of (d .difference .ok)) ∙ d .difference .ensures) ∙ rw (g .ensures)
+    let one = d .before in
+    let other = one .before in
+    let g = other .before in
+    let periodic = g .before in
+    c .reduced .ensures
+    ∙ ap (λ (z : ℤ). reduced z (g .common-divisor .result)) (toZ-ofZ {w = w64} {z = d .difference .result} (sfits-of (d .difference .ok)) ∙ d .difference .ensures ∙ ap₂ (λ (a b : ℕ). pos a -ℤ pos b) (other .offset-of .ensures) (one .offset-of2 .ensures))
+    ∙ rw (g .common-divisor .ensures, ← periodic .before .is-button .ensures, periodic .if1 .left)
 
 pub distance-of-spec : {M : Type 1} → statement M
 distance-of-spec =
-    tie.close (tie.spec common-divisor-requires difference-requires reduced-requires returns)
+    tie.close
+    (tie.spec
+    is-button-requires
+    returns
+    common-divisor-requires
+    offset-of-requires
+    offset-of-requires-2
+    difference-requires
+    reduced-requires
+    returns-2)

@@ -1,6 +1,6 @@
--- The patterns of the tasks that the loop has passed are calm.
-use mathlib.Core.Path.{_≡_, refl, sym, ap, subst, _∙_}
-use mathlib.Core.List.{List}
+-- The patterns of the periodic tasks that the loop has passed are calm.
+use mathlib.Core.Path.{_≡_, refl, sym, subst, _∙_}
+use mathlib.Core.Bool.{Bool, _||_}
 use Prim.Native.Nat.{ℕ, _-_, _≤_, _<_}
 use native.Mathlib.Omega.{arith}
 use borrow.Author.Count.{below-more}
@@ -8,51 +8,35 @@ use borrow.Author.Tests.{not-true, not-false}
 use borrow.Author.Needs.{needs}
 use lib.Dec.{T}
 use Rattle.values.specs.declared.Table.{Table}
-use Rattle.model.specs.Patterns.{startingAt, calm, pattern}
-use Rattle.wellformed.specs.WellFormed.{well-formed}
-use Rattle.slots.specs.Slot.{at}
-use Rattle.distance.specs.Passing.{pattern-is, pattern-fits, all-pass, one-fails}
+use Rattle.model.specs.Tasks.{task, isButton}
+use Rattle.model.specs.Patterns.{calm, pattern}
+use Rattle.distance.specs.Passing.{all-pass, one-fails}
 use Rattle.distance.proofs.each_calm.Statement.{statement}
 use Rattle.distance.proofs.each_calm.Tie as tie
 
+abbrev stands : Table → ℕ → Bool
+stands t k = isButton (task t k) || calm (pattern t k)
+
 abbrev Inv-loop : tie.InvT-loop
-Inv-loop t n i₀ i = (n ≡ t .count) × (i ≤ n) × ((k : ℕ) → k < i → T (calm (pattern t k)))
+Inv-loop t m n i₀ i = (n ≡ t .count) × (i ≤ n) × ((k : ℕ) → k < i → T (stands t k))
 
 abbrev μ-loop : tie.MeasureT-loop
-μ-loop t n i₀ i = n - i
+μ-loop t m n i₀ i = n - i
 
 abbrev table : tie.In-loop Inv-loop μ-loop → Table
 table c = c .before .before .args .t
 
--- The table that is walked is the pattern of task i.
-walked : (c : tie.After-starting Inv-loop μ-loop) → let a = c .before .before in c .starting .result ≡ pattern (table a) (a .before .loop .i)
-walked c =
-    let a = c .before .before in
-    c .starting .ensures ∙ ap (λ (l : List ℕ). startingAt (table a) (at l)) (c .before .distances .ensures) ∙ pattern-is (table a) (a .before .before .pre .0) (a .before .loop .i)
-
--- So the walk tells whether that is calm.
-told : (c : tie.After-is-calm Inv-loop μ-loop) → let a = c .before .before .before in c .is-calm .result ≡ calm (pattern (table a) (a .before .loop .i))
-told c = c .is-calm .ensures ∙ ap calm (walked (c .before))
-
 loop-holds : tie.Need-loop-holds Inv-loop μ-loop
 loop-holds c = (refl, omega arith, λ k l. absurd (omega arith))
 
-distances-requires : tie.Need-distances-requires Inv-loop μ-loop
-distances-requires c κs = (well-formed _ _ (c .before .before .pre .0) .ranged, omega arith)
-
-starting-requires : tie.Need-starting-requires Inv-loop μ-loop
-starting-requires c κs = well-formed _ _ (c .before .before .before .pre .0) .ranged .few
-
-is-calm-requires : tie.Need-is-calm-requires Inv-loop μ-loop
-is-calm-requires c κs =
-    let a = c .before .before in
-    let s = a .before .before in
-    rw (walked c) (pattern-fits (table a) (s .pre .0) (s .pre .1) (a .before .loop .i) (a .loop-test .taken))
+pattern-calm-requires : tie.Need-pattern-calm-requires Inv-loop μ-loop
+pattern-calm-requires c κs = let s = c .before .before in (s .pre .0, (s .pre .1, omega (arith, c .before .loop .inv .0, c .loop-test .taken)))
 
 returns : tie.Need-returns Inv-loop μ-loop
 returns c =
-    let a = c .before .before .before .before in
-    one-fails (λ i. calm (pattern (table a) i)) (table a .count) (a .before .loop .i) (a .loop-test .taken) (subst T (sym (told (c .before)) ∙ not-true _ (c .if1 .taken)))
+    let p = c .before in
+    let a = p .before in
+    one-fails (stands (table a)) (table a .count) (a .before .loop .i) (a .loop-test .taken) (subst T (sym (p .pattern-calm .ensures) ∙ not-true _ (c .if1 .taken)))
 
 add-i : tie.Need-add-i Inv-loop μ-loop
 add-i c = search needs
@@ -62,14 +46,15 @@ loop-less c = search needs
 
 loop-again : tie.Need-loop-again Inv-loop μ-loop
 loop-again c =
-    let a = c .before .before .before .before in
+    let p = c .before in
+    let a = p .before in
     let v = a .before .loop .inv in
-    (v .0, omega arith, below-more (λ (k : ℕ). T (calm (pattern (table a) k))) (a .before .loop .i) (v .2) (subst T (sym (not-false _ (c .if1 .left)) ∙ told (c .before)) tt))
+    (v .0, omega arith, below-more (λ (k : ℕ). T (stands (table a) k)) (a .before .loop .i) (v .2) (subst T (sym (not-false _ (c .if1 .left)) ∙ p .pattern-calm .ensures) tt))
 
 returns-2 : tie.Need-returns-2 Inv-loop μ-loop
 returns-2 c =
     let a = c .before in
-    all-pass (λ i. calm (pattern (a .before .args .t) i)) (a .before .args .t .count) (λ i l. a .loop .inv .2 i (omega (arith, c .loop-test .left)))
+    all-pass (stands (a .before .args .t)) (a .before .args .t .count) (λ i l. a .loop .inv .2 i (omega (arith, c .loop-test .left)))
 
 pub each-calm-spec : {M : Type 1} → statement M
 each-calm-spec =
@@ -78,9 +63,7 @@ each-calm-spec =
     Inv-loop
     μ-loop
     loop-holds
-    distances-requires
-    starting-requires
-    is-calm-requires
+    pattern-calm-requires
     returns
     add-i
     loop-less

@@ -2,14 +2,14 @@
 use mathlib.Core.Path.{_≡_, sym, _∙_}
 use borrow.Author.Needs.{needs}
 use Rattle.values.specs.declared.Judgement.{Judgement}
-use Rattle.model.specs.Tasks.{judged}
+use Rattle.model.specs.Tasks.{judgedMixed}
 use Rattle.model.specs.Patterns.{distancePass, distanceAnswer}
 use Rattle.distance.specs.Passing.{is-heavy, is-light}
 use Rattle.distance.proofs.test.Statement.{statement}
 use Rattle.distance.proofs.test.Tie as tie
 
-judge-requires : tie.Need-judge-requires
-judge-requires c κs = search needs
+judge-mixed-requires : tie.Need-judge-mixed-requires
+judge-mixed-requires c κs = search needs
 
 enum-known-why : tie.Need-enum-known-why
 enum-known-why c = search needs
@@ -18,15 +18,15 @@ enum-known-m : tie.Need-enum-known-m
 enum-known-m c = search needs
 
 -- The table is well-formed where its measures are looked at.
-well : (c : tie.After-m) → judged (c .before .before .before .args .t) ≡ Judgement.WellFormed (c .m .given .0 .0)
-well c = sym (c .before .before .judge .ensures) ∙ c .m .given .1
+well : (c : tie.After-m) → judgedMixed (c .before .before .before .args .t) ≡ Judgement.WellFormed (c .m .given .0 .0)
+well c = sym (c .before .before .judge-mixed .ensures) ∙ c .m .given .1
 
-each-calm-requires : tie.Need-each-calm-requires
-each-calm-requires c κs = (well (c .before .before .before), c .if1 .left)
+all-calm-requires : tie.Need-all-calm-requires
+all-calm-requires c κs = (well (c .before .before .before), c .if1 .left)
 
 returns : tie.Need-returns
 unfolding distanceAnswer
-returns c = rw (← c .before .before .before .judge .ensures, c .before .why .given .1)
+returns c = rw (← c .before .before .before .judge-mixed .ensures, c .before .why .given .1)
 
 returns-2 : tie.Need-returns-2
 unfolding distanceAnswer
@@ -39,23 +39,23 @@ unfolding distanceAnswer distancePass
 returns-3 c =
     let e = c .before .before in
     let m = e .before .before .before in
-    rw (well m, is-light _ (well m) (e .if1 .left), ← c .before .each-calm .ensures, c .if2 .taken)
+    rw (well m, is-light _ (well m) (e .if1 .left), ← c .before .all-calm .ensures, c .if2 .taken)
 
 returns-4 : tie.Need-returns-4
 unfolding distanceAnswer distancePass
 returns-4 c =
     let e = c .before .before in
     let m = e .before .before .before in
-    rw (well m, is-light _ (well m) (e .if1 .left), ← c .before .each-calm .ensures, c .if2 .left)
+    rw (well m, is-light _ (well m) (e .if1 .left), ← c .before .all-calm .ensures, c .if2 .left)
 
 pub test-spec : {M : Type 1} → statement M
 test-spec =
     tie.close
     (tie.spec
-    judge-requires
+    judge-mixed-requires
     enum-known-why
     enum-known-m
-    each-calm-requires
+    all-calm-requires
     returns
     returns-2
     returns-3

@@ -1,11 +1,18 @@
 -- Each return by the comparison that led to it.
 use native.Mathlib.Omega.{arith}
+use borrow.Author.Needs.{needs}
 use Rattle.easing.specs.Searching.{not-eased, is-eased}
 use Rattle.easing.proofs.is_eased.Statement.{statement}
 use Rattle.easing.proofs.is_eased.Tie as tie
 
+offset-of-requires : tie.Need-offset-of-requires
+offset-of-requires c κs = search needs
+
+offset-of-requires-2 : tie.Need-offset-of-requires-2
+offset-of-requires-2 c κs = search needs
+
 returns : tie.Need-returns
-returns c = let s = c .before .before .before .args in not-eased (s .old) (s .new) (λ e. absurd (omega (arith, e .same-offset, c .if1 .taken)))
+returns c = let s = c .before .before .before .args in not-eased (s .old) (s .new) (λ e. absurd (omega (arith, e .same-offset, c .if1 .taken, c .before .offset-of2 .ensures, c .before .before .offset-of .ensures)))
 
 returns-2 : tie.Need-returns-2
 returns-2 c = let s = c .before .before .before .before .before .before .args in not-eased (s .old) (s .new) (λ e. absurd (omega (arith, e .same-period, c .if2 .taken)))
@@ -18,8 +25,9 @@ returns-4 c = let s = c .before .before .before .before .before .before .before 
 
 returns-5 : tie.Need-returns-5
 returns-5 c =
-    let s = c .before .before .before .before .before .before .before .before .before .before .before .before .args in
-    is-eased (s .old) (s .new) (record { same-offset = omega arith; same-period = omega arith; lower-cost = omega arith; longer-deadline = omega arith })
+    let b = c .before .before .before .before .before .before .before .before .before .before in
+    let s = b .before .before .args in
+    is-eased (s .old) (s .new) (record { same-offset = omega (arith, b .offset-of2 .ensures, b .before .offset-of .ensures); same-period = omega arith; lower-cost = omega arith; longer-deadline = omega arith })
 
 pub is-eased-spec : {M : Type 1} → statement M
-is-eased-spec = tie.close (tie.spec returns returns-2 returns-3 returns-4 returns-5)
+is-eased-spec = tie.close (tie.spec offset-of-requires offset-of-requires-2 returns returns-2 returns-3 returns-4 returns-5)

@@ -7,14 +7,14 @@ use Rattle.intervals.proofs.jobs_in.Tie as tie
 to-u64-requires : tie.Need-to-u64-requires
 to-u64-requires c κs = search needs
 
-to-u64-requires-2 : tie.Need-to-u64-requires-2
-to-u64-requires-2 c κs = search needs
+wide-offset-of-requires : tie.Need-wide-offset-of-requires
+wide-offset-of-requires c κs = search needs
 
 add-less : tie.Need-add-less
 add-less c = search needs
 
-to-u64-requires-3 : tie.Need-to-u64-requires-3
-to-u64-requires-3 c κs = search needs
+to-u64-requires-2 : tie.Need-to-u64-requires-2
+to-u64-requires-2 c κs = search needs
 
 add-less-2 : tie.Need-add-less-2
 add-less-2 c = search needs
@@ -44,16 +44,16 @@ returns : tie.Need-returns
 returns c =
     let u = c .before .before .before in
     let s = u .before .before .before in
-    rw (c .less3 .ensures, c .before .less2 .ensures, c .before .before .less .ensures, u .to-u643 .ensures .0, u .before .to-u642 .ensures .0, u .before .before .to-u64 .ensures .0, jobs-closed (s .args .k) (s .pre .0) (s .args .from) (s .args .to))
+    rw (c .less3 .ensures, c .before .less2 .ensures, c .before .before .less .ensures, u .to-u642 .ensures .0, u .before .wide-offset-of .ensures .0, u .before .before .to-u64 .ensures .0, jobs-closed (s .args .k) (s .pre .0) (s .args .from) (s .args .to))
 
 pub jobs-in-spec : {M : Type 1} → statement M
 jobs-in-spec =
     tie.close
     (tie.spec
     to-u64-requires
-    to-u64-requires-2
+    wide-offset-of-requires
     add-less
-    to-u64-requires-3
+    to-u64-requires-2
     add-less-2
     less-requires
     div-due

@@ -3,25 +3,26 @@ use mathlib.Core.Path.{_≡_}
 use Prim.Native.Nat.{_+_, _-_, _*_, _/_, _<_}
 use native.Mathlib.Omega.{arith}
 use borrow.Author.Needs.{needs}
+use Rattle.model.specs.Tasks.{offset}
 use Rattle.intervals.specs.Starts.{before-from, no-release}
 use Rattle.intervals.proofs.release_before.Statement.{statement}
 use Rattle.intervals.proofs.release_before.Tie as tie
 
 -- What is computed, in the task's own numbers.
-is : (c : tie.After-to-u642) → let s = c .before .before .before in let o = c .before .before .to-u64 .result in let p = c .to-u642 .result in o + (s .args .from - o - 1) / p * p ≡ s .args .k .offset + (s .args .from - s .args .k .offset - 1) / s .args .k .period * s .args .k .period
-is c = rw (c .before .before .to-u64 .ensures .0, c .to-u642 .ensures .0)
+is : (c : tie.After-to-u64) → let s = c .before .before .before in let o = c .before .before .wide-offset-of .result in let p = c .to-u64 .result in o + (s .args .from - o - 1) / p * p ≡ offset (s .args .k) + (s .args .from - offset (s .args .k) - 1) / s .args .k .period * s .args .k .period
+is c = rw (c .before .before .wide-offset-of .ensures .0, c .to-u64 .ensures .0)
 
-room : (c : tie.After-to-u642) → let s = c .before .before .before in let o = c .before .before .to-u64 .result in let p = c .to-u642 .result in o + (s .args .from - o - 1) / p * p < s .args .from
-room c = let s = c .before .before .before in omega (arith, is c, before-from (s .args .k) (s .pre) (s .args .from) (omega (arith, c .before .if1 .left, c .before .before .to-u64 .ensures .0)))
+room : (c : tie.After-to-u64) → let s = c .before .before .before in let o = c .before .before .wide-offset-of .result in let p = c .to-u64 .result in o + (s .args .from - o - 1) / p * p < s .args .from
+room c = let s = c .before .before .before in omega (arith, is c, before-from (s .args .k) (s .pre) (s .args .from) (omega (arith, c .before .if1 .left, c .before .before .wide-offset-of .ensures .0)))
+
+wide-offset-of-requires : tie.Need-wide-offset-of-requires
+wide-offset-of-requires c κs = search needs
+
+returns : tie.Need-returns
+returns c = (λ h. h, λ j h. omega (arith, c .if1 .taken, c .before .wide-offset-of .ensures .0))
 
 to-u64-requires : tie.Need-to-u64-requires
 to-u64-requires c κs = search needs
-
-returns : tie.Need-returns
-returns c = (λ h. h, λ j h. omega (arith, c .if1 .taken, c .before .to-u64 .ensures .0))
-
-to-u64-requires-2 : tie.Need-to-u64-requires-2
-to-u64-requires-2 c κs = search needs
 
 sub-result : tie.Need-sub-result
 sub-result c = search needs
@@ -45,9 +46,9 @@ pub release-before-spec : {M : Type 1} → statement M
 release-before-spec =
     tie.close
     (tie.spec
-    to-u64-requires
+    wide-offset-of-requires
     returns
-    to-u64-requires-2
+    to-u64-requires
     sub-result
     sub-result-2
     div-result

@@ -2,8 +2,8 @@
 use borrow.Author.Needs.{needs}
 use Rattle.model.specs.Report.{refusalLine, outcomeTold}
 use Rattle.model.specs.Patterns.{quickPass}
-use Rattle.tablefile.specs.Admitted.{well-table, few-tasks}
-use Rattle.quick.specs.Answers.{told-pass}
+use Rattle.tablefile.specs.Admitted.{few-tasks}
+use Rattle.quick.specs.Answers.{told-either}
 use Rattle.judge.specs.Front.{front, counted}
 use Rattle.judge.proofs.judge.Statement.{statement}
 use Rattle.judge.proofs.judge.Tie as tie
@@ -54,11 +54,10 @@ returns-2 c =
     let t = p .before .before in
     let told = t .before .before in
     let loaded = told .before .before .load .ensures in
-    let (m, well) = well-table _ loaded (told .enum-told .given .1) in
-    let passed = told-pass _ m well (p .before .test2 .ensures) (p .is-pass .ensures) in
-    let text = rw passed at (w .write-outcome .ensures .0) in
     let table = told .before .before .load .result .table in
     let answer = t .test .result in
+    let passed = told-either refusalLine (λ report. report) (table .count) table _ answer (t .test .ensures) (p .before .test2 .ensures) (p .is-pass .ensures) in
+    let text = rw passed at (w .write-outcome .ensures .0) in
     (rw (← loaded, told .enum-told .given .1) (_, t .test .ensures, front _ _ text), counted (outcomeTold refusalLine (λ report. report) (table .count) (quickPass table) answer (answer .outcome)) _ text)
 
 pub judge-spec : {M : Type 1} → statement M

@@ -20,11 +20,11 @@ abbrev μ-loop : tie.MeasureT-loop
 many : (c : tie.After-jobs-in Inv-loop μ-loop) → let a = c .before .before .before in c .jobs-in .result ≡ dueBy (a .before .args .t1) (a .before .args .to) (a .loop .i)
 many c = let a = c .before .before .before in c .jobs-in .ensures ∙ jobs-due _ (a .before .pre .0) _ (a .loop .i) (c .before .before .loop-test .taken)
 
-last-lt : (c : tie.After-to-u642 Inv-loop μ-loop) → c .before .to-u64 .result + (c .before .before .before .jobs-in .result - 1) * c .to-u642 .result < c .before .before .before .before .before .before .before .args .to
+last-lt : (c : tie.After-to-u64 Inv-loop μ-loop) → c .before .wide-offset-of .result + (c .before .before .before .jobs-in .result - 1) * c .to-u64 .result < c .before .before .before .before .before .before .before .args .to
 last-lt c =
     let b = c .before .before .before in
     let a = b .before .before .before in
-    rw (c .before .to-u64 .ensures .0, c .to-u642 .ensures .0) (released-before _ (a .before .pre .0) _ (a .loop .i) (b .jobs-in .result - 1) (b .before .before .loop-test .taken) (omega (arith, many b, c .before .before .if1 .taken)))
+    rw (c .before .wide-offset-of .ensures .0, c .to-u64 .ensures .0) (released-before _ (a .before .pre .0) _ (a .loop .i) (b .jobs-in .result - 1) (b .before .before .loop-test .taken) (omega (arith, many b, c .before .before .if1 .taken)))
 
 loop-holds : tie.Need-loop-holds Inv-loop μ-loop
 loop-holds c = (omega arith, omega arith, lasts-none (c .args .t1) (c .args .to))
@@ -38,14 +38,14 @@ element-copy-out-task c = search needs
 jobs-in-requires : tie.Need-jobs-in-requires Inv-loop μ-loop
 jobs-in-requires c κs = let a = c .before .before in (a .before .pre .0 .each (a .loop .i) (c .before .loop-test .taken), (omega arith, a .before .pre .1 .1))
 
-to-u64-requires : tie.Need-to-u64-requires Inv-loop μ-loop
-to-u64-requires c κs = search needs
+wide-offset-of-requires : tie.Need-wide-offset-of-requires Inv-loop μ-loop
+wide-offset-of-requires c κs = search needs
 
 sub-last : tie.Need-sub-last Inv-loop μ-loop
 sub-last c = search needs
 
-to-u64-requires-2 : tie.Need-to-u64-requires-2 Inv-loop μ-loop
-to-u64-requires-2 c κs = search needs
+to-u64-requires : tie.Need-to-u64-requires Inv-loop μ-loop
+to-u64-requires c κs = search needs
 
 mul-last : tie.Need-mul-last Inv-loop μ-loop
 mul-last c = omega (arith, last-lt c)
@@ -105,9 +105,9 @@ last-jobs-spec =
     mul-task
     element-copy-out-task
     jobs-in-requires
-    to-u64-requires
+    wide-offset-of-requires
     sub-last
-    to-u64-requires-2
+    to-u64-requires
     mul-last
     add-last
     sub-entry

@@ -3,7 +3,7 @@ use mathlib.Core.Path.{_≡_, ap, _∙_}
 use Prim.Native.Nat.{ℕ, _+_, _-_, _%_, _≤_, _<_}
 use native.Mathlib.Omega.{arith}
 use Rattle.model.specs.Limits.{taskLimit}
-use Rattle.model.specs.Tasks.{task}
+use Rattle.model.specs.Tasks.{task, offset}
 use Rattle.wellformed.specs.Ranges.{InRange}
 use Rattle.slots.specs.Slot.{at}
 use Rattle.leaps.specs.Entry.{places, mark-small}
@@ -82,11 +82,11 @@ to-u64-requires-2 c κs = search needs
 add-longer : tie.Need-add-longer Inv-loop μ-loop
 add-longer c = omega (arith, length-le (c .before), c .to-u642 .ensures, c .before .before .before .before .before .before .before .before .before .pre .1 .1 .0)
 
-to-u64-requires-3 : tie.Need-to-u64-requires-3 Inv-loop μ-loop
-to-u64-requires-3 c κs = search needs
+wide-offset-of-requires : tie.Need-wide-offset-of-requires Inv-loop μ-loop
+wide-offset-of-requires c κs = search needs
 
 add-if2 : tie.Need-add-if2 Inv-loop μ-loop
-add-if2 c = omega (arith, length-le (c .before .before), c .before .to-u642 .ensures, c .to-u643 .ensures, c .before .before .before .before .before .before .before .before .before .before .pre .1 .1 .0)
+add-if2 c = omega (arith, length-le (c .before .before), c .before .to-u642 .ensures, c .wide-offset-of .ensures, c .before .before .before .before .before .before .before .before .before .before .pre .1 .1 .0)
 
 sub-insert : tie.Need-sub-insert Inv-loop μ-loop
 sub-insert c = omega (arith, busy (c .before .before .before .before .before .before .before .before .before))
@@ -114,9 +114,9 @@ loop-again c =
     let a = k .before in
     let s = a .before .before .before in
     let period = u .before .to-u642 .ensures .0 ∙ ap (λ (i : ℕ). task (s .args .t1) i .period) (k .task-of .ensures) in
-    let offset : u .to-u643 .result ≡ task (s .args .t1) (at (a .loop .queue) (a .loop .jobs - 1) % places) .offset = u .to-u643 .ensures .0 ∙ ap (λ (i : ℕ). task (s .args .t1) i .offset) (k .task-of .ensures) in
+    let start : u .wide-offset-of .result ≡ offset (task (s .args .t1) (at (a .loop .queue) (a .loop .jobs - 1) % places)) = u .wide-offset-of .ensures .0 ∙ ap (λ (i : ℕ). offset (task (s .args .t1) i)) (k .task-of .ensures) in
     let both = goes-on _ (s .pre .0) _ (a .loop .inv) (busy a) (b .before .time-of .result) (b .before .time-of .result + u .before .to-u642 .result) (b .before .time-of .ensures) (ap (λ (x : ℕ). b .before .time-of .result + x) period) (omega (arith, u .before .before .if1 .left, cost-is b)) in
-    rw (c .insert .ensures, c .before .entry .ensures, s .pre .1 .0 _ (own k), cost-is b, k .task-of .ensures) (both .0 (omega (arith, c .before .before .before .before .if2 .taken, offset)) (few a))
+    rw (c .insert .ensures, c .before .entry .ensures, s .pre .1 .0 _ (own k), cost-is b, k .task-of .ensures) (both .0 (omega (arith, c .before .before .before .before .if2 .taken, start)) (few a))
 
 sub-jobs : tie.Need-sub-jobs Inv-loop μ-loop
 sub-jobs c = omega (arith, busy (c .before .before .before .before .before .before .before .before))
@@ -132,9 +132,9 @@ loop-again-2 c =
     let a = k .before in
     let s = a .before .before .before in
     let period = u .before .to-u642 .ensures .0 ∙ ap (λ (i : ℕ). task (s .args .t1) i .period) (k .task-of .ensures) in
-    let offset : u .to-u643 .result ≡ task (s .args .t1) (at (a .loop .queue) (a .loop .jobs - 1) % places) .offset = u .to-u643 .ensures .0 ∙ ap (λ (i : ℕ). task (s .args .t1) i .offset) (k .task-of .ensures) in
+    let start : u .wide-offset-of .result ≡ offset (task (s .args .t1) (at (a .loop .queue) (a .loop .jobs - 1) % places)) = u .wide-offset-of .ensures .0 ∙ ap (λ (i : ℕ). offset (task (s .args .t1) i)) (k .task-of .ensures) in
     let both = goes-on _ (s .pre .0) _ (a .loop .inv) (busy a) (b .before .time-of .result) (b .before .time-of .result + u .before .to-u642 .result) (b .before .time-of .ensures) (ap (λ (x : ℕ). b .before .time-of .result + x) period) (omega (arith, u .before .before .if1 .left, cost-is b)) in
-    rw (cost-is b) (both .1 (omega (arith, c .if2 .left, offset)))
+    rw (cost-is b) (both .1 (omega (arith, c .if2 .left, start)))
 
 sub-result : tie.Need-sub-result Inv-loop μ-loop
 sub-result c = let b = c .before in let a = b .before .before .before .before in rw (b .before .time-of .ensures) (far _ (a .before .before .before .pre .0) _ (a .loop .inv) (busy a))
@@ -165,7 +165,7 @@ start-spec =
     add-asked
     to-u64-requires-2
     add-longer
-    to-u64-requires-3
+    wide-offset-of-requires
     add-if2
     sub-insert
     mul-entry

@@ -67,13 +67,43 @@ returns-3 c =
     let found = named .before .before .before .before .before in
     rw (found .next-word .ensures .some (omega arith), sym (named .same .ensures) ∙ task .before .before .if2 .left, sym (task .same2 .ensures) ∙ c .before .if3 .taken) (simp part-to-end at (c .task-line .ensures))
 
+slice-aggregate-same-3 : tie.Need-slice-aggregate-same-3
+slice-aggregate-same-3 c = search needs
+
+same-requires-3 : tie.Need-same-requires-3
+same-requires-3 c κs = search needs
+
+task-line-requires-2 : tie.Need-task-line-requires-2
+task-line-requires-2 c κs = search needs
+
 returns-4 : tie.Need-returns-4
 unfolding lineOf text
 returns-4 c =
-    let task = c .before in
+    let button = c .before .before in
+    let task = button .before .before .before in
     let named = task .before .before .before in
     let found = named .before .before .before .before .before in
-    rw (found .next-word .ensures .some (omega arith), sym (named .same .ensures) ∙ task .before .before .if2 .left, sym (task .same2 .ensures) ∙ c .if3 .left)
+    rw (
+      found .next-word .ensures .some (omega arith),
+      sym (named .same .ensures) ∙ task .before .before .if2 .left,
+      sym (task .same2 .ensures) ∙ button .before .before .if3 .left,
+      sym (button .same3 .ensures) ∙ c .before .if4 .taken,
+    )
+    (simp part-to-end at (c .task-line2 .ensures))
+
+returns-5 : tie.Need-returns-5
+unfolding lineOf text
+returns-5 c =
+    let button = c .before in
+    let task = button .before .before .before in
+    let named = task .before .before .before in
+    let found = named .before .before .before .before .before in
+    rw (
+      found .next-word .ensures .some (omega arith),
+      sym (named .same .ensures) ∙ task .before .before .if2 .left,
+      sym (task .same2 .ensures) ∙ button .before .before .if3 .left,
+      sym (button .same3 .ensures) ∙ c .if4 .left,
+    )
 
 pub line-of-spec : {M : Type 1} → statement M
 line-of-spec =
@@ -95,4 +125,8 @@ line-of-spec =
     same-requires-2
     task-line-requires
     returns-3
-    returns-4)
+    slice-aggregate-same-3
+    same-requires-3
+    task-line-requires-2
+    returns-4
+    returns-5)

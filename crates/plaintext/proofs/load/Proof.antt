@@ -13,8 +13,8 @@ enum-told c = search needs
 enum-told-2 : tie.Need-enum-told-2
 enum-told-2 c = search needs
 
-judge-requires : tie.Need-judge-requires
-judge-requires c κs = search needs
+judge-mixed-requires : tie.Need-judge-mixed-requires
+judge-mixed-requires c κs = search needs
 
 enum-known-why : tie.Need-enum-known-why
 enum-known-why c = search needs
@@ -34,14 +34,14 @@ unfolding textLoaded
 returns-2 c =
     let judged = c .before .before .before .before in
     let good = judged .before in
-    rw (← good .before .before .form-of .ensures, good .enum-told2 .given .1, ← judged .judge .ensures, c .before .before .why .given .1) (c .refused-file .ensures)
+    rw (← good .before .before .form-of .ensures, good .enum-told2 .given .1, ← judged .judge-mixed .ensures, c .before .before .why .given .1) (c .refused-file .ensures)
 
 returns-3 : tie.Need-returns-3
 unfolding textLoaded
 returns-3 c =
     let judged = c .before .before in
     let good = judged .before in
-    rw (← good .before .before .form-of .ensures, good .enum-told2 .given .1, ← judged .judge .ensures, c .enum-told3 .given .1)
+    rw (← good .before .before .form-of .ensures, good .enum-told2 .given .1, ← judged .judge-mixed .ensures, c .enum-told3 .given .1)
 
 pub load-spec : {M : Type 1} → statement M
 load-spec =
@@ -50,7 +50,7 @@ load-spec =
     form-of-requires
     enum-told
     enum-told-2
-    judge-requires
+    judge-mixed-requires
     enum-known-why
     refused-file-requires
     enum-told-3

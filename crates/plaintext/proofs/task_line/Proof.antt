@@ -2,8 +2,10 @@
 use native.Mathlib.Omega.{arith}
 use borrow.Author.Needs.{needs}
 use borrow.Author.Tests.{not-true, not-false, le-leb}
-use Rattle.model.specs.PlainText.{taskLine}
-use Rattle.plaintext.specs.Lines.{task-fault, task-good}
+use Rattle.model.specs.Limits.{wordLimit}
+use Rattle.model.specs.PlainText.{wordsOf, taskLine}
+use Rattle.plaintext.specs.Numbers.{NumbersRead}
+use Rattle.plaintext.specs.Lines.{numbersDue, due-le, task-fault, task-good}
 use Rattle.plaintext.proofs.task_line.Statement.{statement}
 use Rattle.plaintext.proofs.task_line.Tie as tie
 
@@ -15,47 +17,33 @@ returns-2 : tie.Need-returns-2
 unfolding taskLine
 returns-2 c = rw (not-false (c .before .before .before .args .given) (c .before .if1 .left), le-leb _ _ (c .if2 .taken))
 
+numbers-due-requires : tie.Need-numbers-due-requires
+numbers-due-requires c κs = search needs
+
 numbers-in-requires : tie.Need-numbers-in-requires
-numbers-in-requires c κs = search needs
+numbers-in-requires c κs = (omega (arith, c .numbers-due .ensures, due-le (c .before .before .before .before .args .button)), omega arith)
+
+-- The numbers that were read are those of the line's sort.
+read : (c : tie.After-numbers-in) → let a = c .before .before .before .before .before .args in NumbersRead wordLimit (numbersDue (a .button)) (wordsOf (a .rest .now)) (c .numbers-in .result .fault) (c .numbers-in .result .values)
+read c = rw (← c .before .numbers-due .ensures) (c .numbers-in .ensures)
 
 returns-3 : tie.Need-returns-3
 returns-3 c =
-    let read = c .before .before in
-    let room = read .before in
+    let numbers = c .before .before in
+    let room = numbers .before .before in
     let a = room .before .before .before .args in
-    rw (not-false (a .given) (room .before .if1 .left)) (task-fault (a .count) (omega arith) (read .numbers-in .ensures) (c .if3 .taken))
+    rw (not-false (a .given) (room .before .if1 .left)) (task-fault (a .button) (a .count) (omega arith) (read numbers) (c .if3 .taken))
 
-array-read-t9 : tie.Need-array-read-t9
-array-read-t9 c = search needs
-
-cast-t10 : tie.Need-cast-t10
-cast-t10 c = omega (arith, c .before .before .before .numbers-in .ensures .below (c .before .if3 .left) 0 (omega arith))
-
-array-read-t13 : tie.Need-array-read-t13
-array-read-t13 c = search needs
-
-cast-t14 : tie.Need-cast-t14
-cast-t14 c = omega (arith, c .before .before .before .numbers-in .ensures .below (c .before .if3 .left) 1 (omega arith))
-
-array-read-t17 : tie.Need-array-read-t17
-array-read-t17 c = search needs
-
-cast-t18 : tie.Need-cast-t18
-cast-t18 c = omega (arith, c .before .before .before .numbers-in .ensures .below (c .before .if3 .left) 2 (omega arith))
-
-array-read-t21 : tie.Need-array-read-t21
-array-read-t21 c = search needs
-
-cast-t22 : tie.Need-cast-t22
-cast-t22 c = omega (arith, c .before .before .before .numbers-in .ensures .below (c .before .if3 .left) 3 (omega arith))
+task-of-requires : tie.Need-task-of-requires
+task-of-requires c κs = let tested = c .before in read (tested .before .before) .below (tested .if3 .left)
 
 returns-4 : tie.Need-returns-4
 returns-4 c =
-    let tested = c .before in
-    let read = tested .before .before in
-    let room = read .before in
+    let tested = c .before .before in
+    let numbers = tested .before .before in
+    let room = numbers .before .before in
     let a = room .before .before .before .args in
-    rw (not-false (a .given) (room .before .if1 .left)) (task-good (a .count) (omega arith) (read .numbers-in .ensures) (tested .if3 .left))
+    rw (not-false (a .given) (room .before .if1 .left)) (task-good (a .button) (a .count) (omega arith) (read numbers) (tested .if3 .left) (c .task-of .ensures))
 
 pub task-line-spec : {M : Type 1} → statement M
 task-line-spec =
@@ -63,14 +51,8 @@ task-line-spec =
     (tie.spec
     returns
     returns-2
+    numbers-due-requires
     numbers-in-requires
     returns-3
-    array-read-t9
-    cast-t10
-    array-read-t13
-    cast-t14
-    array-read-t17
-    cast-t18
-    array-read-t21
-    cast-t22
+    task-of-requires
     returns-4)

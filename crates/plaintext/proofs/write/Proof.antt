@@ -2,12 +2,12 @@
 use mathlib.Core.Path.{sym, _∙_}
 use borrow.Author.Needs.{needs}
 use Rattle.model.specs.PlainText.{textWritten}
-use Rattle.wellformed.specs.WellFormed.{well-formed}
+use Rattle.wellformed.specs.WellFormed.{well-mixed}
 use Rattle.plaintext.proofs.write.Statement.{statement}
 use Rattle.plaintext.proofs.write.Tie as tie
 
-judge-requires : tie.Need-judge-requires
-judge-requires c κs = search needs
+judge-mixed-requires : tie.Need-judge-mixed-requires
+judge-mixed-requires c κs = search needs
 
 enum-known-why : tie.Need-enum-known-why
 enum-known-why c = search needs
@@ -18,13 +18,13 @@ enum-told c = search needs
 write-text-requires : tie.Need-write-text-requires
 write-text-requires c κs =
     let told = c .before in
-    well-formed _ _ (sym (told .before .before .judge .ensures) ∙ told .enum-told .given .1) .ranged
+    well-mixed _ _ (sym (told .before .before .judge-mixed .ensures) ∙ told .enum-told .given .1) .ranged
 
 returns : tie.Need-returns
 unfolding textWritten
 returns c =
     let why = c .before in
-    rw (← why .before .before .judge .ensures, why .why .given .1)
+    rw (← why .before .before .judge-mixed .ensures, why .why .given .1)
 
 same-length : tie.Need-same-length
 same-length c = search needs
@@ -34,13 +34,13 @@ unfolding textWritten
 returns-2 c =
     let called = c .before .before in
     let told = called .before .before in
-    rw (← told .before .before .judge .ensures, told .enum-told .given .1) (called .write-text .ensures)
+    rw (← told .before .before .judge-mixed .ensures, told .enum-told .given .1) (called .write-text .ensures)
 
 pub write-spec : {M : Type 1} → statement M
 write-spec =
     tie.close
     (tie.spec
-    judge-requires
+    judge-mixed-requires
     enum-known-why
     enum-told
     write-text-requires

@@ -2,7 +2,7 @@
 use native.Mathlib.Omega.{arith}
 use lib.ListN.{replicate}
 use Rattle.model.specs.Limits.{taskLimit}
-use Rattle.wellformed.specs.WellFormed.{well-formed}
+use Rattle.wellformed.specs.WellFormed.{well-mixed}
 use Rattle.slots.specs.Slot.{at}
 use Rattle.calm.specs.Fit.{starting-fits}
 use Rattle.quick.specs.Passing.{no-offset, overload-fails, calm-passes}
@@ -13,7 +13,7 @@ returns : tie.Need-returns
 returns c = overload-fails _ (c .before .before .pre) (c .if1 .taken)
 
 starting-requires : tie.Need-starting-requires
-starting-requires c κs = well-formed _ _ (c .before .before .pre) .ranged .few
+starting-requires c κs = well-mixed _ _ (c .before .before .pre) .ranged .few
 
 is-calm-requires : tie.Need-is-calm-requires
 is-calm-requires c κs =

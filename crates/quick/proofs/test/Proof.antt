@@ -2,6 +2,7 @@
 use mathlib.Core.Path.{sym, _∙_}
 use borrow.Author.Needs.{needs}
 use Rattle.model.specs.Patterns.{quickAnswer}
+use Rattle.wellformed.specs.WellFormed.{periodic-iff}
 use Rattle.quick.proofs.test.Statement.{statement}
 use Rattle.quick.proofs.test.Tie as tie
 
@@ -15,7 +16,7 @@ enum-known-m : tie.Need-enum-known-m
 enum-known-m c = search needs
 
 passes-requires : tie.Need-passes-requires
-passes-requires c κs = sym (c .before .before .before .judge .ensures) ∙ c .before .m .given .1
+passes-requires c κs = periodic-iff _ _ .0 (sym (c .before .before .before .judge .ensures) ∙ c .before .m .given .1) .0
 
 returns : tie.Need-returns
 unfolding quickAnswer

@@ -2,20 +2,16 @@
 use mathlib.Core.Path.{sym}
 use mathlib.Core.Bool.{Bool, not}
 use mathlib.Core.List.{List}
-use Prim.Native.Nat.{ℕ, _*_, _-_, _≤_}
+use Prim.Native.Nat.{ℕ, _-_, _≤_}
 use native.Mathlib.Omega.{arith}
 use borrow.Author.Needs.{needs}
-use borrow.Author.Tests.{ne-eqb, eq-eqb}
-use lib.Dec.{eqb}
-use lib.ListN.{getD}
-use Rattle.model.specs.TableFile.{taskKind}
-use Rattle.model.specs.Writer.{rowWords, rows, firstStranger}
+use Rattle.model.specs.Writer.{rows, isTask, firstStranger}
 use Rattle.counting.specs.Search.{NoneFrom, none-up, first-is, first-none}
 use Rattle.rows.proofs.first_stranger.Statement.{statement}
 use Rattle.rows.proofs.first_stranger.Tie as tie
 
 abbrev stranger : List ℕ → ℕ → Bool
-stranger words i = not (eqb (getD words (rowWords * i) 0) taskKind)
+stranger words i = not (isTask words i)
 
 abbrev Inv-loop : tie.InvT-loop
 Inv-loop words count i₀ i = (i ≤ rows words) × NoneFrom (stranger words) 0 i
@@ -26,21 +22,16 @@ abbrev μ-loop : tie.MeasureT-loop
 loop-holds : tie.Need-loop-holds Inv-loop μ-loop
 loop-holds c = (omega arith, λ k a b. absurd (omega arith))
 
-mul-if1 : tie.Need-mul-if1 Inv-loop μ-loop
-mul-if1 c = search needs
-
-mul-if1-2 : tie.Need-mul-if1-2 Inv-loop μ-loop
-mul-if1-2 c = search needs
-
-shared-slice-read-if1 : tie.Need-shared-slice-read-if1 Inv-loop μ-loop
-shared-slice-read-if1 c = search needs
+is-task-requires : tie.Need-is-task-requires Inv-loop μ-loop
+is-task-requires c κs = search needs
 
 returns : tie.Need-returns Inv-loop μ-loop
 unfolding firstStranger
 returns c =
-    let turn = c .before .before .before in
-    let words = turn .before .args .words .now in
-    sym (first-is (stranger words) 0 (rows words) (turn .loop .i) (omega arith) (omega arith) (rw (ne-eqb (getD words (rowWords * turn .loop .i) 0) taskKind (c .if1 .taken)) tt) (turn .loop .inv .1))
+    let asked = c .before in
+    let turn = asked .before .before in
+    let words = turn .before .before .args .words .now in
+    sym (first-is (stranger words) 0 (rows words) (turn .loop .i) (omega arith) (omega arith) (rw (← asked .is-task .ensures, c .if1 .taken) tt) (turn .loop .inv .1))
 
 add-i : tie.Need-add-i Inv-loop μ-loop
 add-i c = search needs
@@ -50,15 +41,16 @@ loop-less c = search needs
 
 loop-again : tie.Need-loop-again Inv-loop μ-loop
 loop-again c =
-    let turn = c .before .before .before in
-    let words = turn .before .args .words .now in
-    (omega arith, none-up (stranger words) 0 (turn .loop .i) (turn .loop .inv .1) (λ h. rw (eq-eqb (getD words (rowWords * turn .loop .i) 0) taskKind (c .if1 .left)) at h))
+    let asked = c .before in
+    let turn = asked .before .before in
+    let words = turn .before .before .args .words .now in
+    (omega arith, none-up (stranger words) 0 (turn .loop .i) (turn .loop .inv .1) (λ h. rw (← asked .is-task .ensures, c .if1 .left) at h))
 
 returns-2 : tie.Need-returns-2 Inv-loop μ-loop
 unfolding firstStranger
 returns-2 c =
     let ended = c .before in
-    let words = ended .before .args .words .now in
+    let words = ended .before .before .args .words .now in
     omega (arith, first-none (stranger words) 0 (rows words) (λ k p q. ended .loop .inv .1 k p (omega arith)))
 
 pub first-stranger-spec : {M : Type 1} → statement M
@@ -68,9 +60,7 @@ first-stranger-spec =
     Inv-loop
     μ-loop
     loop-holds
-    mul-if1
-    mul-if1-2
-    shared-slice-read-if1
+    is-task-requires
     returns
     add-i
     loop-less

@@ -3,7 +3,7 @@ use mathlib.Core.Path.{_≡_, refl}
 use Prim.Native.Nat.{_≤_, _-_}
 use native.Mathlib.Omega.{arith}
 use borrow.Author.Needs.{needs}
-use Rattle.model.specs.Tasks.{task}
+use Rattle.model.specs.Tasks.{task, offset}
 use Rattle.model.specs.Dispatcher.{startOf}
 use Rattle.counting.specs.Fill.{fill-none, fill-put, fill-done}
 use Rattle.slots.specs.Columns.{column}
@@ -11,7 +11,7 @@ use Rattle.slots.proofs.offsets.Statement.{statement}
 use Rattle.slots.proofs.offsets.Tie as tie
 
 abbrev Inv-loop : tie.InvT-loop
-Inv-loop t n wait₀ i₀ wait i = (i ≤ n) × (wait ≡ column i (λ k. task t k .offset))
+Inv-loop t n wait₀ i₀ wait i = (i ≤ n) × (wait ≡ column i (λ k. offset (task t k)))
 
 abbrev μ-loop : tie.MeasureT-loop
 μ-loop t n wait₀ i₀ wait i = n - i
@@ -19,14 +19,17 @@ abbrev μ-loop : tie.MeasureT-loop
 loop-holds : tie.Need-loop-holds Inv-loop μ-loop
 loop-holds c = (omega arith, fill-none _ _)
 
+mul-offset-of : tie.Need-mul-offset-of Inv-loop μ-loop
+mul-offset-of c = search needs
+
+element-copy-out-offset-of : tie.Need-element-copy-out-offset-of Inv-loop μ-loop
+element-copy-out-offset-of c = search needs
+
+offset-of-requires : tie.Need-offset-of-requires Inv-loop μ-loop
+offset-of-requires c κs = search needs
+
 mul-wait : tie.Need-mul-wait Inv-loop μ-loop
 mul-wait c = search needs
-
-element-copy-out-wait : tie.Need-element-copy-out-wait Inv-loop μ-loop
-element-copy-out-wait c = search needs
-
-mul-wait-2 : tie.Need-mul-wait-2 Inv-loop μ-loop
-mul-wait-2 c = search needs
 
 array-write-wait : tie.Need-array-write-wait Inv-loop μ-loop
 array-write-wait c = search needs
@@ -38,7 +41,7 @@ loop-less : tie.Need-loop-less Inv-loop μ-loop
 loop-less c = search needs
 
 loop-again : tie.Need-loop-again Inv-loop μ-loop
-loop-again c = (omega arith, fill-put _ _ _ (c .before .loop .inv .1) refl)
+loop-again c = (omega arith, fill-put _ _ _ (c .before .before .before .loop .inv .1) (c .offset-of .ensures))
 
 returns : tie.Need-returns Inv-loop μ-loop
 unfolding startOf
@@ -51,9 +54,10 @@ offsets-spec =
     Inv-loop
     μ-loop
     loop-holds
+    mul-offset-of
+    element-copy-out-offset-of
+    offset-of-requires
     mul-wait
-    element-copy-out-wait
-    mul-wait-2
     array-write-wait
     add-i
     loop-less

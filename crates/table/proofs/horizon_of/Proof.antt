@@ -7,34 +7,37 @@ use borrow.Author.Needs.{needs}
 use Rattle.values.specs.declared.Table.{Table}
 use Rattle.model.specs.Limits.{slotLimit}
 use Rattle.model.specs.Notation.{largest}
-use Rattle.model.specs.Tasks.{task, horizon}
+use Rattle.model.specs.Tasks.{task, offset, horizon}
 use Rattle.counting.specs.Search.{largest-none, largest-more}
 use Rattle.table.proofs.horizon_of.Statement.{statement}
 use Rattle.table.proofs.horizon_of.Tie as tie
 
-abbrev offset : Table → ℕ → ℕ
-offset t i = task t i .offset
+abbrev start : Table → ℕ → ℕ
+start t i = offset (task t i)
 
 abbrev Inv-loop : tie.InvT-loop
-Inv-loop round t n latest₀ i₀ latest i = (i ≤ n) × (latest ≤ slotLimit) × (latest ≡ largest i (offset t))
+Inv-loop round t n latest₀ i₀ latest i = (i ≤ n) × (latest ≤ slotLimit) × (latest ≡ largest i (start t))
 
 abbrev μ-loop : tie.MeasureT-loop
 μ-loop round t n latest₀ i₀ latest i = n - i
 
-offset-le : (c : tie.In-loop Inv-loop μ-loop) → offset (c .before .before .args .t1) (c .before .loop .i) ≤ slotLimit
+offset-le : (c : tie.In-loop Inv-loop μ-loop) → start (c .before .before .args .t1) (c .before .loop .i) ≤ slotLimit
 offset-le c = c .before .before .pre .0 .each (c .before .loop .i) (omega arith) .offset-le
 
 loop-holds : tie.Need-loop-holds Inv-loop μ-loop
-loop-holds c = (omega arith, omega arith, largest-none (offset (c .args .t1)))
+loop-holds c = (omega arith, omega arith, largest-none (start (c .args .t1)))
 
-mul-offset : tie.Need-mul-offset Inv-loop μ-loop
-mul-offset c = search needs
+mul-offset-of : tie.Need-mul-offset-of Inv-loop μ-loop
+mul-offset-of c = search needs
 
-element-copy-out-offset : tie.Need-element-copy-out-offset Inv-loop μ-loop
-element-copy-out-offset c = search needs
+element-copy-out-offset-of : tie.Need-element-copy-out-offset-of Inv-loop μ-loop
+element-copy-out-offset-of c = search needs
+
+offset-of-requires : tie.Need-offset-of-requires Inv-loop μ-loop
+offset-of-requires c κs = search needs
 
 cast-offset : tie.Need-cast-offset Inv-loop μ-loop
-cast-offset c = omega (arith, offset-le c)
+cast-offset c = omega (arith, offset-le (c .before .before), c .offset-of .ensures)
 
 add-i : tie.Need-add-i Inv-loop μ-loop
 add-i c = search needs
@@ -44,10 +47,11 @@ loop-less c = search needs
 
 loop-again : tie.Need-loop-again Inv-loop μ-loop
 loop-again c =
-    let a = c .before .before in
-    let f = offset (a .before .args .t1) in
-    let later : c .if1 .latest ≡ max (a .loop .latest) (f (a .loop .i)) = ⊎-elim (λ w. omega arith) (λ w. omega arith) (c .if1 .came) in
-    (omega arith, omega (arith, offset-le (c .before)), largest-more f (a .loop .i) (a .loop .inv .2) later)
+    let o = c .before in
+    let a = o .before .before .before in
+    let f = start (a .before .args .t1) in
+    let later : c .if1 .latest ≡ max (a .loop .latest) (f (a .loop .i)) = ⊎-elim (λ w. omega (arith, o .offset-of .ensures)) (λ w. omega (arith, o .offset-of .ensures)) (c .if1 .came) in
+    (omega arith, omega (arith, offset-le (o .before .before)), largest-more f (a .loop .i) (a .loop .inv .2) later)
 
 mul-result : tie.Need-mul-result Inv-loop μ-loop
 mul-result c = search needs
@@ -69,8 +73,9 @@ horizon-of-spec =
     Inv-loop
     μ-loop
     loop-holds
-    mul-offset
-    element-copy-out-offset
+    mul-offset-of
+    element-copy-out-offset-of
+    offset-of-requires
     cast-offset
     add-i
     loop-less

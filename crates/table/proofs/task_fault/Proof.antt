@@ -30,33 +30,38 @@ returns-3 c =
     let a = b .before .before in
     rw (rw (a .before .within .ensures) at (a .if1 .left), rw (b .before .within2 .ensures) at (b .if2 .left), rw (c .before .within3 .ensures) at (c .if3 .taken))
 
+offset-of-requires : tie.Need-offset-of-requires
+offset-of-requires c κs = search needs
+
 within-requires-4 : tie.Need-within-requires-4
 within-requires-4 c κs = search needs
 
 returns-4 : tie.Need-returns-4
 unfolding taskFault
 returns-4 c =
-    let d = c .before .before in
+    let o = c .before .before in
+    let d = o .before in
     let b = d .before .before in
     let a = b .before .before in
     rw (
       rw (a .before .within .ensures) at (a .if1 .left),
       rw (b .before .within2 .ensures) at (b .if2 .left),
       rw (d .before .within3 .ensures) at (d .if3 .left),
-      rw (c .before .within4 .ensures) at (c .if4 .taken),
+      rw (c .before .within4 .ensures, o .offset-of .ensures) at (c .if4 .taken),
     )
 
 returns-5 : tie.Need-returns-5
 unfolding taskFault
 returns-5 c =
-    let d = c .before .before in
+    let o = c .before .before in
+    let d = o .before in
     let b = d .before .before in
     let a = b .before .before in
     rw (
       rw (a .before .within .ensures) at (a .if1 .left),
       rw (b .before .within2 .ensures) at (b .if2 .left),
       rw (d .before .within3 .ensures) at (d .if3 .left),
-      rw (c .before .within4 .ensures) at (c .if4 .left),
+      rw (c .before .within4 .ensures, o .offset-of .ensures) at (c .if4 .left),
     )
 
 pub task-fault-spec : {M : Type 1} → statement M
@@ -69,6 +74,7 @@ task-fault-spec =
     returns-2
     within-requires-3
     returns-3
+    offset-of-requires
     within-requires-4
     returns-4
     returns-5)

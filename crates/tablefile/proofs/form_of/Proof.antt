@@ -6,9 +6,10 @@ use native.Mathlib.Omega.{arith}
 use borrow.Author.Needs.{needs}
 use lib.ListN.{length}
 use Rattle.tablefile.specs.declared.Record.{Record}
-use Rattle.model.specs.Limits.{taskLimit, budgetBytes, taskBytes}
+use Rattle.model.specs.Limits.{taskLimit, budgetBytes}
+use Rattle.model.specs.Tasks.{isButton}
 use Rattle.tablefile.specs.declared.Reading.{Reading}
-use Rattle.tablefile.specs.Reading.{readingAt}
+use Rattle.tablefile.specs.Reading.{recordBytes, record-size, readingAt}
 use Rattle.tablefile.specs.Built.{withTask}
 use Rattle.tablefile.specs.Loading.{Loading, start, within, follows, after-budget, has-room, after-task, after-end}
 use Rattle.tablefile.proofs.form_of.Statement.{statement}
@@ -85,7 +86,7 @@ task-has-room c = has-room (c .before .before .before .before .before .before .b
 
 task-read : (c : tie.After-known-told4 Inv-loop μ-loop)
     → let t = c .before .before .before .before .before .before .before in
-    Loading (file-of t) (t .loop .budget) (withTask (t .loop .table) (c .before .record3 .given .0 .0)) (t .loop .at + taskBytes)
+    Loading (file-of t) (t .loop .budget) (withTask (t .loop .table) (c .before .record3 .given .0 .0)) (t .loop .at + recordBytes (c .before .record3 .given .0 .0))
 task-read c = after-task (c .before .before .before .before .before .before .before .loop .inv) (task-found c)
 
 mul-task : tie.Need-mul-task Inv-loop μ-loop
@@ -97,14 +98,17 @@ element-set-from-task c = task-has-room c
 add-table : tie.Need-add-table Inv-loop μ-loop
 add-table c = omega (arith, task-has-room c)
 
+record-bytes-requires : tie.Need-record-bytes-requires Inv-loop μ-loop
+record-bytes-requires c κs = search needs
+
 add-at-2 : tie.Need-add-at-2 Inv-loop μ-loop
-add-at-2 c = omega (arith, within (task-read c))
+add-at-2 c = omega (arith, within (task-read (c .before)), c .record-bytes .ensures)
 
 loop-less-2 : tie.Need-loop-less-2 Inv-loop μ-loop
-loop-less-2 c = omega (arith, within (task-read c))
+loop-less-2 c = omega (arith, within (task-read (c .before)), c .record-bytes .ensures, record-size (isButton (c .before .before .record3 .given .0 .0)))
 
 loop-again-2 : tie.Need-loop-again-2 Inv-loop μ-loop
-loop-again-2 c = task-read c
+loop-again-2 c = rw (c .record-bytes .ensures) (task-read (c .before))
 
 enum-told : tie.Need-enum-told Inv-loop μ-loop
 enum-told c = search needs
@@ -137,6 +141,7 @@ form-of-spec =
     mul-task
     element-set-from-task
     add-table
+    record-bytes-requires
     add-at-2
     loop-less-2
     loop-again-2

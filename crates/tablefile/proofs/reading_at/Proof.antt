@@ -40,6 +40,9 @@ budget-reading-requires c κs = search needs
 task-reading-requires : tie.Need-task-reading-requires
 task-reading-requires c κs = search needs
 
+task-reading-requires-2 : tie.Need-task-reading-requires-2
+task-reading-requires-2 c κs = search needs
+
 end-reading-requires : tie.Need-end-reading-requires
 end-reading-requires c κs = search needs
 
@@ -62,13 +65,25 @@ returns-5 : tie.Need-returns-5
 unfolding readingAt
 returns-5 c =
     simp (lt-leb _ _ (c .before .before .before .before .if1 .left), c .before .match .keys3)
-    (simp part-to-end at (c .end-reading .ensures))
+    (simp part-to-end at (c .task-reading2 .ensures))
 
 returns-6 : tie.Need-returns-6
 unfolding readingAt
 returns-6 c =
-    simp
-    (lt-leb _ _ (c .before .before .before .before .if1 .left), ne-eqb _ _ (c .before .match .rest .1), ne-eqb _ _ (c .before .match .rest .0 .1), ne-eqb _ _ (c .before .match .rest .0 .0 .1))
+    simp (lt-leb _ _ (c .before .before .before .before .if1 .left), c .before .match .keys4)
+    (simp part-to-end at (c .end-reading .ensures))
+
+returns-7 : tie.Need-returns-7
+unfolding readingAt
+returns-7 c =
+    let others = c .before .match .rest in
+    simp (
+      lt-leb _ _ (c .before .before .before .before .if1 .left),
+      ne-eqb _ _ (others .1),
+      ne-eqb _ _ (others .0 .1),
+      ne-eqb _ _ (others .0 .0 .1),
+      ne-eqb _ _ (others .0 .0 .0 .1),
+    )
     (c .refusal3 .ensures)
 
 pub reading-at-spec : {M : Type 1} → statement M
@@ -86,9 +101,11 @@ reading-at-spec =
     shared-slice-read-match
     budget-reading-requires
     task-reading-requires
+    task-reading-requires-2
     end-reading-requires
     refusal-requires-3
     returns-3
     returns-4
     returns-5
-    returns-6)
+    returns-6
+    returns-7)

@@ -1,13 +1,12 @@
 -- The tasks below `i` are put.
 use mathlib.Core.Path.{_≡_, refl}
-use Prim.Native.Nat.{_≤_, _+_, _*_, _-_}
+use Prim.Native.Nat.{_≤_, _+_, _-_}
 use native.Mathlib.Omega.{arith}
 use borrow.Author.Needs.{needs}
 use lib.ListN.{length, take}
-use Rattle.model.specs.Limits.{taskBytes}
 use Rattle.model.specs.TableFile.{taskRecords}
 use Rattle.counting.specs.Put.{Put, nothing}
-use Rattle.writer.specs.Records.{one-more}
+use Rattle.writer.specs.Records.{records-more, records-step, one-more}
 use Rattle.writer.proofs.put_tasks.Statement.{statement}
 use Rattle.writer.proofs.put_tasks.Tie as tie
 
@@ -15,7 +14,7 @@ abbrev Inv-loop : tie.InvT-loop
 Inv-loop buffer₀ at table count next₀ i₀ buffer next i =
     (i ≤ table .count)
     × (length buffer ≡ length buffer₀)
-    × (next ≡ at + i * taskBytes)
+    × (next ≡ at + length (taskRecords (take i (table .tasks))))
     × Put (taskRecords (take i (table .tasks))) at buffer₀ buffer next
 
 abbrev μ-loop : tie.MeasureT-loop
@@ -32,7 +31,11 @@ element-copy-out-put-task : tie.Need-element-copy-out-put-task Inv-loop μ-loop
 element-copy-out-put-task c = search needs
 
 put-task-requires : tie.Need-put-task-requires Inv-loop μ-loop
-put-task-requires c κs = search needs
+put-task-requires c κs =
+    let turn = c .before .before .before in
+    let t = turn .before .before .args .t3 in
+    let i = turn .loop .i in
+    omega (arith, records-step (t .tasks) i (omega arith), records-more (t .tasks) (i + 1) (t .count) (omega arith), turn .loop .inv .2)
 
 add-i : tie.Need-add-i Inv-loop μ-loop
 add-i c = search needs
@@ -44,7 +47,8 @@ loop-again : tie.Need-loop-again Inv-loop μ-loop
 loop-again c =
     let put = c .before .before in
     let turn = put .before .before .before .before in
-    (omega arith, omega arith, omega arith, one-more _ (turn .loop .i) (omega arith) (turn .loop .inv .3) (put .put-task .ensures .0))
+    let more = one-more _ (turn .loop .i) (omega arith) (turn .loop .inv .3) (put .put-task .ensures .0) in
+    (omega arith, omega arith, more .place, more)
 
 same-length : tie.Need-same-length Inv-loop μ-loop
 same-length c = search needs
@@ -53,7 +57,7 @@ returns : tie.Need-returns Inv-loop μ-loop
 returns c =
     let ended = c .before in
     let all : ended .loop .i ≡ ended .before .before .args .t3 .count = omega arith in
-    (rw all at (ended .loop .inv .3), omega arith)
+    (rw all at (ended .loop .inv .3), rw all at (ended .loop .inv .2))
 
 pub put-tasks-spec : {M : Type 1} → statement M
 put-tasks-spec =

@@ -3,12 +3,12 @@ use mathlib.Core.Path.{sym, _∙_}
 use borrow.Author.Needs.{needs}
 use Rattle.model.specs.Writer.{fileWritten}
 use Rattle.wellformed.specs.Ranges.{holds-all}
-use Rattle.wellformed.specs.WellFormed.{well-formed}
+use Rattle.wellformed.specs.WellFormed.{well-mixed}
 use Rattle.writer.proofs.write.Statement.{statement}
 use Rattle.writer.proofs.write.Tie as tie
 
-judge-requires : tie.Need-judge-requires
-judge-requires c κs = search needs
+judge-mixed-requires : tie.Need-judge-mixed-requires
+judge-mixed-requires c κs = search needs
 
 enum-known-why : tie.Need-enum-known-why
 enum-known-why c = search needs
@@ -20,14 +20,14 @@ write-file-requires : tie.Need-write-file-requires
 write-file-requires c κs =
     let told = c .before in
     let judged = told .before .before in
-    let r = well-formed _ _ (sym (judged .judge .ensures) ∙ told .enum-told .given .1) .ranged in
+    let r = well-mixed _ _ (sym (judged .judge-mixed .ensures) ∙ told .enum-told .given .1) .ranged in
     (r .few, holds-all _ r)
 
 returns : tie.Need-returns
 unfolding fileWritten
 returns c =
     let why = c .before in
-    rw (← why .before .before .judge .ensures, why .why .given .1)
+    rw (← why .before .before .judge-mixed .ensures, why .why .given .1)
 
 same-length : tie.Need-same-length
 same-length c = search needs
@@ -37,13 +37,13 @@ unfolding fileWritten
 returns-2 c =
     let called = c .before .before in
     let told = called .before .before in
-    rw (← told .before .before .judge .ensures, told .enum-told .given .1) (called .write-file .ensures)
+    rw (← told .before .before .judge-mixed .ensures, told .enum-told .given .1) (called .write-file .ensures)
 
 pub write-spec : {M : Type 1} → statement M
 write-spec =
     tie.close
     (tie.spec
-    judge-requires
+    judge-mixed-requires
     enum-known-why
     enum-told
     write-file-requires

@@ -3,15 +3,17 @@ use borrow.Author.Needs.{needs}
 use mathlib.Core.Path.{_≡_}
 use native.Mathlib.Omega.{arith}
 use lib.ListN.{length}
+use lib.Seq.{length-take-le}
 use Rattle.model.specs.TableFile.{fileOf}
 use Rattle.model.specs.Writer.{tasksOf}
-use Rattle.writer.specs.Records.{fileBytes, table-length, nothing, something, short, fits}
+use Rattle.tablefile.specs.Written.{file-length, records-le}
+use Rattle.writer.specs.Records.{fileBytes, nothing, something, short, fits}
 use Rattle.writer.proofs.write_file.Statement.{statement}
 use Rattle.writer.proofs.write_file.Tie as tie
 
 -- The file is as long as its tasks say.
-size : (c : tie.Start) → length (fileOf (c .args .budget) (tasksOf (c .args .table))) ≡ fileBytes (c .args .table .count)
-size c = table-length _ _ (c .pre .1)
+size : (c : tie.Start) → length (fileOf (c .args .budget) (tasksOf (c .args .table))) ≡ fileBytes (c .args .table)
+size c = file-length (c .args .budget) (tasksOf (c .args .table))
 
 no-budget-requires : tie.Need-no-budget-requires
 no-budget-requires c κs = search needs
@@ -25,7 +27,10 @@ file-bytes-requires : tie.Need-file-bytes-requires
 file-bytes-requires c κs = search needs
 
 short-buffer-requires : tie.Need-short-buffer-requires
-short-buffer-requires c κs = search needs
+short-buffer-requires c κs =
+    let start = c .before .before .before .before in
+    let t = start .args .table in
+    omega (arith, c .before .file-bytes .ensures, records-le (tasksOf t), length-take-le (t .count) (t .tasks) (start .pre .1), start .pre .0)
 
 returns-2 : tie.Need-returns-2
 returns-2 c =

@@ -1,7 +1,8 @@
 -- Each return rewrites with what the file turned out to be.
+use mathlib.Core.Path.{_∙_}
 use borrow.Author.Needs.{needs}
-use Rattle.tablefile.specs.Admitted.{well-table, few-tasks}
-use Rattle.quick.specs.Answers.{told-pass}
+use Rattle.tablefile.specs.Admitted.{few-tasks}
+use Rattle.quick.specs.Answers.{told-either}
 use Rattle.yolizadwa.proofs.check_file.Statement.{statement}
 use Rattle.yolizadwa.proofs.check_file.Tie as tie
 
@@ -46,9 +47,9 @@ returns-2 c =
     let t = p .before .before in
     let told = t .before .before in
     let loaded = told .before .before .load .ensures in
-    let (m, well) = well-table _ loaded (told .enum-told .given .1) in
-    let passed = told-pass _ m well (p .before .test .ensures) (p .is-pass .ensures) in
-    rw (← loaded, told .enum-told .given .1) (_, t .tested .ensures, rw passed at (e .export-answer .ensures))
+    let table = told .before .before .load .result .table in
+    let passed = told-either _ _ (table .count) table _ (t .tested .result) (t .tested .ensures) (p .before .test .ensures) (p .is-pass .ensures) in
+    rw (← loaded, told .enum-told .given .1) (_, t .tested .ensures, e .export-answer .ensures ∙ passed)
 
 pub check-file-spec : {M : Type 1} → statement M
 check-file-spec =

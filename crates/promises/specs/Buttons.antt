@@ -1,0 +1,79 @@
+-- TASKS THAT COME WHEN THEY LIKE, T-13 of document 02: pass is said only of tables that have a good schedule for all arrivals that respect them.
+use mathlib.Core.Path.{_≡_, refl}
+use mathlib.Core.Logic.{_↔_}
+use mathlib.Core.List.{List}
+use mathlib.Core.Bool.{true, cond, _&&_}
+use Prim.Native.Nat.{ℕ, _+_, _-_, _≤_, _<_}
+use lib.Dec.{T}
+use Rattle.values.specs.declared.Table.{Table}
+use Rattle.values.specs.declared.Measure.{Measure}
+use Rattle.values.specs.declared.Judgement.{Judgement}
+use Rattle.values.specs.declared.DistanceAnswer.{DistanceAnswer}
+use Rattle.model.specs.Notation.{every, Least}
+use Rattle.model.specs.Values.{refusal}
+use Rattle.model.specs.Tasks.{task, isButton, round, load, judgedMixed, judged}
+use Rattle.model.specs.Demand.{Arrivals, released, demandFor, releases, demand}
+use Rattle.model.specs.Schedule.{Schedule, Good}
+use Rattle.model.specs.Arrivals.{Respects, GoodFor}
+use Rattle.model.specs.Patterns.{light, calm, pattern, distancePass, distanceAnswer}
+use Rattle.model.specs.TableFile.{loadedFrom}
+use Rattle.model.specs.Report.{distanceExported}
+use Rattle.wellformed.specs.WellFormed.{periodic-iff, refused-button, well-mixed, well-formed}
+use Rattle.patterns.specs.DistancePass.{distance-case, distance-told, distance-light}
+use Rattle.patterns.specs.MixedGood.{mixed-good}
+use Rattle.patterns.specs.NoButton.{no-button}
+use Rattle.patterns.specs.GoodReleased.{good-released, releases-respect, presses-respect}
+use Rattle.patterns.specs.DemandFor.{good-for-iff}
+use Rattle.patterns.specs.ButtonsAlone.{buttons-iff}
+use Rattle.promises.specs.DistanceTest.{distance-file-pass}
+
+-- Whatever arrives, if it respects the spacings, and for ever or not: some schedule is good for it.
+abbrev pub AlwaysGood : Table → Type 0
+AlwaysGood t = (a : Arrivals) → Respects t a → (σ : Schedule) × GoodFor t a σ
+
+-- Pass means that; so does 1 of the exported test; and it is not said on overload, in which buttons count.
+pub pass-always-good : (t : Table) → distanceAnswer t ≡ DistanceAnswer.Pass → AlwaysGood t
+unfolding distanceAnswer
+pass-always-good t e = let ((m, well), p) = distance-case t (judgedMixed t) e in mixed-good t (well-mixed t m well .ranged) p
+
+pub file-always-good : (file : List ℕ) → distanceExported file ≡ 1 → AlwaysGood (loadedFrom file .table)
+file-always-good file e = pass-always-good (loadedFrom file .table) (distance-file-pass file e)
+
+pub pass-no-overload : (t : Table) → distanceAnswer t ≡ DistanceAnswer.Pass → load t ≤ round t
+unfolding distanceAnswer
+pass-no-overload t e = distance-light t (distance-case t (judgedMixed t) e .1)
+
+module _ (t : Table) (m : Measure) (well : judgedMixed t ≡ Judgement.WellFormed m) where
+  -- With buttons alone it is said exactly then.
+  pub buttons-exactly : ((i : ℕ) → i < t .count → isButton (task t i) ≡ true) → (distanceAnswer t ≡ DistanceAnswer.Pass) ↔ AlwaysGood t
+  unfolding distanceAnswer
+  buttons-exactly all = (pass-always-good t, λ h. rw well (distance-told t m (buttons-iff t (well-mixed t m well .ranged) all .1 h)))
+
+  -- For arrivals that respect the table some schedule is good exactly if no interval asks for more than its length, with demand defined once.
+  pub arrivals-exactly : (a : Arrivals) → Respects t a → ((σ : Schedule) × GoodFor t a σ) ↔ ((from to : ℕ) → from < to → demandFor t a from to ≤ to - from)
+  arrivals-exactly a k = good-for-iff t (well-mixed t m well .ranged) a k
+
+  -- A table's releases respect it, and are what `Good` speaks of.
+  pub releases-are-arrivals : Respects t (releases t) × ((σ : Schedule) → GoodFor t (releases t) σ ↔ Good t σ)
+  releases-are-arrivals = let r = well-mixed t m well .ranged in (releases-respect t r, good-released t r)
+
+  -- And so do whatever presses of its buttons keep to their spacings, with the releases of its periodic tasks: none, one at any time, or ever more.
+  pub presses-are-arrivals : (a : Arrivals) → ((i u v : ℕ) → i < t .count → T (a i u) → T (a i v) → u < v → u + task t i .period ≤ v)
+      → Respects t (λ i u. cond (isButton (task t i)) (a i u) (released (task t i) u))
+  presses-are-arrivals = presses-respect t (well-mixed t m well .ranged)
+
+  -- Where only periodic tasks are allowed it is refused by 11 at its lowest button.
+  pub refused-by-button : (i : ℕ) → Least (λ k. (k < t .count) × (isButton (task t k) ≡ true)) i → judged t ≡ Judgement.Refused (refusal 11 i)
+  refused-by-button i = refused-button t m i well
+
+pub demand-of-releases : (t : Table) (from to : ℕ) → demand t from to ≡ demandFor t (releases t) from to
+unfolding demand
+demand-of-releases t from to = refl
+
+-- Without a button the test is T-05's, and nothing but the releases respects the table.
+module _ (t : Table) (m : Measure) (well : judged t ≡ Judgement.WellFormed m) where
+  pub periodic-pass : distancePass t ≡ (light t && every (λ i. calm (pattern t i)) (t .count))
+  periodic-pass = no-button t (well-formed t m well .ranged .some) (periodic-iff t m .0 well .1)
+
+  pub only-releases : (a : Arrivals) → Respects t a → (i u : ℕ) → i < t .count → a i u ≡ releases t i u
+  only-releases a k i u l = k .periodic i u l (periodic-iff t m .0 well .1 i l)

@@ -1,0 +1,106 @@
+-- Each return rewrites with the tests that led to it.
+use mathlib.Core.Path.{sym, _∙_}
+use native.Mathlib.Omega.{arith}
+use borrow.Author.Needs.{needs}
+use borrow.Author.Tests.{eq-eqb, ne-eqb, lt-ltb, le-ltb}
+use Rattle.model.specs.Limits.{taskLimit}
+use Rattle.model.specs.Tasks.{judgedMixed}
+use Rattle.wellformed.specs.Ranges.{Ranged, ranged}
+use Rattle.wellformed.specs.Round.{RoundKept}
+use Rattle.wellformed.specs.WellFormed.{mixed-long, mixed-of}
+use Rattle.table.proofs.judge_mixed.Statement.{statement}
+use Rattle.table.proofs.judge_mixed.Tie as tie
+
+in-ranges : (c : tie.Else3) → Ranged (c .before .before .before .before .args .t1)
+in-ranges c = ranged (c .before .before .before .before .args .t1) (omega arith) (omega arith) (omega arith)
+
+round-kept : (c : tie.Else4) → RoundKept (c .before .before .before .before .before .before .args .t1) (c .before .round-of .result)
+round-kept c = record { is = c .before .round-of .ensures .exact (omega arith); le = omega arith }
+
+refused-requires : tie.Need-refused-requires
+refused-requires c κs = search needs
+
+returns : tie.Need-returns
+unfolding judgedMixed
+returns c = rw (eq-eqb _ _ (c .before .if1 .taken)) (c .refused .ensures)
+
+cast-refused : tie.Need-cast-refused
+cast-refused c = search needs
+
+refused-requires-2 : tie.Need-refused-requires-2
+refused-requires-2 c κs = search needs
+
+returns-2 : tie.Need-returns-2
+unfolding judgedMixed
+returns-2 c = rw (ne-eqb _ _ (c .before .before .if1 .left), lt-ltb taskLimit (c .before .before .before .args .t1 .count) (omega arith)) (c .refused2 .ensures)
+
+first-faulty-requires : tie.Need-first-faulty-requires
+first-faulty-requires c κs = search needs
+
+mul-task-fault : tie.Need-mul-task-fault
+mul-task-fault c = search needs
+
+element-copy-out-task-fault : tie.Need-element-copy-out-task-fault
+element-copy-out-task-fault c = search needs
+
+task-fault-requires : tie.Need-task-fault-requires
+task-fault-requires c κs = search needs
+
+cast-refused-2 : tie.Need-cast-refused-2
+cast-refused-2 c = search needs
+
+refused-requires-3 : tie.Need-refused-requires-3
+refused-requires-3 c κs = search needs
+
+returns-3 : tie.Need-returns-3
+unfolding judgedMixed
+returns-3 c =
+    let a = c .before .before .before in
+    let b = a .before in
+    rw (ne-eqb _ _ (b .before .before .if1 .left), le-ltb _ _ (b .before .if2 .left), ← b .first-faulty .ensures, lt-ltb _ _ (a .if3 .taken), ← c .before .task-fault .ensures) (c .refused3 .ensures)
+
+round-of-requires : tie.Need-round-of-requires
+round-of-requires c κs = in-ranges c
+
+refused-requires-4 : tie.Need-refused-requires-4
+refused-requires-4 c κs = search needs
+
+returns-4 : tie.Need-returns-4
+returns-4 c =
+    let a = c .before .before in
+    c .refused4 .ensures ∙ sym (mixed-long (a .before .before .before .before .before .args .t1) (in-ranges (a .before)) (a .round-of .ensures .above (omega arith)))
+
+load-of-requires : tie.Need-load-of-requires
+load-of-requires c κs = (in-ranges (c .before .before), round-kept c)
+
+horizon-of-requires : tie.Need-horizon-of-requires
+horizon-of-requires c κs = (in-ranges (c .before .before .before), round-kept (c .before))
+
+returns-5 : tie.Need-returns-5
+returns-5 c =
+    let a = c .before .before in
+    let kept = round-kept a in
+    rw (kept .is, c .before .load-of .ensures, c .horizon-of .ensures) (sym (mixed-of (a .before .before .before .before .before .before .args .t1) (in-ranges (a .before .before)) (omega arith)))
+
+pub judge-mixed-spec : {M : Type 1} → statement M
+judge-mixed-spec =
+    tie.close
+    (tie.spec
+    refused-requires
+    returns
+    cast-refused
+    refused-requires-2
+    returns-2
+    first-faulty-requires
+    mul-task-fault
+    element-copy-out-task-fault
+    task-fault-requires
+    cast-refused-2
+    refused-requires-3
+    returns-3
+    round-of-requires
+    refused-requires-4
+    returns-4
+    load-of-requires
+    horizon-of-requires
+    returns-5)

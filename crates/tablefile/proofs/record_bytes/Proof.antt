@@ -1,0 +1,22 @@
+use mathlib.Core.Path.{ap}
+use mathlib.Core.Bool.{Bool}
+use native.Mathlib.Omega.{arith}
+use borrow.Author.Needs.{needs}
+use Rattle.tablefile.specs.Reading.{recordSize, record-size}
+use Rattle.tablefile.proofs.record_bytes.Statement.{statement}
+use Rattle.tablefile.proofs.record_bytes.Tie as tie
+
+is-button-requires : tie.Need-is-button-requires
+is-button-requires c κs = search needs
+
+body-bytes-requires : tie.Need-body-bytes-requires
+body-bytes-requires c κs = search needs
+
+add-result : tie.Need-add-result
+add-result c = omega (arith, c .body-bytes .ensures, record-size (c .before .is-button .result))
+
+returns : tie.Need-returns
+returns c = rw (← c .before .is-button .ensures) (omega (arith, c .body-bytes .ensures, record-size (c .before .is-button .result)))
+
+pub record-bytes-spec : {M : Type 1} → statement M
+record-bytes-spec = tie.close (tie.spec is-button-requires body-bytes-requires add-result returns)
