@@ -196,7 +196,7 @@ int run(const struct request *request)
 {
     static struct chart chart;
     struct table table;
-    int status = open_table(request->files[0], stderr, &table);
+    int status = open_periodic(request->files[0], stderr, "run", &table);
     if (status != DONE) {
         return status;
     }

@@ -29,6 +29,7 @@ struct request {
 
 /* The bytes of a FILE as they were found, text or table file. */
 struct input {
+    const char *given; /* as the command was called */
     const char *name;
     uint8_t *bytes;
     size_t len;
@@ -41,7 +42,9 @@ struct table {
     int was_text;
 };
 
+/* Of a button the period is its least spacing, and the offset, which it has not, 0. */
 struct task {
+    int button;
     uint64_t offset, cost, deadline, period;
 };
 
@@ -59,16 +62,20 @@ int write_output(const char *name, const uint8_t *bytes, size_t len);
 int is_table_file(const struct input *input);
 uint64_t table_of(const struct input *input, struct table *table);
 int open_table(const char *name, FILE *refusals, struct table *table);
+int open_periodic(const char *name, FILE *refusals, const char *what, struct table *table);
 uint64_t budget_of(const struct table *table);
 void replace_budget(struct table *table, uint64_t budget);
 void lighten(struct table *table);
 void overload(struct table *table);
+void start_buttons(struct table *table);
 void keep_first(struct table *table, unsigned tasks);
 unsigned task_count(const struct table *table);
+unsigned button_count(const struct table *table);
 struct task task_at(const struct table *table, unsigned number);
 
 /* Refusals in words, and for a text the line. */
 int say_refusal(FILE *to, const struct input *input, uint64_t result);
+int say_button(FILE *to, const struct input *input, const char *what, uint64_t result);
 int say_no_task(FILE *to, const struct table *table, uint32_t task, uint64_t result);
 
 /* Reports. */

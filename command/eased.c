@@ -154,7 +154,7 @@ static int say_not_eased(const struct table *before, const struct table *after, 
 
 static int open_one(const char *name, const char *which, struct table *table)
 {
-    int status = open_table(name, stdout, table);
+    int status = open_periodic(name, stdout, "eased", table);
     if (status == REFUSED) {
         printf("that is the %s table, %s\n", which, strcmp(name, "-") == 0 ? "standard input" : name);
     }

@@ -61,6 +61,7 @@ int read_input(const char *name, struct input *input)
 {
     int standard = strcmp(name, "-") == 0;
     FILE *in = standard ? stdin : fopen(name, "rb");
+    input->given = name;
     input->name = standard ? "standard input" : name;
     input->bytes = NULL;
     input->len = 0;

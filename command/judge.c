@@ -158,7 +158,7 @@ int judge(const struct request *request)
 {
     struct table table;
     struct report report;
-    int status = open_table(request->files[0], stdout, &table);
+    int status = open_periodic(request->files[0], stdout, "the exact test", &table);
     if (status != DONE) {
         return status;
     }

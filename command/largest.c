@@ -49,7 +49,7 @@ int largest(const struct request *request)
 {
     struct table table;
     uint64_t told[YOLIZADWA_TASKS];
-    int status = open_table(request->files[0], stdout, &table);
+    int status = open_periodic(request->files[0], stdout, "largest", &table);
     if (status != DONE) {
         return status;
     }

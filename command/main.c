@@ -1,6 +1,6 @@
 /*
- * yolizadwa: judges tables of periodic tasks and shows who has each slot. docs/COMMAND.md is its manual, and names, words and
- * statuses there are a promise.
+ * yolizadwa: judges tables of periodic tasks and of buttons, and shows who has each slot. docs/COMMAND.md is its manual, and names,
+ * words and statuses there are a promise.
  */
 #define _POSIX_C_SOURCE 200809L
 

@@ -8,11 +8,13 @@ struct page {
 };
 
 static const char usage[] =
-    "yolizadwa judges tables of periodic tasks and shows who has each slot.\n"
+    "yolizadwa judges tables of periodic tasks and of buttons, and shows who has each\n"
+    "slot.\n"
     "\n"
     "  yolizadwa judge FILE [--all] [--plainly]   whether every job is in time\n"
     "  yolizadwa quick FILE                       an answer at once, or none\n"
-    "  yolizadwa distance FILE                    an answer by the offsets, or none\n"
+    "  yolizadwa distance FILE                    an answer by the offsets and for\n"
+    "                                             buttons, or none\n"
     "  yolizadwa eased OLD NEW                    whether NEW is OLD made easier\n"
     "  yolizadwa largest FILE [TASK]              how far a cost may grow\n"
     "  yolizadwa run FILE [--slots N] [--early]   a chart of who has each slot\n"
@@ -29,6 +31,9 @@ static const char usage[] =
     "  task 8 5 7 15        # offset cost deadline period\n"
     "  task 0 2 2 5\n"
     "\n"
+    "A button is a line such as: button 3 10 40, which are its cost, its deadline and\n"
+    "the least spacing of its presses; distance is the test for it.\n"
+    "\n"
     "Ends with 0: passes, or done; 1: cannot be done; 2: refused; 3: late or\n"
     "overload; 4: undecided, no answer, or no easing.\n";
 
@@ -41,7 +46,8 @@ static const char page_judge[] =
     "the jobs of it, the first 100 or with --all every one. A table that is no good\n"
     "is refused with a number and a place, in words, and of a text with the line.\n"
     "With --plainly the run is looked at slot by slot and not from one release or\n"
-    "finish to the next: the report is the same, and it takes longer.\n"
+    "finish to the next: the report is the same, and it takes longer. A table with a\n"
+    "button is refused: distance is the test for it.\n"
     "\n"
     "Ends with 0 if the table passes, 2 if it is refused, 3 if it is late or\n"
     "overloaded, 4 if its budget ends before the answer is known.\n";
@@ -53,20 +59,27 @@ static const char page_quick[] =
     "which all earlier jobs are finished, mostly a matter of few slots. quick pass:\n"
     "every job is in time, with these offsets and with any others. quick none: no\n"
     "answer, and judge is asked. It needs no budget and never says late. With a load\n"
-    "near 1 it may take as long as judge.\n"
+    "near 1 it may take as long as judge. A table with a button is refused.\n"
     "\n"
     "Ends with 0 if the answer is pass, 4 if there is none, 2 if the table is refused.\n";
 
 static const char page_distance[] =
     "yolizadwa distance FILE\n"
     "\n"
-    "For tables that judge takes long over. Each task in turn is taken to start at 0,\n"
-    "and every other as soon after it as its releases ever come; each such run is\n"
-    "looked at as by quick. distance pass: every job is in time. distance overload:\n"
-    "more slots are asked for than there are. distance none: no answer, and judge is\n"
-    "asked. Wherever quick says pass, so does distance. It needs no budget and never\n"
-    "says late. With a load near 1 it may look, for each task, at as many slots as\n"
-    "the least common multiple of the periods has, and then judge is faster.\n"
+    "For tables that judge takes long over, and for tables with buttons. Each task in\n"
+    "turn is taken to start at 0, and every other as soon after it as its releases\n"
+    "ever come; each such run is looked at as by quick. distance pass: every job is\n"
+    "in time. distance overload: more slots are asked for than there are. distance\n"
+    "none: no answer, and judge is asked. Wherever quick says pass, so does distance.\n"
+    "It needs no budget and never says late. With a load near 1 it may look, for each\n"
+    "task, at as many slots as the least common multiple of the periods has, and then\n"
+    "judge is faster.\n"
+    "\n"
+    "In each run every button comes at 0 too, and again as soon as it may. Then pass\n"
+    "means: whenever the buttons are pressed, each at least its spacing apart, the\n"
+    "slots can be given out so that every job is in time. Of buttons alone there is\n"
+    "one run, and none means that a job can be late; with tasks beside it is no\n"
+    "answer, and no other test is for buttons.\n"
     "\n"
     "Ends with 0 if the answer is pass, 3 on overload, 4 if there is no answer, 2 if\n"
     "the table is refused.\n";
@@ -83,7 +96,7 @@ static const char page_eased[] =
     "deadline may make one grow. eased no: the first task of NEW that is none of\n"
     "OLD's, and the number that stands in the way; judge tells whether NEW passes.\n"
     "No budget counts, and whether OLD passes is not looked at. One of the two may\n"
-    "be - for standard input.\n"
+    "be - for standard input. A table with a button is refused.\n"
     "\n"
     "Ends with 0 if the answer is yes, 4 if it is no, 2 if a table is refused.\n";
 
@@ -97,7 +110,7 @@ static const char page_largest[] =
     "Of a table that does not pass there is no number: largest overload, largest\n"
     "late, or largest undecided if its budget ends before the answer is known; a\n"
     "budget that reaches the horizon always tells. Tasks are numbered from 0. The\n"
-    "table is tested up to 17 times for each task.\n"
+    "table is tested up to 17 times for each task. A table with a button is refused.\n"
     "\n"
     "Ends with 0 if it is told, 2 if the table is refused or has no such task, 3 if\n"
     "it is late or overloaded, 4 if it is undecided.\n";
@@ -117,7 +130,7 @@ static const char page_run[] =
     "slots each task had, how many were empty, and which share that is. N is at\n"
     "most 1,000,000; without --slots it is the horizon, but at least 35 and at most\n"
     "120. With --early every job ends after half its cost, rounded up. The chart has\n"
-    "80 columns, or as many as COLUMNS says.\n"
+    "80 columns, or as many as COLUMNS says. A table with a button is refused.\n"
     "\n"
     "Ends with 0 if no job was closed late, 3 if one was, 2 if the table is refused.\n";
 
@@ -139,21 +152,25 @@ static const char page_make[] =
     "Ends with 0, or 2 if the table is refused.\n";
 
 static const char page_text[] =
-    "A table in plain text: a line for the budget, then a line for each task, of\n"
-    "which there are 1 to 32, numbered from 0.\n"
+    "A table in plain text: a line for the budget, then a line for each task or\n"
+    "button, of which there are 1 to 32 in all, numbered from 0.\n"
     "\n"
     "  # the March lens\n"
     "  budget 1000          # slots that the judge may look at\n"
     "  task 8 5 7 15        # task 0: offset 8, cost 5, deadline 7, period 15\n"
     "  task 0 2 2 5         # task 1\n"
+    "  button 1 9 30        # task 2: cost 1, deadline 9, spacing 30\n"
     "\n"
     "A job of task 0 is released at 8, 23, 38 and so on, needs 5 slots, and is due\n"
-    "7 slots after its release. # begins a comment; blanks or tabs part words.\n"
+    "7 slots after its release. Task 2 is a button: a job comes when it is pressed,\n"
+    "if ever, and not again within 30 slots. # begins a comment; blanks or tabs part\n"
+    "words.\n"
     "\n"
     "  period     1 to 60,000; their least common multiple at most 1,000,000,000,000\n"
-    "  deadline   1 to the period\n"
+    "  spacing    as a period, and counted with them\n"
+    "  deadline   1 to the period or spacing\n"
     "  cost       1 to the deadline\n"
-    "  offset     0 to 60,000\n"
+    "  offset     0 to 60,000; a button has none\n"
     "  budget     from 1; the horizon is enough; 2,000,000,060,000 is for every table\n";
 
 static const struct page pages[] = {

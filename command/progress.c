@@ -76,6 +76,7 @@ static void estimate(const struct table *table, unsigned checks, unsigned walks,
     struct table probe = *table;
     struct report report;
     outlook_length = (size_t)snprintf(outlook, sizeof outlook, " s");
+    start_buttons(&probe);
     lighten(&probe);
     if (quick_slots(&probe, longest_round) > PROBE_SLOTS) {
         return;

@@ -4,7 +4,7 @@
 int quick(const struct request *request)
 {
     struct table table;
-    int status = open_table(request->files[0], stdout, &table);
+    int status = open_periodic(request->files[0], stdout, "the quick test", &table);
     if (status != DONE) {
         return status;
     }

@@ -13,26 +13,26 @@ struct meaning {
 
 static const struct meaning meanings[] = {
     {YOLIZADWA_NO_TASK, "the table has no task", NULL},
-    {YOLIZADWA_BAD_PERIOD, "the period of task ", " is not between 1 and 60,000"},
-    {YOLIZADWA_BAD_DEADLINE, "the deadline of task ", " is not between 1 and its period"},
+    {YOLIZADWA_BAD_PERIOD, "the period of task ", ", or as a button its spacing, is not between 1 and 60,000"},
+    {YOLIZADWA_BAD_DEADLINE, "the deadline of task ", " is not between 1 and its period, or as a button its spacing"},
     {YOLIZADWA_BAD_COST, "the cost of task ", " is not between 1 and its deadline"},
     {YOLIZADWA_BAD_OFFSET, "the offset of task ", " is above 60,000"},
-    {YOLIZADWA_LONG_ROUND, "the least common multiple of the periods is above 1,000,000,000,000", NULL},
+    {YOLIZADWA_LONG_ROUND, "the least common multiple of the periods and spacings is above 1,000,000,000,000", NULL},
     {YOLIZADWA_CUT_SHORT, "the file ends inside the record that begins at byte ", ""},
     {YOLIZADWA_UNKNOWN_KIND, "the record that begins at byte ", " is of no known kind"},
     {YOLIZADWA_NO_BUDGET_FIRST, "the file does not begin with a budget", NULL},
     {YOLIZADWA_SECOND_BUDGET, "a second budget begins at byte ", ""},
     {YOLIZADWA_BYTES_AFTER_END, "the file goes on at byte ", ", after its end"},
-    {YOLIZADWA_EXTRA_TASK, "a thirty-third task begins at byte ", ""},
+    {YOLIZADWA_EXTRA_TASK, "a thirty-third task or button begins at byte ", ""},
     {YOLIZADWA_NO_END, "the file stops at byte ", " without an end"},
     {YOLIZADWA_ZERO_BUDGET, "a budget of 0 tests nothing; the least is 1", NULL},
-    {YOLIZADWA_UNKNOWN_WORD, "line ", " begins with a word that is neither budget nor task"},
+    {YOLIZADWA_UNKNOWN_WORD, "line ", " begins with a word that is none of budget, task and button"},
     {YOLIZADWA_NO_NUMBER, "line ", " has a word that is no decimal number"},
     {YOLIZADWA_LARGE_NUMBER, "line ", " has a number that is too large to be read"},
-    {YOLIZADWA_NUMBERS_DUE, "line ", " has too few numbers or too many; a budget has one, a task four: offset cost deadline period"},
+    {YOLIZADWA_NUMBERS_DUE, "line ", " has too few numbers or too many: budget slots, task offset cost deadline period, button cost deadline spacing"},
     {YOLIZADWA_NO_BUDGET, "up to line ", " there is no budget, which comes first, as in: budget 1000"},
     {YOLIZADWA_BUDGET_AGAIN, "line ", " is a second budget"},
-    {YOLIZADWA_TASK_TOO_MANY, "line ", " is a thirty-third task, and 32 is the most"},
+    {YOLIZADWA_TASK_TOO_MANY, "line ", " is a thirty-third task or button, and 32 is the most"},
 };
 
 static const struct meaning *meaning_of(uint32_t number)
@@ -53,10 +53,13 @@ static size_t line_end(const struct input *text, size_t at)
     return feed == NULL ? text->len : (size_t)(feed - text->bytes);
 }
 
+/* A button is refused where the table is started, and not where its text is read. */
 static int same_up_to(const struct input *text, size_t end, uint64_t result)
 {
     uint8_t file[YOLIZADWA_LONGEST_FILE];
-    return yolizadwa_from_text(text->bytes, end, file, sizeof file) == result;
+    struct yolizadwa_state state;
+    uint64_t read = yolizadwa_from_text(text->bytes, end, file, sizeof file);
+    return (yolizadwa_refused(read) ? read : yolizadwa_start(file, (size_t)read, (uint8_t *)&state, sizeof state)) == result;
 }
 
 /*
@@ -147,6 +150,20 @@ int say_refusal(FILE *to, const struct input *input, uint64_t result)
         show_line(to, input, begin, line);
     }
     hint_at_mark(to, input);
+    return REFUSED;
+}
+
+/* What is asked for is for tables without buttons; the line of the first one, and which test is for it. */
+int say_button(FILE *to, const struct input *input, const char *what, uint64_t result)
+{
+    unsigned number = (unsigned)yolizadwa_place(result);
+    fprintf(to, "refused %u at %u: task %u is a button, and %s is for tables without buttons\n", (unsigned)yolizadwa_number(result), number,
+            number, what);
+    if (!is_table_file(input)) {
+        size_t begin = refused_line(input, result);
+        show_line(to, input, begin, line_number(input, begin));
+    }
+    fprintf(to, "the test for it is: yolizadwa distance %s\n", input->given);
     return REFUSED;
 }
 

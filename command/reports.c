@@ -9,7 +9,7 @@ void check_table(const struct table *table, int plainly, struct report *report)
     uint8_t *text = (uint8_t *)report->text;
     uint64_t length = plainly ? yolizadwa_check_plainly(table->file, table->len, text, YOLIZADWA_REPORT_BYTES)
                               : yolizadwa_check(table->file, table->len, text, YOLIZADWA_REPORT_BYTES);
-    report->text[length] = '\0';
+    report->text[yolizadwa_refused(length) ? 0 : length] = '\0';
 }
 
 /* The number that comes after these words in the report; 0 if they do not stand there. */

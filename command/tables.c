@@ -4,7 +4,7 @@
 
 #include "command.h"
 
-enum { BUDGET_AT = 1, BUDGET_BYTES = 8, TASKS_AT = 9, TASK_BYTES = 17, WORD_BYTES = 4 };
+enum { BUDGET_AT = 1, BUDGET_BYTES = 8, TASKS_AT = 9, TASK_BYTES = 17, BUTTON_BYTES = 13, WORD_BYTES = 4 };
 
 int is_table_file(const struct input *input)
 {
@@ -30,7 +30,15 @@ uint64_t table_of(const struct input *input, struct table *table)
     return result;
 }
 
-int open_table(const char *name, FILE *refusals, struct table *table)
+/* Whatever is for tables without buttons refuses one that has some in the same way, and a start takes no time. */
+static uint64_t started(const struct table *table)
+{
+    struct yolizadwa_state state;
+    return yolizadwa_start(table->file, table->len, (uint8_t *)&state, sizeof state);
+}
+
+/* With `what`, for that alone which is for tables without buttons. */
+static int open_for(const char *name, FILE *refusals, const char *what, struct table *table)
 {
     struct input input;
     int status = read_input(name, &input);
@@ -40,9 +48,21 @@ int open_table(const char *name, FILE *refusals, struct table *table)
     uint64_t result = table_of(&input, table);
     if (yolizadwa_refused(result)) {
         status = say_refusal(refusals, &input, result);
+    } else if (what != NULL && yolizadwa_refused(result = started(table))) {
+        status = say_button(refusals, &input, what, result);
     }
     free(input.bytes);
     return status;
+}
+
+int open_table(const char *name, FILE *refusals, struct table *table)
+{
+    return open_for(name, refusals, NULL, table);
+}
+
+int open_periodic(const char *name, FILE *refusals, const char *what, struct table *table)
+{
+    return open_for(name, refusals, what, table);
 }
 
 static uint64_t number_at(const uint8_t *bytes, size_t count)
@@ -66,10 +86,32 @@ void replace_budget(struct table *table, uint64_t budget)
     }
 }
 
-/* Where a number of a task stands: offset, cost, deadline, period. */
+static int is_button(const uint8_t *record)
+{
+    return record[0] == YOLIZADWA_KIND_BUTTON;
+}
+
+/* Where the record behind that of a task or button begins. */
+static size_t next_record(const struct table *table, size_t at)
+{
+    return at + (is_button(table->file + at) ? BUTTON_BYTES : TASK_BYTES);
+}
+
+/* Where the record of a task or button begins; behind the last one the end's. */
+static size_t record_at(const struct table *table, unsigned number)
+{
+    size_t at = TASKS_AT;
+    for (; number > 0; number--) {
+        at = next_record(table, at);
+    }
+    return at;
+}
+
+/* Where a number of a task stands: offset, which a button has not, cost, deadline, period. */
 static uint8_t *number_of(struct table *table, unsigned task, unsigned which)
 {
-    return table->file + TASKS_AT + TASK_BYTES * task + 1 + WORD_BYTES * which;
+    uint8_t *record = table->file + record_at(table, task);
+    return record + 1 + WORD_BYTES * (which - (unsigned)is_button(record));
 }
 
 /* Costs of 1, so that as a rule a quick test soon ends. */
@@ -91,26 +133,56 @@ void overload(struct table *table)
     }
 }
 
+/* Every button made a task that comes from 0 on, as often as the button may. */
+void start_buttons(struct table *table)
+{
+    for (unsigned number = 0; number < task_count(table); number++) {
+        size_t at = record_at(table, number);
+        if (is_button(table->file + at)) {
+            memmove(table->file + at + 1 + WORD_BYTES, table->file + at + 1, table->len - at - 1);
+            memset(table->file + at + 1, 0, WORD_BYTES);
+            table->file[at] = YOLIZADWA_KIND_TASK;
+            table->len += WORD_BYTES;
+        }
+    }
+}
+
 /* Without the tasks from this one on; at least one stays. */
 void keep_first(struct table *table, unsigned tasks)
 {
-    table->len = TASKS_AT + TASK_BYTES * (size_t)tasks + 1;
+    table->len = record_at(table, tasks) + 1;
     table->file[table->len - 1] = YOLIZADWA_KIND_END;
 }
 
 unsigned task_count(const struct table *table)
 {
-    return (unsigned)((table->len - TASKS_AT) / TASK_BYTES);
+    unsigned count = 0;
+    for (size_t at = TASKS_AT; table->file[at] != YOLIZADWA_KIND_END; at = next_record(table, at)) {
+        count++;
+    }
+    return count;
+}
+
+unsigned button_count(const struct table *table)
+{
+    unsigned buttons = 0;
+    for (size_t at = TASKS_AT; table->file[at] != YOLIZADWA_KIND_END; at = next_record(table, at)) {
+        buttons += (unsigned)is_button(table->file + at);
+    }
+    return buttons;
 }
 
 struct task task_at(const struct table *table, unsigned number)
 {
-    const uint8_t *words = table->file + TASKS_AT + TASK_BYTES * number + 1;
-    struct task task;
-    task.offset = number_at(words, WORD_BYTES);
-    task.cost = number_at(words + WORD_BYTES, WORD_BYTES);
-    task.deadline = number_at(words + 2 * WORD_BYTES, WORD_BYTES);
-    task.period = number_at(words + 3 * WORD_BYTES, WORD_BYTES);
+    const uint8_t *record = table->file + record_at(table, number), *words = record + 1;
+    struct task task = {is_button(record), 0, 0, 0, 0};
+    if (!task.button) {
+        task.offset = number_at(words, WORD_BYTES);
+        words += WORD_BYTES;
+    }
+    task.cost = number_at(words, WORD_BYTES);
+    task.deadline = number_at(words + WORD_BYTES, WORD_BYTES);
+    task.period = number_at(words + 2 * WORD_BYTES, WORD_BYTES);
     return task;
 }
 

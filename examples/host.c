@@ -90,7 +90,7 @@ static void print_slot(unsigned long slot, uint64_t owner, const struct yolizadw
     printf("\n");
 }
 
-/* What the service desk asks: where the slots went. A file has 9 bytes of budget, 17 for each task and 1 of end. */
+/* What the service desk asks: where the slots went. A file that can be run has no button: 9 bytes of budget, 17 for each task, 1 of end. */
 static void print_accounts(const struct yolizadwa_state *state, size_t len)
 {
     const unsigned tasks = (unsigned)((len - 9 - 1) / 17);

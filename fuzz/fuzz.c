@@ -112,11 +112,17 @@ static void try_largest(const uint8_t *file, size_t len, uint64_t checked, const
     }
 }
 
+// The bytes of the record at a place if it is a whole task or button, else 0.
+static size_t record(const uint8_t *file, size_t len, size_t at) {
+    size_t bytes = at >= len ? 0 : file[at] == 2 ? 17 : file[at] == 4 ? 13 : 0;
+    return at + bytes <= len ? bytes : 0;
+}
+
 // No budget bounds the quick test and the distance test, so a round that is neither short nor refused is passed over.
 static int affordable(const uint8_t *file, size_t len) {
     uint64_t round = 1, short_enough = 1 << 18, longest = 1000000000000;
-    for (size_t at = 9; at + 17 <= len && file[at] == 2 && round <= longest; at += 17) {
-        uint64_t a = round, b = word(file, at + 13), period = b;
+    for (size_t at = 9, bytes; (bytes = record(file, len, at)) != 0 && round <= longest; at += bytes) {
+        uint64_t a = round, b = word(file, at + bytes - 4), period = b;
         if (period == 0 || period > 60000) return 1;
         while (b) {
             uint64_t rest = a % b;
@@ -126,6 +132,26 @@ static int affordable(const uint8_t *file, size_t len) {
         round = round / a * period;
     }
     return round <= short_enough || round > longest;
+}
+
+// A table with buttons, which a check refuses at the first: each made a task from some offset on is one way that they may come.
+static void try_buttons(const uint8_t *file, size_t len, uint64_t checked, uint64_t d, const uint8_t *more, size_t more_len) {
+    uint8_t *tasks = block(len + 4 * NONE, 0), text[REPORT + 1] = {0};
+    size_t to = 9, at = 9, number = 0, first = NONE;
+    memcpy(tasks, file, 9);
+    for (size_t bytes; (bytes = record(file, len, at)) != 0; at += bytes, to += 17, number++) {
+        int button = file[at] == 4;
+        if (button && first == NONE) first = number;
+        tasks[to] = 2;
+        if (button) put_word(tasks, to + 1, more_len ? more[number % more_len] : 0);
+        memcpy(tasks + to + (button ? 5 : 1), file + at + 1, bytes - 1);
+    }
+    tasks[to] = 3;
+    HOLDS(checked == (uint64_t)11 * REFUSED + first && d <= 2);
+    HOLDS(check(tasks, to + 1, REPORT, 0xa5, text) < REFUSED);
+    HOLDS((d == 2) == (strstr((char *)text, "verdict overload\n") != 0));
+    if (d == 1) HOLDS(!strstr((char *)text, "verdict late\n"));
+    free(tasks);
 }
 
 static void try_file(const uint8_t *bytes, size_t len, const uint8_t *more, size_t more_len) {
@@ -163,9 +189,10 @@ static void try_file(const uint8_t *bytes, size_t len, const uint8_t *more, size
         HOLDS((q == 0) == (strstr((char *)text, "\nquick none\n") != 0));
     }
 
-    // so does the distance test, which passes what the quick test passes, and nothing that is late or overloaded
+    // so does the distance test, but for buttons, which passes what the quick test passes, and nothing that is late or overloaded
     uint64_t d = yolizadwa_distance(file, len);
-    if (r >= REFUSED) HOLDS(d == r);
+    if (r >> 16 == 11) try_buttons(file, len, r, d, more, more_len);
+    else if (r >= REFUSED) HOLDS(d == r);
     else {
         HOLDS(d <= 2);
         HOLDS(q != 1 || d == 1);
@@ -254,12 +281,14 @@ int LLVMFuzzerTestOneInput(const uint8_t *data, size_t size) {
             for (int b = 0; b < 2; b++) n[k] = n[k] << 8 | (used < size ? data[used++] : 1);
         uint32_t period = 1 + n[0] % longest, deadline = period - (n[1] & 7 ? n[1] % period / 4 : 0), cost = 1 + n[2] % deadline;
         if (tasks > 1 && cost > 1 + period / tasks) cost = 1 + period / tasks;
-        file[at++] = 2;
-        put_word(file, at, n[3] % 300);
-        put_word(file, at + 4, cost);
-        put_word(file, at + 8, deadline);
-        put_word(file, at + 12, period);
-        at += 16;
+        int button = cut & 64 && n[3] % 3 == 0;
+        file[at++] = button ? 4 : 2;
+        if (!button) put_word(file, at, n[3] % 300);
+        at += button ? 0 : 4;
+        put_word(file, at, cost);
+        put_word(file, at + 4, deadline);
+        put_word(file, at + 8, period);
+        at += 12;
     }
     file[at++] = 3;
     try_file(file, at, data + used, size - used);

@@ -9,7 +9,7 @@
  *   yolizadwa_check          judges a table file and writes its report as text
  *   yolizadwa_check_plainly  does the same slot by slot
  *   yolizadwa_quick          judges it in short, with all tasks started at once: pass, or no answer
- *   yolizadwa_distance       judges it in short, with its offsets: pass, overload, or no answer
+ *   yolizadwa_distance       judges it in short, with its offsets and with buttons: pass, overload, or no answer
  *   yolizadwa_eased          tells whether a table file is an easing of another one, and so needs no new test
  *   yolizadwa_largest        tells how much the cost of one task may grow before the table no longer passes
  *   yolizadwa_start          makes the dispatcher's first state for a table file
@@ -36,7 +36,7 @@
 extern "C" {
 #endif
 
-#define YOLIZADWA_TASKS 32          /* the most tasks a table may have; as a task number: none */
+#define YOLIZADWA_TASKS 32          /* the most tasks and buttons a table may have; as a task number: none */
 #define YOLIZADWA_REPORT_BYTES 1024 /* the least length of a report buffer; no report is longer */
 #define YOLIZADWA_STATE_BYTES 536   /* the only length of a state buffer */
 #define YOLIZADWA_LONGEST_FILE 554  /* bytes of the longest file that is not refused */
@@ -45,55 +45,67 @@ extern "C" {
  * A table file is a row of records; a record is one byte of kind and a body. Numbers are little-endian.
  *
  *   kind 1, budget   8 bytes: how many slots the test may look at, 1 or more. First in the file, once.
- *   kind 2, task    16 bytes: offset, cost, deadline, period, four bytes each. 0 to 32 times; numbered from 0.
+ *   kind 2, task    16 bytes: offset, cost, deadline, period, four bytes each.
+ *   kind 4, button  12 bytes: cost, deadline, least spacing, four bytes each. Tasks and buttons stand in any order, 0 to 32 in all,
+ *                   and are numbered together from 0.
  *   kind 3, end      0 bytes. Nothing comes after it.
+ *
+ * A task has a job every period from its offset on. A button has a job whenever it is pressed, if ever, but never two less than its
+ * spacing apart: it has no offset. Wherever a period is spoken of, in refusals 3, 4 and 7, in the round and in the load, a button's is
+ * its spacing, and as a task it is counted and named by its number.
+ *
+ * Files and texts with buttons are read and written by yolizadwa_write, yolizadwa_from_text and yolizadwa_to_text, and judged by
+ * yolizadwa_distance. Every other call needs a table without buttons and refuses one by 11.
  */
 enum yolizadwa_kind {
     YOLIZADWA_KIND_BUDGET = 1,
     YOLIZADWA_KIND_TASK = 2,
-    YOLIZADWA_KIND_END = 3
+    YOLIZADWA_KIND_END = 3,
+    YOLIZADWA_KIND_BUTTON = 4
 };
 
 /*
  * What a refusal's number says, and what its place is. If several hold, the first of this order is told: the length of a
  * report or state buffer (30, 50); the first fault of what is read (20 to 27 of a file, 51 then 52 of words, 60 to 66 or 27 of
- * a text); the number of tasks (1, 2); then task by task 3, 4, 5, 6; then 7; then the state (8, 9), the task that is asked for (12),
- * or the budget that is written (27) and the length of the buffer for it (31).
+ * a text); the number of tasks (1, 2); then task by task 3, 4, 5, 6; then 7; then a button where none is taken (11); then the state
+ * (8, 9), the task that is asked for (12), or the budget that is written (27) and the length of the buffer for it (31).
  */
 enum yolizadwa_refusal {
     YOLIZADWA_NO_TASK = 1,          /* the table has no task; place 0 */
-    YOLIZADWA_TOO_MANY_TASKS = 2,   /* more than 32 tasks; place 32. A file with so many is refused with 25, a text with 66 */
-    YOLIZADWA_BAD_PERIOD = 3,       /* a period outside 1 to 60,000; place: the task */
-    YOLIZADWA_BAD_DEADLINE = 4,     /* a deadline outside 1 to the period; place: the task */
+    YOLIZADWA_TOO_MANY_TASKS = 2,   /* more than 32 tasks and buttons; place 32. A file with so many is refused with 25, a text with 66 */
+    YOLIZADWA_BAD_PERIOD = 3,       /* a period, or a button's spacing, outside 1 to 60,000; place: the task */
+    YOLIZADWA_BAD_DEADLINE = 4,     /* a deadline outside 1 to the period or spacing; place: the task */
     YOLIZADWA_BAD_COST = 5,         /* a cost outside 1 to the deadline; place: the task */
-    YOLIZADWA_BAD_OFFSET = 6,       /* an offset above 60,000; place: the task */
-    YOLIZADWA_LONG_ROUND = 7,       /* the periods' least common multiple is above 1,000,000,000,000; place 0 */
+    YOLIZADWA_BAD_OFFSET = 6,       /* an offset above 60,000; place: the task, which is no button */
+    YOLIZADWA_LONG_ROUND = 7,       /* the least common multiple of periods and spacings is above 1,000,000,000,000; place 0 */
     YOLIZADWA_STRANGE_STATE = 8,    /* the state does not fit the table; place: the first task that does not, 32: last,
                                        33: it counts 2^64 slots or more */
     YOLIZADWA_FULL_STATE = 9,       /* the state counts 2^64 - 1 slots, and no more can be counted; place 0 */
+    YOLIZADWA_HAS_BUTTON = 11,      /* the table has a button, and this call takes none; place: the first button */
     YOLIZADWA_NO_SUCH_TASK = 12,    /* the table has no task of this number; place: the number, 65,535 if it is larger */
     YOLIZADWA_CUT_SHORT = 20,       /* the file ends inside a record; place: where the record begins */
     YOLIZADWA_UNKNOWN_KIND = 21,    /* a record of no known kind; place: where it begins */
-    YOLIZADWA_NO_BUDGET_FIRST = 22, /* the first record is a task or the end, or the file is empty; place 0 */
+    YOLIZADWA_NO_BUDGET_FIRST = 22, /* the first record is a task, a button or the end, or the file is empty; place 0 */
     YOLIZADWA_SECOND_BUDGET = 23,   /* a second budget; place: where it begins */
     YOLIZADWA_BYTES_AFTER_END = 24, /* bytes after the end record; place: the first of them */
-    YOLIZADWA_EXTRA_TASK = 25,      /* a thirty-third task; place: where it begins */
+    YOLIZADWA_EXTRA_TASK = 25,      /* a thirty-third task or button; place: where it begins */
     YOLIZADWA_NO_END = 26,          /* the file ends after a whole record, without an end record; place: its length */
     YOLIZADWA_ZERO_BUDGET = 27,     /* the budget is 0; place 0, in a text its line */
     YOLIZADWA_SHORT_REPORT = 30,    /* the report buffer has fewer than 1,024 bytes; place: its length */
     YOLIZADWA_SHORT_BUFFER = 31,    /* the buffer is shorter than what is to be written; place: its length */
     YOLIZADWA_STATE_LENGTH = 50,    /* the state buffer has not 536 bytes; place: its length, 65,535 if it is longer */
     YOLIZADWA_BROKEN_ROWS = 51,     /* the words of a table are no whole rows; place: their number, at most 65,535 */
-    YOLIZADWA_STRANGE_ROW = 52,     /* a row of a table is no task; place: the first such row, at most 65,535 */
+    YOLIZADWA_STRANGE_ROW = 52,     /* a row of a table is no task and no button, or a button with an offset, which is any second
+                                       word but 0; place: the first such row, at most 65,535 */
     /* Of a text; place: the line, counted from 1, at most 65,535. */
-    YOLIZADWA_UNKNOWN_WORD = 60,    /* a line's first word is neither `budget` nor `task` */
+    YOLIZADWA_UNKNOWN_WORD = 60,    /* a line's first word is none of `budget`, `task` and `button` */
     YOLIZADWA_NO_NUMBER = 61,       /* a word that should be a number has a byte that is no digit */
-    YOLIZADWA_LARGE_NUMBER = 62,    /* a number of a task is 2^32 or more, or the budget 2^64 or more */
+    YOLIZADWA_LARGE_NUMBER = 62,    /* a number of a task or button is 2^32 or more, or the budget 2^64 or more */
     YOLIZADWA_NUMBERS_DUE = 63,     /* a line has too few numbers or too many */
-    YOLIZADWA_NO_BUDGET = 64,       /* a task comes before the budget, or the text ends without one: then the place is the
-                                       line in which it ends, one more than it has line feeds */
+    YOLIZADWA_NO_BUDGET = 64,       /* a task or button comes before the budget, or the text ends without one: then the place is
+                                       the line in which it ends, one more than it has line feeds */
     YOLIZADWA_BUDGET_AGAIN = 65,    /* a second budget */
-    YOLIZADWA_TASK_TOO_MANY = 66    /* a thirty-third task */
+    YOLIZADWA_TASK_TOO_MANY = 66    /* a thirty-third task or button */
 };
 
 /*
@@ -107,7 +119,8 @@ static inline uint32_t yolizadwa_place(uint64_t result) { return (uint32_t)(resu
 /*
  * Writes the table file of a table and a budget at the beginning of a buffer. The result is the file's length, at most
  * YOLIZADWA_LONGEST_FILE; the bytes behind it stay as they were. The table is handed over as rows of YOLIZADWA_ROW_WORDS
- * words, one row for each task: YOLIZADWA_KIND_TASK, offset, cost, deadline, period. `count` is the number of words.
+ * words, one row for each task: YOLIZADWA_KIND_TASK, offset, cost, deadline, period; or for each button: YOLIZADWA_KIND_BUTTON, 0,
+ * cost, deadline, spacing. `count` is the number of words.
  *
  *   const uint32_t table[] = {2, 8, 5, 7, 15,
  *                             2, 0, 2, 2, 5};
@@ -123,12 +136,13 @@ static inline uint32_t yolizadwa_place(uint64_t result) { return (uint32_t)(resu
 uint64_t yolizadwa_write(const uint32_t *words, size_t count, uint64_t budget, uint8_t *file, size_t file_len);
 
 /*
- * A table in plain text: one line for the budget, first and once, then a line for each task.
+ * A table in plain text: one line for the budget, first and once, then a line for each task and each button.
  *
  *   # the bench, Tuesday
  *   budget 1000
  *   task 8 5 7 15     # offset, cost, deadline, period
  *   task 0 2 2 5
+ *   button 1 9 30     # cost, deadline, least spacing
  *
  * Line feeds part lines: what follows the last one is a line too, be it empty. A carriage return at a line's end is ignored.
  * `#` begins a comment up to the line's end. Words are parted by blanks and tabs. A line without a word says nothing. Numbers
@@ -172,11 +186,11 @@ uint64_t yolizadwa_to_text(const uint8_t *file, size_t file_len, uint8_t *text, 
  * and with those that the quick test looks at (see yolizadwa_quick), which the budget does not bound. No call can stop a check.
  * The time of start and step does not depend on the budget. Measured (docs/PERFORMANCE.md): compiled for an Arm machine
  * (Neoverse V1), a release or finish took 3 to 12 ns, the search for a late table's interval at most three quarters of the time up
- * to its deadline, and a step 0.5 microseconds with 16 tasks and 0.8 with 32; two tasks with periods of 60,000 and 59,996 were checked in 0.4 ms, and
- * tables/slow.txt, with a release every fourth slot of 1,799,880,002, with a large budget in 2.9 seconds; with
- * 32 tasks and a round near the limit it took 64 seconds (periods from 20,000 on) and 219 (from 4,000 on).
+ * to its deadline, and a step 0.5 microseconds with 16 tasks and 0.8 with 32; two tasks with periods of 60,000 and 59,996 were
+ * checked in 0.4 ms, and tables/slow.txt, with a release every fourth slot of 1,799,880,002, with a large budget in 2.9 seconds;
+ * with 32 tasks and a round near the limit it took 64 seconds (periods from 20,000 on) and 219 (from 4,000 on).
  *
- * Refusals: 30; 20 to 27; 1 and 3 to 7.
+ * Refusals: 30; 20 to 27; 1 and 3 to 7; 11.
  */
 uint64_t yolizadwa_check(const uint8_t *file, size_t file_len, uint8_t *report, size_t report_len);
 
@@ -199,23 +213,28 @@ uint64_t yolizadwa_check_plainly(const uint8_t *file, size_t file_len, uint8_t *
  * check whatever its budget. It leaps as a check does; the longest that was measured, of 16 tasks with periods from 54,000 on,
  * took 5 ms (docs/PERFORMANCE.md). No call can stop it.
  *
- * Refusals: 20 to 27; 1 and 3 to 7.
+ * Refusals: 20 to 27; 1 and 3 to 7; 11.
  */
 uint64_t yolizadwa_quick(const uint8_t *file, size_t file_len);
 
 /*
- * The distance test, for tables with a long round: lets each task in turn start at 0 and every other at its distance from it,
- * and looks at the slots of each such pattern as the quick test does. The distance of task k from task i is the least time from
- * a release of i to one of k at the same instant or later: offset of k - offset of i, reduced upward into 0 to g - 1, with g the
- * greatest common divisor of their periods.
+ * The distance test, for tables with a long round and for tables with buttons: lets each task in turn start at 0 and every other at
+ * its distance from it, and looks at the slots of each such pattern as the quick test does. The distance of task k from task i is the
+ * least time from a release of i to one of k at the same instant or later: offset of k - offset of i, reduced upward into 0 to g - 1,
+ * with g the greatest common divisor of their periods. In every pattern each button starts at 0 and comes as early as it may again; no
+ * button is the one that the others start from. Of buttons alone there is one pattern, with all of them at 0.
  *
- * The result is 2 for overload; else 1 for pass, if no pattern misses a deadline, and 0 for no answer. Late is never said. Pass
- * means what it means of the quick test, for the offsets in the file, and wherever that one passes, so does this one.
+ * The result is 2 for overload; else 1 for pass, if no pattern misses a deadline, and 0 for no answer. Late is never said.
+ *
+ * Pass of a table without buttons means what it means of the quick test, for the offsets in the file, and wherever that one passes, so
+ * does this one. Pass of a table with buttons: whenever they are pressed, as long as each keeps its spacing, there is a way to give out
+ * the slots with every job in time. That way is another one for other presses, and no call here gives out slots to buttons. No answer
+ * says nothing, with one exception: of buttons alone it means that there are presses with which no way keeps every deadline.
  *
  * No budget bounds the slots looked at: there is a walk for each task, mostly short, but with a load near 1 as long as the
  * quick test's may be, up to 32 times 1,000,000,000,000 slots in all. No call can stop it.
  *
- * Refusals: 20 to 27; 1 and 3 to 7.
+ * Refusals: 20 to 27; 1 and 3 to 7; not 11.
  */
 uint64_t yolizadwa_distance(const uint8_t *file, size_t file_len);
 
@@ -241,7 +260,7 @@ uint64_t yolizadwa_distance(const uint8_t *file, size_t file_len);
  * response grows; a longer deadline may make one grow. A longer period is no easing: (1,1,1,2),(0,1,1,2)
  * passes, and if the second period is 3, a job is late.
  *
- * No slot is looked at: the time does not depend on the tables' rounds. Refusals, of either file: 20 to 27; 1 and 3 to 7.
+ * No slot is looked at: the time does not depend on the tables' rounds. Refusals, of either file: 20 to 27; 1 and 3 to 7; 11.
  */
 enum yolizadwa_easing {
     YOLIZADWA_NOT_EASED = 0,
@@ -270,7 +289,7 @@ uint64_t yolizadwa_eased(const uint8_t *before, size_t before_len, const uint8_t
  * Neither the round nor the horizon depends on a cost, so a budget that decides the table decides every trial. The cost is found by
  * halving, in at most 17 tests of the table, each about as long as a check. No call can stop it.
  *
- * Refusals: 20 to 27; 1 and 3 to 7; 12 for a task that the table does not have, whether it passes or not.
+ * Refusals: 20 to 27; 1 and 3 to 7; 11; 12 for a task that the table does not have, whether it passes or not.
  */
 enum yolizadwa_no_largest {
     YOLIZADWA_LARGEST_OVERLOAD = 60001,
@@ -302,7 +321,7 @@ struct yolizadwa_state {
  * is not refused may be started, also one that does not pass: its jobs may be closed late. The budget must stand in the file,
  * 1 or more, and plays no other part.
  *
- * The result is 0. Refusals: 50; 20 to 27; 1 and 3 to 7.
+ * The result is 0. Refusals: 50; 20 to 27; 1 and 3 to 7; 11.
  */
 uint64_t yolizadwa_start(const uint8_t *file, size_t file_len, uint8_t *state, size_t state_len);
 
@@ -325,7 +344,7 @@ uint64_t yolizadwa_start(const uint8_t *file, size_t file_len, uint8_t *state, s
  * A step reads wait, left and given of the table's tasks, last and empty. It does not read late, closed and lowest. What
  * stands in wait, left and given behind the last task of the table stays.
  *
- * Hand over the file that the state was started with. Refusals: 50; 20 to 27; 1 and 3 to 7; 8 for a wait above both
+ * Hand over the file that the state was started with. Refusals: 50; 20 to 27; 1 and 3 to 7; 11; 8 for a wait above both
  * offset and period, for an open job with more slots left than its cost, or with a wait below period - deadline or above
  * period - 1, for a last that is neither 32 nor a task, for counts that add up to 2^64 or more, and for nothing else; 9 for
  * counts that add up to 2^64 - 1. So from a start 2^64 - 1 steps are taken, and none of them is refused.

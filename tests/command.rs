@@ -15,6 +15,7 @@ const COMMAND: &str = "target/host/yolizadwa";
 const SANITIZED: &str = "target/host/yolizadwa-sanitized";
 const STORED: &str = "command/expected";
 const TABLES: u64 = 60;
+const PRESSED: u64 = 20;
 const REFUSED: u64 = 60;
 const JUNK: u64 = 40;
 const JOBS_SHOWN: usize = 100;
@@ -260,7 +261,42 @@ fn by_distance(bench: &mut Bench, tasks: &[Task], input: &[u8]) {
     let output = asked(&["distance", "-"], input);
     let (word, status) = [("none", 4), ("pass", 0), ("overload", 3)][reference::by_distance(tasks) as usize];
     let good = said(&output).starts_with(&format!("distance {word}\n")) && output.status.code() == Some(status);
+    let good = good && said(&output).contains("button") == reference::has_button(tasks);
     bench.count(good, || format!("distance on {tasks:?}: {output:?}"));
+}
+
+/// Every word for tables without buttons names the first one, of a text the line on which it stands, and the test for it.
+fn has_a_button(bench: &mut Bench, tasks: &[Task], text: &str, places: &[usize], file: &[u8]) {
+    let first = tasks.iter().position(|task| task.button).unwrap();
+    let begins = format!("refused 11 at {first}: task {first} is a button, and ");
+    let line = format!("\nstandard input:{}: ", places[first]);
+    for words in [
+        &["judge", "-"][..],
+        &["quick", "-"],
+        &["largest", "-"],
+        &["largest", "-", "99"],
+        &["run", "-"],
+        &["eased", "-", "tables/b.txt"],
+    ] {
+        for (input, shown) in [(text.as_bytes(), true), (file, false)] {
+            let output = asked(words, input);
+            let told = if words[0] == "run" { String::from_utf8_lossy(&output.stderr).to_string() } else { said(&output) };
+            let good = told.starts_with(&begins)
+                && told.contains(&line) == shown
+                && told.contains("\nthe test for it is: yolizadwa distance -\n");
+            bench.count(good && output.status.code() == Some(2), || format!("{words:?} on {tasks:?}: {output:?}"));
+        }
+    }
+}
+
+fn pressed(bench: &mut Bench, rng: &mut Rng) {
+    let mut tasks = near_border(rng);
+    make_buttons(rng, &mut tasks);
+    let budget = budget_about(rng, &tasks);
+    let ((text, places), file) = (noisy(rng, budget, &tasks), file_of(budget, &tasks));
+    by_distance(bench, &tasks, if rng.chance(50) { text.as_bytes() } else { &file });
+    has_a_button(bench, &tasks, &text, &places, &file);
+    made_and_shown(bench, &tasks, budget, &text);
 }
 
 /// All that is said of an easing: what it means, and what became of each old task.
@@ -276,7 +312,8 @@ fn easing_text(old: &[Task], new: &[Task], kept: &[usize]) -> String {
             continue;
         };
         let numbers = [("cost", was.cost, new[now].cost), ("deadline", was.deadline, new[now].deadline)];
-        let changed = numbers.iter().filter(|(_, was, is)| was != is).map(|(name, was, is)| format!(" {name} {was} -> {is}"));
+        let changed =
+            numbers.iter().filter(|(_, was, is)| was != is).map(|(name, was, is)| format!(" {name} {was} -> {is}"));
         let changes = changed.collect::<Vec<_>>().join(",");
         text += &format!("task {now} was old task {then}:{}\n", if changes.is_empty() { " unchanged" } else { &changes });
     }
@@ -285,11 +322,13 @@ fn easing_text(old: &[Task], new: &[Task], kept: &[usize]) -> String {
 
 /// Whether the number that is said to stand in the way is that of both tasks, and does; true where no number is told.
 fn in_the_way(text: &str, old: &[Task], is: &Task) -> bool {
-    let Some((number, rest)) = text.split_once("the nearest is old task ").and_then(|(_, rest)| rest.split_once(": ")) else {
+    let Some((number, rest)) = text.split_once("the nearest is old task ").and_then(|(_, rest)| rest.split_once(": "))
+    else {
         return true;
     };
     let words: Vec<&str> = rest.split([' ', ',']).collect();
-    let (was, told) = (&old[number.parse::<usize>().unwrap()], [1, 3].map(|place: usize| words[place].parse::<u32>().unwrap()));
+    let (was, told) =
+        (&old[number.parse::<usize>().unwrap()], [1, 3].map(|place: usize| words[place].parse::<u32>().unwrap()));
     match words[0] {
         "period" => told == [was.period, is.period] && was.period != is.period,
         "offset" => told == [was.offset, is.offset] && was.offset != is.offset,
@@ -307,7 +346,9 @@ fn compared(bench: &mut Bench, old: &[Task], new: &[Task], input: &[u8]) {
     let good = match &told {
         Ok(kept) => text == easing_text(old, new, kept),
         Err(task) => {
-            let begins = format!("eased no\n\nno: task {task} is no old task made easier, so the new table needs a test: judge tells\n");
+            let begins = format!(
+                "eased no\n\nno: task {task} is no old task made easier, so the new table needs a test: judge tells\n"
+            );
             text.starts_with(&begins) && in_the_way(&text, old, &new[*task])
         }
     };
@@ -319,7 +360,8 @@ fn compared(bench: &mut Bench, old: &[Task], new: &[Task], input: &[u8]) {
 fn no_largest_text(tasks: &[Task], budget: u64, told: u64) -> (String, i32) {
     let horizon = reference::horizon(tasks, reference::round(tasks).unwrap());
     let late = "late: the table does not pass as it is, so no cost can grow; judge tells which jobs ask for too much";
-    let overload = "overload: the table does not pass as it is: more slots are asked for than there are, so no cost can grow";
+    let overload =
+        "overload: the table does not pass as it is: more slots are asked for than there are, so no cost can grow";
     let ended = format!("undecided: the budget, {budget}, ended before it was known whether the table passes;");
     match told {
         OVERLOAD => (format!("largest overload\n\n{overload}\n"), 3),
@@ -336,7 +378,10 @@ fn largest_text(tasks: &[Task], budget: u64, asked: std::ops::Range<usize>) -> (
     }
     let mut text = "  task   cost  largest   more  deadline\n".to_string();
     let which = if asked.len() == 1 { "this cost" } else { "any one cost" };
-    let raised = format!("{which} at its largest, and with no larger one up to its deadline{}", if asked.len() == 1 { "" } else { "; with two it may not" });
+    let raised = format!(
+        "{which} at its largest, and with no larger one up to its deadline{}",
+        if asked.len() == 1 { "" } else { "; with two it may not" }
+    );
     for number in asked {
         let (Task { cost, deadline, .. }, largest) = (tasks[number], reference::largest(tasks, number, budget));
         text += &format!("  {number:>4}  {cost:>5}  {largest:>7}  {:>5}  {deadline:>8}\n", largest - u64::from(cost));
@@ -345,7 +390,11 @@ fn largest_text(tasks: &[Task], budget: u64, asked: std::ops::Range<usize>) -> (
 }
 
 fn no_task_text(tasks: usize, asked: usize) -> String {
-    let all = if tasks == 1 { "its one task is task 0".to_string() } else { format!("its tasks are numbered from 0 to {}", tasks - 1) };
+    let all = if tasks == 1 {
+        "its one task is task 0".to_string()
+    } else {
+        format!("its tasks are numbered from 0 to {}", tasks - 1)
+    };
     format!("refused 12 at {asked}: the table has no task {asked}; {all}\n")
 }
 
@@ -377,14 +426,15 @@ fn made_and_shown(bench: &mut Bench, tasks: &[Task], budget: u64, text: &str) {
 
 /// The refusal's number and place, and the line on which the task stands.
 fn refused(bench: &mut Bench, rng: &mut Rng) {
-    let mut tasks = near_border(rng);
+    let mut tasks = of_any_sort(rng);
     spoil(rng, &mut tasks);
     let (text, places) = noisy(rng, 1_000, &tasks);
     if let Err(refusal) = reference::judge(&tasks) {
         let output = asked(&["judge", "-"], text.as_bytes());
         let mut told = said(&output).starts_with(&format!("refused {} at {}: ", refusal.number, refusal.place));
         if (3..=6).contains(&refusal.number) {
-            told &= said(&output).contains(&format!("\nstandard input:{}: task", places[refusal.place as usize]));
+            let (place, sort) = (refusal.place as usize, ["task", "button"][tasks[refusal.place as usize].button as usize]);
+            told &= said(&output).contains(&format!("\nstandard input:{}: {sort} ", places[place]));
         }
         bench.count(told && output.status.code() == Some(2), || format!("judge of {text}: {output:?}"));
     }
@@ -408,13 +458,17 @@ pub fn at_random(bench: &mut Bench, rng: &mut Rng) {
         lens_taken(bench, rng, &tasks, budget, other);
         made_and_shown(bench, &tasks, budget, &text);
     }
+    (0..PRESSED).for_each(|_| pressed(bench, rng));
     (0..REFUSED).for_each(|_| refused(bench, rng));
     bench.end_group("the command, at random");
 }
 
 /// A text or a file with some bytes changed.
 fn junk(rng: &mut Rng) -> Vec<u8> {
-    let tasks = near_border(rng);
+    let mut tasks = near_border(rng);
+    if rng.chance(40) {
+        make_buttons(rng, &mut tasks);
+    }
     let text = noisy(rng, 1_000, &tasks).0.into_bytes();
     let mut bytes = if rng.chance(70) { text } else { file_of(1_000, &tasks) };
     damage(rng, &mut bytes);
@@ -428,7 +482,7 @@ pub fn junk_under_sanitizers(bench: &mut Bench, rng: &mut Rng) {
     }
     for input in (0..JUNK).map(|_| junk(rng)).collect::<Vec<_>>().into_iter().filter(|input| affordable(input)) {
         let mut command = Command::new(SANITIZED);
-        sanitized(&mut command).args([rng.pick(&["judge", "show", "run", "largest"]), "-"]);
+        sanitized(&mut command).args([rng.pick(&["judge", "show", "run", "largest", "distance"]), "-"]);
         let output = fed(command, &input);
         let quiet = !String::from_utf8_lossy(&output.stderr).contains("anitizer");
         let known = output.status.code().map_or(false, |code| [0, 2, 3, 4].contains(&code));

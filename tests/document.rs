@@ -3,8 +3,10 @@
 use crate::bench::Bench;
 use crate::calls::Request;
 use crate::files::ask_all;
-use crate::inputs::{budget_record, file_of, rows_of, table_of};
-use crate::reference::{self, State, Task, LATE, LONGEST_FILE, NONE, OVERLOAD, REPORT_BYTES, STATE_BYTES, TASKS, UNDECIDED};
+use crate::inputs::{budget_record, file_of, rows_of, table_of, task_record};
+use crate::reference::{
+    self, button, periodic, State, Task, LATE, LONGEST_FILE, NONE, OVERLOAD, REPORT_BYTES, STATE_BYTES, TASKS, UNDECIDED,
+};
 
 type Rows = &'static [(u32, u32, u32, u32)];
 
@@ -48,8 +50,16 @@ const REPORTS: &[(Rows, u64, &str)] = &[
     (J, u64::MAX, "tasks 1\nload 1/2\nquick pass\nhorizon 8\nverdict passes\nsettled 8\nworst 0 1\nidle 1\n"),
     (LAMP, 15, "tasks 2\nload 6/6\nquick pass\nhorizon 15\nverdict passes\nsettled 15\nworst 0 6\nworst 1 1\nidle 5\n"),
     (LONG, 10, "tasks 2\nload 63247/1000045752\nquick pass\nhorizon 2000091504\nverdict undecided\nsettled 10\n"),
-    (LONGEST, 10, "tasks 3\nload 306584263/999999999999\nquick pass\nhorizon 1999999999998\nverdict undecided\nsettled 10\n"),
-    (LONGER, 10, "tasks 3\nload 3592244939/999999990949\nquick pass\nhorizon 1999999981898\nverdict undecided\nsettled 10\n"),
+    (
+        LONGEST,
+        10,
+        "tasks 3\nload 306584263/999999999999\nquick pass\nhorizon 1999999999998\nverdict undecided\nsettled 10\n",
+    ),
+    (
+        LONGER,
+        10,
+        "tasks 3\nload 3592244939/999999990949\nquick pass\nhorizon 1999999981898\nverdict undecided\nsettled 10\n",
+    ),
 ];
 
 /// Source 000, after theorem 2: it passes, but not by its distances.
@@ -108,6 +118,64 @@ const LARGEST_COSTS: &[(Rows, u64, u32, u64)] = &[
     (&[(0, 1, 59_999, 60_000), (0, 1, 60_000, 60_000)], 120_000, 1, 59_999),
 ];
 
+/// T-13: tables with buttons, and what the distance test says of them, as above.
+fn with_buttons() -> Vec<(Vec<Task>, u64)> {
+    let (b, e, g) = (table_of(B), table_of(E), table_of(G));
+    vec![
+        (vec![button(1, 1, 1)], 1),
+        (vec![button(1, 2, 2), button(1, 2, 2)], 1),
+        (vec![button(1, 1, 2), button(1, 1, 2)], 0),
+        (vec![button(2, 2, 3), button(1, 3, 3)], 1),
+        (vec![button(2, 2, 3), button(2, 3, 3)], 2),
+        (vec![g[0], button(2, 4, 4)], 1),
+        (vec![b[0], button(2, 2, 5)], 0),
+        (vec![button(5, 7, 15), b[1]], 0),
+        (vec![e[0], button(1, 1, 2)], 0),
+        (vec![e[0], e[1], button(1, 60, 60)], 2),
+        (vec![periodic(0, 1, 1, 4), periodic(1, 1, 1, 4), button(1, 3, 4)], 1),
+        (vec![periodic(0, 1, 1, 4), button(1, 2, 4), periodic(1, 1, 1, 4)], 0),
+        (vec![button(1, 3, 4), periodic(60_000, 1, 1, 4), periodic(1, 1, 1, 4)], 1),
+        (vec![periodic(0, 1, 31_623, 31_623), button(1, 31_624, 31_624)], 1),
+    ]
+}
+
+/// Every call but the distance test and those that read and write refuses a table with a button, at the first one: after the buffer and
+/// before the state, the task that is asked for, and the new file of an easing.
+fn has_a_button(bench: &mut Bench, file: &[u8], place: u64) {
+    for request in [Request::check(file.to_vec()), Request::quick(file.to_vec()), Request::start(file.to_vec())] {
+        refused_with(bench, request, 11, place);
+    }
+    for state in [reference::start(&[]).to_bytes(), vec![0xFF; STATE_BYTES]] {
+        refused_with(bench, Request::step(file.to_vec(), state, 1), 11, place);
+    }
+    for task in [0, 1, 32, u32::MAX] {
+        refused_with(bench, Request::largest(file.to_vec(), task), 11, place);
+    }
+    for new in [file.to_vec(), vec![9], file_of(1, &table_of(B))] {
+        bench.ask_knowing(Request::eased(file.to_vec(), new.clone()), (4 * (11 * 65_536 + place) + 2, new));
+    }
+    let eased = Request::eased(file_of(1, &table_of(B)), file.to_vec());
+    bench.ask_knowing(eased, (4 * (11 * 65_536 + place) + 3, file.to_vec()));
+    refused_with(bench, Request { buffer: vec![0xE7; 9], ..Request::check(file.to_vec()) }, 30, 9);
+    refused_with(bench, Request { buffer: vec![0xE7; 9], ..Request::start(file.to_vec()) }, 50, 9);
+}
+
+pub fn buttons(bench: &mut Bench) {
+    for (tasks, distance) in with_buttons() {
+        let file = file_of(1, &tasks);
+        bench.ask_knowing(Request::distance(file.clone()), (distance, Vec::new()));
+        has_a_button(bench, &file, tasks.iter().position(|task| task.button).unwrap() as u64);
+        ask_all(bench, &file);
+    }
+    for place in 0..TASKS {
+        let mut tasks = [periodic(0, 1, 60, 60); TASKS];
+        tasks[place..].fill(button(1, 60, 60));
+        has_a_button(bench, &file_of(1, &tasks), place as u64);
+        ask_all(bench, &file_of(1, &tasks));
+    }
+    bench.end_group("document 02's buttons");
+}
+
 /// A task that the table has not is told behind the table's refusals and before any verdict.
 fn no_such_tasks(bench: &mut Bench) {
     for rows in [B, C, I] {
@@ -119,7 +187,7 @@ fn no_such_tasks(bench: &mut Bench) {
         }
     }
     for (task, place) in [(32, 32), (33, 33), (256, 256), (1 << 16, 65_535), (1 << 31, 65_535)] {
-        let most = [Task { offset: 0, cost: 1, deadline: 60, period: 60 }; TASKS];
+        let most = [periodic(0, 1, 60, 60); TASKS];
         refused_with(bench, Request::largest(file_of(1, &most), task), 12, place);
     }
 }
@@ -129,7 +197,7 @@ pub fn largest_costs(bench: &mut Bench) {
         bench.ask_knowing(Request::largest(file_of(budget, &table_of(rows)), task), (told, Vec::new()));
     }
     no_such_tasks(bench);
-    for (file, number, place) in refused_files().into_iter().chain(files_of_nothing()) {
+    for (file, number, place) in refused_files().into_iter().chain(files_of_nothing()).chain(refused_buttons()) {
         for task in [0, 1, 40, u32::MAX] {
             refused_with(bench, Request::largest(file.clone(), task), number, place);
         }
@@ -197,7 +265,7 @@ pub fn steps(bench: &mut Bench) {
 /// Files that are refused, with number and place.
 fn refused_files() -> Vec<(Vec<u8>, u64, u64)> {
     let b = file_of(38, &table_of(B));
-    let too_many = file_of(1, &[Task { offset: 0, cost: 1, deadline: 60, period: 60 }; TASKS + 1]);
+    let too_many = file_of(1, &[periodic(0, 1, 60, 60); TASKS + 1]);
     let second = |row: (u32, u32, u32, u32)| file_of(9, &table_of(&[(0, 1, 2, 3), row]));
     vec![
         (file_of(9, &[]), 1, 0),
@@ -215,7 +283,7 @@ fn refused_files() -> Vec<(Vec<u8>, u64, u64)> {
         (file_of(9, &table_of(TOO_LONG_TOO)), 7, 0),
         (b[..8].to_vec(), 20, 0),
         (b[..25].to_vec(), 20, 9),
-        ([&b[..9], &[4][..]].concat(), 21, 9),
+        ([&b[..9], &[5][..]].concat(), 21, 9),
         (vec![9], 21, 0),
         (vec![], 22, 0),
         (vec![3], 22, 0),
@@ -229,12 +297,43 @@ fn refused_files() -> Vec<(Vec<u8>, u64, u64)> {
     ]
 }
 
+/// T-13: files with buttons that are refused by every call, with number and place.
+fn refused_buttons() -> Vec<(Vec<u8>, u64, u64)> {
+    let (b, press) = (file_of(38, &table_of(B)), task_record(&button(1, 9, 20)));
+    let beside = |cost, deadline, spacing| file_of(9, &[periodic(0, 1, 2, 3), button(cost, deadline, spacing)]);
+    let (tasks, buttons) = ([periodic(0, 1, 60, 60); TASKS], [button(1, 60, 60); TASKS]);
+    let (full, pressed) = (file_of(1, &tasks), file_of(1, &buttons));
+    let mut files = vec![
+        (press.clone(), 22, 0),
+        (vec![4], 22, 0),
+        (beside(9, 9, 0), 3, 1),
+        (beside(1, 1, 60_001), 3, 1),
+        (beside(9, 0, 5), 4, 1),
+        (beside(7, 6, 5), 4, 1),
+        (beside(0, 4, 5), 5, 1),
+        (beside(5, 4, 5), 5, 1),
+        (file_of(9, &[button(5, 4, 5), periodic(0, 1, 1, 0)]), 5, 0),
+        (file_of(9, &[button(1, 4, 5), periodic(60_001, 1, 1, 1)]), 6, 1),
+        (file_of(9, &[button(1, 4_093, 4_093), periodic(0, 1, 8_779, 8_779), button(1, 27_830, 27_830)]), 7, 0),
+        ([&b[..26], &press, &[1]].concat(), 23, 39),
+        ([&b[..43], &press, &[3, 4]].concat(), 24, 57),
+        ([&full[..LONGEST_FILE - 1], &press].concat(), 25, LONGEST_FILE as u64 - 1),
+        ([&full[..LONGEST_FILE - 1], &[4]].concat(), 25, LONGEST_FILE as u64 - 1),
+        ([&pressed[..pressed.len() - 1], &[2]].concat(), 25, 9 + 13 * TASKS as u64),
+        ([&pressed[..pressed.len() - 1], &[4]].concat(), 25, 9 + 13 * TASKS as u64),
+        ([&b[..43], &press].concat(), 26, 56),
+        ([&budget_record(0), &press[..]].concat(), 27, 0),
+    ];
+    files.extend((1..13).map(|length| ([&b[..26], &press[..length]].concat(), 20, 26)));
+    files
+}
+
 /// T-10: a whole budget of 0 before anything behind it, cut short, and as a second one.
 fn files_of_nothing() -> Vec<(Vec<u8>, u64, u64)> {
     let (nothing, b) = (budget_record(0), file_of(38, &table_of(B)));
     let behind: [&[u8]; 7] = [&[], &[9], &[1], &[2], &[3], &[3, 3], &b[9..]];
     let mut files: Vec<_> = behind.iter().map(|rest| ([&nothing[..], rest].concat(), 27, 0)).collect();
-    files.push((file_of(0, &[Task { offset: 0, cost: 1, deadline: 60, period: 60 }; TASKS + 1]), 27, 0));
+    files.push((file_of(0, &[periodic(0, 1, 60, 60); TASKS + 1]), 27, 0));
     files.push((file_of(0, &table_of(TOO_LONG)), 27, 0));
     files.extend((1..9).map(|length| (nothing[..length].to_vec(), 20, 0)));
     files.push(([&b[..9], &nothing].concat(), 23, 9));
@@ -267,13 +366,17 @@ fn strange_states() -> Vec<(State, u64)> {
 /// number and place; else the state is stepped, and the counts behind the last task stay.
 /// With as many tasks as there can be, about the last slot that can be counted, had by the last task or by none.
 fn full_tables(bench: &mut Bench) {
-    let tasks = [Task { offset: 5, cost: 1, deadline: 60, period: 60 }; TASKS];
+    let tasks = [periodic(5, 1, 60, 60); TASKS];
     let file = file_of(1, &tasks);
     for (wait, had) in [(0, Some(TASKS - 1)), (5, None)] {
         let mut state = reference::start(&tasks);
         state.wait[TASKS - 1] = wait;
         state.given[..TASKS - 1].fill(1);
-        for (empty, refused) in [(u64::MAX - TASKS as u64, None), (u64::MAX - TASKS as u64 + 1, Some((9, 0))), (u64::MAX - TASKS as u64 + 2, Some((8, 33)))] {
+        for (empty, refused) in [
+            (u64::MAX - TASKS as u64, None),
+            (u64::MAX - TASKS as u64 + 1, Some((9, 0))),
+            (u64::MAX - TASKS as u64 + 2, Some((8, 33))),
+        ] {
             state.empty = empty;
             let request = Request::step(file.clone(), state.to_bytes(), 0);
             if let Some((number, place)) = refused {
@@ -291,7 +394,7 @@ fn full_tables(bench: &mut Bench) {
 
 /// Jobs of the last tasks alone, and of all, closed late in one step.
 pub fn late_sets(bench: &mut Bench) {
-    let tasks = [Task { offset: 0, cost: 1, deadline: 1, period: 2 }; TASKS];
+    let tasks = [periodic(0, 1, 1, 2); TASKS];
     let file = file_of(1, &tasks);
     for (first, late) in [(0, [u32::MAX, 32, 0]), (16, [0xFFFF_0000, 16, 16]), (31, [0x8000_0000, 1, 31])] {
         let mut state = reference::start(&tasks);
@@ -347,7 +450,7 @@ pub fn accounts(bench: &mut Bench) {
 
 pub fn refusals(bench: &mut Bench) {
     let b = file_of(38, &table_of(B));
-    for (file, number, place) in refused_files().into_iter().chain(files_of_nothing()) {
+    for (file, number, place) in refused_files().into_iter().chain(files_of_nothing()).chain(refused_buttons()) {
         refused_with(bench, Request::check(file.clone()), number, place);
         refused_with(bench, Request::quick(file.clone()), number, place);
         refused_with(bench, Request::distance(file.clone()), number, place);
@@ -389,6 +492,14 @@ fn refused_rows() -> Vec<(Vec<u32>, u64, u64)> {
         (rows(&[good, bad, [2, 0, 0, 0, 0]]), 4, 1),
         (rows(&[[2, 60_001, 5, 4, 5]]), 5, 0),
         (rows(&[[2, 60_001, 1, 4, 5]]), 6, 0),
+        (rows(&[good, [4, 1, 1, 60, 60]]), 52, 1),
+        (rows(&[bad, [4, 60_001, 7, 6, 5], strange]), 52, 1),
+        (rows(&[[4, 0, 1, 60, 60], [4, 0, 7, 6, 5]]), 4, 1),
+        (rows(&[[4, 0, 9, 9, 0]]), 3, 0),
+        (rows(&[[4, 0, 5, 4, 5], [2, 60_001, 1, 4, 5]]), 5, 0),
+        (rows(&[[4, 0, 1, 60, 60]; TASKS + 1]), 2, TASKS as u64),
+        (rows(&[&[good; TASKS][..], &[[4, 0, 1, 60, 60]]].concat()), 2, TASKS as u64),
+        (rows(&[[4, 0, 1, 4_093, 4_093], [2, 0, 1, 8_779, 8_779], [4, 0, 1, 27_830, 27_830]]), 7, 0),
         (rows_of(&table_of(TOO_LONG)), 7, 0),
     ]
 }

@@ -4,7 +4,7 @@ use crate::bench::Bench;
 use crate::calls::Request;
 use crate::document::{B, E};
 use crate::inputs::*;
-use crate::reference::{self, Task, Verdict, TASKS};
+use crate::reference::{self, button, periodic, Task, Verdict, TASKS};
 
 const EASED: u64 = 1;
 /// Of so many pairs at least one has each answer.
@@ -57,7 +57,7 @@ fn alike(rng: &mut Rng) -> Vec<Task> {
     let kinds = rng.pick(&[1, 2, 3]);
     let mut some = || {
         let (cost, deadline) = (rng.range(1, 3), rng.range(3, 5));
-        Task { offset: rng.range(0, kinds - 1), cost, deadline, period: rng.pick(&[8, 8, 8, 12]) }
+        periodic(rng.range(0, kinds - 1), cost, deadline, rng.pick(&[8, 8, 8, 12]))
     };
     (0..count).map(|_| some()).collect()
 }
@@ -105,6 +105,16 @@ pub fn by_hand(bench: &mut Bench) {
     known(&[], file(&[(0, 1, 1, 1)]), 4 * 65_536 + 2);
     known(&[], vec![9], 4 * 65_536 + 2);
     known(&b, vec![9], 4 * 21 * 65_536 + 3);
+    let pressed = |place: usize| {
+        let mut tasks = b.clone();
+        tasks.insert(place, button(1, 9, 20));
+        tasks
+    };
+    known(&b, file_of(7, &pressed(1)), 4 * (11 * 65_536 + 1) + 3);
+    known(&pressed(2), file(&[(8, 4, 7, 15)]), 4 * (11 * 65_536 + 2) + 2);
+    known(&pressed(2), file_of(7, &pressed(0)), 4 * (11 * 65_536 + 2) + 2);
+    known(&pressed(2), vec![9], 4 * (11 * 65_536 + 2) + 2);
+    known(&b, file_of(7, &[button(3, 2, 9), periodic(0, 1, 1, 1)]), 4 * 5 * 65_536 + 3);
     bench.end_group("easings by hand");
 }
 
@@ -140,6 +150,12 @@ pub fn pairs(bench: &mut Bench, rng: &mut Rng, count: u64) {
         if rng.chance(3) {
             spoil(rng, &mut tables.1);
         }
+        if rng.chance(3) {
+            make_buttons(rng, &mut tables.0);
+        }
+        if rng.chance(3) {
+            make_buttons(rng, &mut tables.1);
+        }
         let request = request(rng, &tables);
         let permitted = reference::answer(&request);
         answers[permitted.0 as usize % 4] += 1;
@@ -161,7 +177,7 @@ pub fn borders(bench: &mut Bench, rng: &mut Rng) {
         |task| task.period += 1,
         |task| task.period -= 1,
     ];
-    let some = |task: u32| Task { offset: task % 3, cost: 2, deadline: 5, period: 8 };
+    let some = |task: u32| periodic(task % 3, 2, 5, 8);
     let old: Vec<Task> = (0..TASKS as u32).map(some).collect();
     for place in 0..TASKS {
         for change in moved {

@@ -4,7 +4,7 @@ use crate::bench::Bench;
 use crate::calls::{Call, Request};
 use crate::document::{B, J, TOO_LONG};
 use crate::inputs::*;
-use crate::reference::{self, Task, TASKS};
+use crate::reference::{self, button, periodic, Task, TASKS};
 
 /// What was read from a file, written: the same bytes, if the table is not refused.
 pub fn ask_rewritten(bench: &mut Bench, file: &[u8]) {
@@ -42,7 +42,27 @@ pub fn ask_all(bench: &mut Bench, file: &[u8]) {
 }
 
 fn most(rng: &mut Rng) -> Vec<Task> {
-    (0..TASKS).map(|_| Task { offset: rng.range(0, 40), cost: 1, deadline: rng.range(10, 20), period: 20 }).collect()
+    (0..TASKS).map(|_| periodic(rng.range(0, 40), 1, rng.range(10, 20), 20)).collect()
+}
+
+/// As many records of both sorts, in turn.
+fn most_mixed(rng: &mut Rng) -> Vec<Task> {
+    let mut tasks = most(rng);
+    tasks.iter_mut().skip(1).step_by(2).for_each(|task| *task = button(1, task.deadline, task.period));
+    tasks
+}
+
+/// Table b with a button before, between or behind its tasks, and buttons alone.
+fn with_a_button() -> Vec<Vec<Task>> {
+    let mut tables: Vec<Vec<Task>> = (0..3)
+        .map(|place| {
+            let mut tasks = table_of(B);
+            tasks.insert(place, button(1, 9, 20));
+            tasks
+        })
+        .collect();
+    tables.push(vec![button(2, 4, 6), button(3, 9, 9)]);
+    tables
 }
 
 fn every_cut(bench: &mut Bench, file: &[u8]) {
@@ -61,7 +81,7 @@ fn every_byte_changed(bench: &mut Bench, file: &[u8]) {
     }
 }
 
-fn every_kind(bench: &mut Bench, file: &[u8], tasks: usize) {
+fn every_kind(bench: &mut Bench, file: &[u8], tasks: &[Task]) {
     for place in record_places(tasks) {
         for kind in 0..=255 {
             let mut changed = file.to_vec();
@@ -71,15 +91,28 @@ fn every_kind(bench: &mut Bench, file: &[u8], tasks: usize) {
     }
 }
 
-fn spare_record() -> Vec<u8> {
-    task_record(&Task { offset: 0, cost: 1, deadline: 20, period: 20 })
+fn spare_records() -> [Vec<u8>; 2] {
+    [task_record(&periodic(0, 1, 20, 20)), task_record(&button(1, 20, 20))]
 }
 
 /// A record, or its first bytes, put in before every other one.
-fn every_insertion(bench: &mut Bench, file: &[u8], tasks: usize) {
-    let task = spare_record();
+fn every_insertion(bench: &mut Bench, file: &[u8], tasks: &[Task]) {
+    let [task, button] = spare_records();
+    let some: [&[u8]; 11] = [
+        &task,
+        &task[..5],
+        &button,
+        &button[..5],
+        &button[..12],
+        &budget_record(9),
+        &budget_record(0),
+        &[1],
+        &[3],
+        &[4],
+        &[0],
+    ];
     for place in record_places(tasks) {
-        for record in [&task[..], &task[..5], &budget_record(9), &budget_record(0), &[1], &[3], &[0]] {
+        for record in some {
             ask_all(bench, &[&file[..place], record, &file[place..]].concat());
         }
     }
@@ -90,20 +123,23 @@ fn every_tail(bench: &mut Bench, file: &[u8]) {
         ask_all(bench, &[file, &[byte]].concat());
         ask_all(bench, &[file, &[byte; 40]].concat());
     }
-    let (task, open) = (spare_record(), &file[..file.len() - 1]);
-    for length in 0..=task.len() {
-        ask_all(bench, &[open, &task[..length]].concat());
-        ask_all(bench, &[open, &task[..length], &[3]].concat());
+    let open = &file[..file.len() - 1];
+    for record in spare_records() {
+        for length in 0..=record.len() {
+            ask_all(bench, &[open, &record[..length]].concat());
+            ask_all(bench, &[open, &record[..length], &[3]].concat());
+        }
     }
 }
 
 pub fn damaged_one_by_one(bench: &mut Bench, rng: &mut Rng) {
-    for tasks in [table_of(B), table_of(J), most(rng)] {
+    let tables = [vec![table_of(B), table_of(J), most(rng), most_mixed(rng)], with_a_button()].concat();
+    for tasks in tables {
         let file = file_of(1_000, &tasks);
         every_cut(bench, &file);
         every_byte_changed(bench, &file);
-        every_kind(bench, &file, tasks.len());
-        every_insertion(bench, &file, tasks.len());
+        every_kind(bench, &file, &tasks);
+        every_insertion(bench, &file, &tasks);
         every_tail(bench, &file);
     }
     ask_all(bench, &[0; 70_000]);
@@ -113,7 +149,7 @@ pub fn damaged_one_by_one(bench: &mut Bench, rng: &mut Rng) {
 
 pub fn damaged_at_random(bench: &mut Bench, rng: &mut Rng, count: u64) {
     for _ in 0..count {
-        let mut file = file_of(if rng.chance(5) { 0 } else { rng.below(1_000) }, &near_border(rng));
+        let mut file = file_of(if rng.chance(5) { 0 } else { rng.below(1_000) }, &of_any_sort(rng));
         damage(rng, &mut file);
         ask_all(bench, &file);
     }
@@ -122,11 +158,12 @@ pub fn damaged_at_random(bench: &mut Bench, rng: &mut Rng, count: u64) {
 
 pub fn buffers(bench: &mut Bench, rng: &mut Rng) {
     let b = file_of(38, &table_of(B));
-    let files = [b.clone(), b[..20].to_vec(), Vec::new(), file_of(9, &[]), file_of(9, &table_of(TOO_LONG))];
+    let (none, long) = (file_of(9, &[]), file_of(9, &table_of(TOO_LONG)));
+    let files = [b.clone(), b[..20].to_vec(), Vec::new(), none, long, file_of(9, &with_a_button()[1])];
     let lengths = (0..=1_100).chain([4_096, 65_534, 65_535, 65_536, 65_537, 65_680, 70_000, 131_072]);
     for length in lengths {
         for call in [Call::Check, Call::Start, Call::Step] {
-            let file = rng.pick(&[0, 0, 1, 2, 3, 4]);
+            let file = rng.pick(&[0, 0, 1, 2, 3, 4, 5]);
             let buffer = (0..length).map(|_| rng.below(3) as u8).collect();
             bench.ask(Request { call, file: files[file as usize].clone(), buffer, number: 0 });
         }

@@ -1,6 +1,6 @@
 //! Seeded inputs: tables near the border of what passes, damaged files, odd states.
 
-use crate::reference::{self, State, Task, Verdict, NONE, TASKS};
+use crate::reference::{self, button, periodic, State, Task, Verdict, NONE, TASKS};
 
 /// splitmix64.
 pub struct Rng(pub u64);
@@ -38,8 +38,14 @@ fn numbers(task: &Task) -> [u32; 4] {
     [task.offset, task.cost, task.deadline, task.period]
 }
 
+fn kind(task: &Task) -> u8 {
+    [2, 4][task.button as usize]
+}
+
+/// A button's has no offset.
 pub fn task_record(task: &Task) -> Vec<u8> {
-    std::iter::once(2).chain(numbers(task).iter().flat_map(|word| word.to_le_bytes())).collect()
+    let body = numbers(task).into_iter().skip(task.button as usize).flat_map(u32::to_le_bytes);
+    std::iter::once(kind(task)).chain(body).collect()
 }
 
 pub fn budget_record(budget: u64) -> Vec<u8> {
@@ -53,24 +59,28 @@ pub fn file_of(budget: u64, tasks: &[Task]) -> Vec<u8> {
     file
 }
 
-/// A table as the writer takes it.
+/// A table as the writer takes it; a button has a 0 where its offset would be.
 pub fn rows_of(tasks: &[Task]) -> Vec<u32> {
-    tasks.iter().flat_map(|task| std::iter::once(2).chain(numbers(task))).collect()
+    tasks.iter().flat_map(|task| std::iter::once(u32::from(kind(task))).chain(numbers(task))).collect()
 }
 
 pub fn table_of(rows: &[(u32, u32, u32, u32)]) -> Vec<Task> {
-    rows.iter().map(|&(offset, cost, deadline, period)| Task { offset, cost, deadline, period }).collect()
+    rows.iter().map(|&(offset, cost, deadline, period)| periodic(offset, cost, deadline, period)).collect()
 }
 
-/// The places where records begin in a good file of so many tasks: the budget, the tasks, the end.
-pub fn record_places(tasks: usize) -> Vec<usize> {
-    std::iter::once(0).chain((0..=tasks).map(|task| 9 + 17 * task)).collect()
+/// The places where records begin in a good file of these tasks: the budget, the tasks, the end.
+pub fn record_places(tasks: &[Task]) -> Vec<usize> {
+    let end = |count: usize| 9 + tasks[..count].iter().map(|task| task_record(task).len()).sum::<usize>();
+    std::iter::once(0).chain((0..=tasks.len()).map(end)).collect()
 }
 
 /// Whether no test of the file needs more slots than can be waited for.
 pub fn affordable(file: &[u8]) -> bool {
     const SLOTS: u64 = 300_000;
     match reference::read_file(file) {
+        Ok((_, tasks)) if reference::judge(&tasks).is_ok() && reference::has_button(&tasks) => {
+            reference::by_distance_within(&tasks, SLOTS).is_some()
+        }
         Ok((budget, tasks)) if reference::judge(&tasks).is_ok() => {
             let round = reference::round(&tasks).unwrap();
             let walk =
@@ -86,7 +96,7 @@ pub fn affordable(file: &[u8]) -> bool {
 /// is tried.
 pub fn triable(budget: u64, tasks: &[Task], task: usize) -> bool {
     const SLOTS: u64 = 60_000;
-    if task >= tasks.len() || reference::judge(tasks).is_err() {
+    if task >= tasks.len() || reference::judge_periodic(tasks).is_err() {
         return true;
     }
     let horizon = reference::horizon(tasks, reference::round(tasks).unwrap());
@@ -113,7 +123,7 @@ fn pick_count(rng: &mut Rng) -> usize {
 }
 
 fn light(period: u32) -> Task {
-    Task { offset: 0, cost: 1, deadline: period, period }
+    periodic(0, 1, period, period)
 }
 
 fn divisors(round: u32) -> Vec<u32> {
@@ -155,7 +165,7 @@ fn raise_costs(rng: &mut Rng, tasks: &mut [Task], round: u32) {
 fn fill_up(tasks: &mut Vec<Task>, round: u32) {
     let free = round.saturating_sub(asked(tasks, round));
     if free > 0 && tasks.len() < TASKS {
-        tasks.push(Task { offset: 0, cost: free, deadline: round, period: round });
+        tasks.push(periodic(0, free, round, round));
     }
 }
 
@@ -217,15 +227,35 @@ pub fn near_border(rng: &mut Rng) -> Vec<Task> {
     tasks
 }
 
+/// Some of the tasks made buttons of the same numbers: one of them, some, or all.
+pub fn make_buttons(rng: &mut Rng, tasks: &mut [Task]) {
+    let (share, one) = (rng.pick(&[0, 20, 50, 100]), rng.below(tasks.len().max(1) as u64) as usize);
+    for (number, task) in tasks.iter_mut().enumerate() {
+        if number == one || rng.chance(share) {
+            *task = button(task.cost, task.deadline, task.period);
+        }
+    }
+}
+
+/// As near the border, and now and then with buttons, which most calls refuse.
+pub fn of_any_sort(rng: &mut Rng) -> Vec<Task> {
+    let mut tasks = near_border(rng);
+    if rng.chance(10) {
+        make_buttons(rng, &mut tasks);
+    }
+    tasks
+}
+
 /// A table with long periods, its least common multiple mostly near or above its limit.
 pub fn long_round(rng: &mut Rng) -> Vec<Task> {
-    let periods = [4_093, 7_777, 8_779, 9_901, 12_987, 27_830, 31_623, 59_957, 59_999, 60_000, 50_000, 16_384, 46_656, 1_000, 1];
+    let periods =
+        [4_093, 7_777, 8_779, 9_901, 12_987, 27_830, 31_623, 59_957, 59_999, 60_000, 50_000, 16_384, 46_656, 1_000, 1];
     let count = 1 + rng.below(6) as usize;
     let long = |rng: &mut Rng| if rng.chance(60) { rng.pick(&periods) } else { rng.range(1, 60_000) };
     (0..count).map(|_| light(long(rng))).collect()
 }
 
-/// A table of so many tasks, well-formed if there are not too many: short and long periods, numbers often at their ends.
+/// A table of so many tasks and buttons, well-formed if there are not too many: short and long periods, numbers often at their ends.
 pub fn sized(rng: &mut Rng, count: usize) -> Vec<Task> {
     let families: [&[u32]; 4] = [
         &[1, 2, 3, 4, 5, 6, 60, 1_000, 7_500, 30_000, 60_000],
@@ -242,6 +272,9 @@ pub fn sized(rng: &mut Rng, count: usize) -> Vec<Task> {
             task.deadline = rng.pick(&[1, task.period]);
             task.cost = rng.pick(&[1, task.deadline]);
         }
+    }
+    if rng.chance(30) {
+        make_buttons(rng, &mut tasks);
     }
     tasks
 }
@@ -266,7 +299,7 @@ pub fn early_end(rng: &mut Rng) -> Vec<Task> {
         let offset = rng.range(0, 3_000);
         for task in tasks.iter_mut().take(2) {
             let cost = task.period.min(rng.range(1, 20));
-            *task = Task { offset, cost, deadline: cost, period: task.period };
+            *task = periodic(offset, cost, cost, task.period);
         }
         if tasks.len() >= 2 && reference::judge(&tasks).is_ok() {
             return tasks;
@@ -290,7 +323,7 @@ pub fn spoil(rng: &mut Rng, tasks: &mut [Task]) {
     for _ in 0..1 + rng.below(2) {
         let task = &mut tasks[rng.below(tasks.len() as u64) as usize];
         match rng.below(4) {
-            0 => task.offset = odd_number(rng, 60_000),
+            0 if !task.button => task.offset = odd_number(rng, 60_000),
             1 => task.cost = odd_number(rng, task.deadline),
             2 => task.deadline = odd_number(rng, task.period),
             _ => task.period = odd_number(rng, 60_000),
@@ -329,7 +362,7 @@ pub fn damage(rng: &mut Rng, file: &mut Vec<u8>) {
         let place = rng.below(file.len() as u64 + 1) as usize;
         match rng.below(5) {
             0 => file.truncate(place),
-            1 => file.insert(place, rng.below(5) as u8),
+            1 => file.insert(place, rng.below(6) as u8),
             2 if place < file.len() => file[place] = rng.next() as u8,
             3 if place < file.len() => file[place] ^= 1 << rng.below(8),
             _ => file.extend(budget_record(rng.next()).iter().take(rng.below(10) as usize)),

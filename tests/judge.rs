@@ -4,7 +4,7 @@ use crate::bench::Bench;
 use crate::document::B;
 use crate::inputs::*;
 use crate::program;
-use crate::reference::{self, LONGEST_FILE, TASKS};
+use crate::reference::{self, button, LONGEST_FILE, TASKS};
 use crate::whole::hard_files;
 use std::fs::File;
 use std::io::Write;
@@ -19,7 +19,7 @@ const DAMAGED_FILES: u64 = 150;
 /// What the judge must print.
 fn permitted(input: &[u8]) -> String {
     let read = reference::read_file(input);
-    match read.and_then(|(budget, tasks)| reference::judge(&tasks).map(|()| reference::report(&tasks, budget))) {
+    match read.and_then(|(budget, tasks)| reference::judge_periodic(&tasks).map(|()| reference::report(&tasks, budget))) {
         Ok(report) => report,
         Err(refusal) => format!("refused {} at {}\n", refusal.number, refusal.place),
     }
@@ -104,14 +104,18 @@ fn too_long(bench: &mut Bench) {
     }
 }
 
-/// A task too many is refused wherever it is cut, and whatever follows.
+/// A task or a button too many, after tasks alone or buttons alone, is refused wherever it is cut, and whatever follows.
 fn one_too_many(bench: &mut Bench) {
-    let file = file_of(1_000, &[table_of(B)[1]; TASKS + 1]);
-    let refusal = format!("refused 25 at {}\n", LONGEST_FILE - 1);
-    for length in (LONGEST_FILE..=file.len()).chain([3_000]) {
-        let mut input = file.clone();
-        input.resize(length, 2);
-        must_print(bench, &through_pipe(&input), &refusal, || format!("a task too many cut at {length}"));
+    let (task, button) = (table_of(B)[1], button(1, 9, 20));
+    for (many, last) in [(task, task), (task, button), (button, task), (button, button)] {
+        let full = file_of(1_000, &[many; TASKS]).len();
+        let file = file_of(1_000, &[&[many; TASKS][..], &[last]].concat());
+        let refusal = format!("refused 25 at {}\n", full - 1);
+        for length in (full..=file.len()).chain([3_000]) {
+            let mut input = file.clone();
+            input.resize(length, 2);
+            must_print(bench, &through_pipe(&input), &refusal, || format!("one too many cut at {length}"));
+        }
     }
 }
 
@@ -135,12 +139,12 @@ fn any_input(bench: &mut Bench, rng: &mut Rng, file: &[u8]) {
 
 pub fn inputs_at_random(bench: &mut Bench, rng: &mut Rng) {
     for _ in 0..GOOD_FILES {
-        let tasks = near_border(rng);
+        let tasks = of_any_sort(rng);
         let file = file_of(budget_about(rng, &tasks), &tasks);
         any_input(bench, rng, &file);
     }
     for _ in 0..DAMAGED_FILES {
-        let mut file = file_of(rng.below(1_000), &near_border(rng));
+        let mut file = file_of(rng.below(1_000), &of_any_sort(rng));
         damage(rng, &mut file);
         if affordable(&file) {
             any_input(bench, rng, &file);

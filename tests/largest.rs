@@ -3,11 +3,12 @@
 use crate::bench::Bench;
 use crate::calls::{Reply, Request};
 use crate::inputs::*;
-use crate::reference::{self, Task, LATE, OVERLOAD, UNDECIDED};
+use crate::reference::{self, periodic, Task, LATE, OVERLOAD, UNDECIDED};
 
 /// Of so many inputs at least one has each answer.
 const INPUTS_PER_ANSWER: u64 = 1_000;
-const ANSWERS: [&str; 7] = ["as it is", "larger", "the deadline", "overload", "undecided", "late", "no such task"];
+const ANSWERS: [&str; 8] =
+    ["as it is", "larger", "the deadline", "overload", "undecided", "late", "no such task", "a button"];
 
 /// Mostly one that the table has; else at its end, past it, and where a place ends.
 fn some_task(rng: &mut Rng, tasks: usize) -> u32 {
@@ -39,7 +40,7 @@ fn answer_of(tasks: &[Task], task: u32, told: u64) -> usize {
         OVERLOAD => 3,
         UNDECIDED => 4,
         LATE => 5,
-        65_536.. => 6,
+        65_536.. => 6 + (told / 65_536 == 11) as usize,
         cost if cost == u64::from(tasks[task as usize].cost) => 0,
         cost if cost == u64::from(tasks[task as usize].deadline) => 2,
         _ => 1,
@@ -47,7 +48,7 @@ fn answer_of(tasks: &[Task], task: u32, told: u64) -> usize {
 }
 
 /// A generator that no longer reaches an answer fails.
-fn each_comes_up(bench: &mut Bench, answers: [u64; 7], count: u64) {
+fn each_comes_up(bench: &mut Bench, answers: [u64; 8], count: u64) {
     let told: Vec<String> = ANSWERS.iter().zip(answers).map(|(answer, often)| format!("{answer} {often}")).collect();
     println!("largest: {}", told.join(", "));
     for often in answers {
@@ -56,9 +57,12 @@ fn each_comes_up(bench: &mut Bench, answers: [u64; 7], count: u64) {
 }
 
 pub fn every_cost(bench: &mut Bench, rng: &mut Rng, count: u64) {
-    let (mut answers, mut asked) = ([0; 7], 0);
+    let (mut answers, mut asked) = ([0; 8], 0);
     while asked < count {
-        let (budget, tasks) = some_table(rng);
+        let (budget, mut tasks) = some_table(rng);
+        if rng.chance(2) {
+            make_buttons(rng, &mut tasks);
+        }
         let task = some_task(rng, tasks.len());
         if !triable(budget, &tasks, task as usize) {
             continue;
@@ -78,7 +82,7 @@ fn stretched(rng: &mut Rng) -> Vec<Task> {
     let tasks = some_table(rng).1;
     let largest = tasks.iter().map(|task| task.period.max(task.offset)).max().unwrap();
     let by = rng.pick(&[1, 7, 60_000 / largest, 60_000 / largest]).clamp(1, (60_000 / largest).max(1));
-    let stretch = |task: &Task| Task { offset: by * task.offset, cost: by * task.cost, deadline: by * task.deadline, period: by * task.period };
+    let stretch = |task: &Task| periodic(by * task.offset, by * task.cost, by * task.deadline, by * task.period);
     tasks.iter().map(stretch).collect()
 }
 
@@ -107,7 +111,8 @@ fn held_to_the_check(bench: &mut Bench, rng: &mut Rng, tasks: &[Task], task: u32
 
 /// A number exactly if the check passes the table as it is; else overload or late, as it says.
 fn said_of(bench: &mut Bench, tasks: &[Task], reply: &Reply) {
-    let report = String::from_utf8_lossy(&bench.answer(&[Request::check(file_of(u64::MAX, tasks))])[0].written()).to_string();
+    let report =
+        String::from_utf8_lossy(&bench.answer(&[Request::check(file_of(u64::MAX, tasks))])[0].written()).to_string();
     let verdict = report.lines().find_map(|line| line.strip_prefix("verdict ")).unwrap_or("none").to_string();
     let good = match reply.result {
         OVERLOAD => verdict == "overload",

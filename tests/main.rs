@@ -3,6 +3,7 @@
 //!
 //! Run by tests/run from the repository's root, with an optional seed and count of inputs for each call.
 
+mod arrivals;
 mod bench;
 mod calls;
 mod command;
@@ -49,12 +50,16 @@ fn judging(bench: &mut Bench, rng: &mut Rng, count: u64) {
     document::accounts(bench);
     document::late_sets(bench);
     document::largest_costs(bench);
+    document::buttons(bench);
     randoms::reference_itself(bench, rng);
     randoms::field_borders(bench);
     files::damaged_one_by_one(bench, rng);
     files::buffers(bench, rng);
     randoms::checks(bench, rng, count);
     randoms::quick_tests(bench, rng, count);
+    arrivals::runs(bench, rng, count / 10);
+    arrivals::calls(bench, rng, count / 20);
+    arrivals::without_buttons(bench, rng, count / 10);
     easing::by_hand(bench);
     easing::reference_itself(bench, rng);
     easing::pairs(bench, rng, count);

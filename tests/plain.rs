@@ -1,6 +1,6 @@
 //! Tables in plain text once more, written from include/yolizadwa.h and docs/DECISIONS.md alone.
 
-use crate::reference::{refuse, Refusal, Task, LARGEST_PLACE, TASKS};
+use crate::reference::{button, periodic, refuse, Refusal, Task, LARGEST_PLACE, TASKS};
 
 /// The bytes of the longest text of a table that is not refused.
 pub const LONGEST_TEXT: usize = 28 + 29 * TASKS;
@@ -35,16 +35,20 @@ fn numbers<const N: usize>(words: &[&[u8]], limit: u128) -> Result<[u64; N], u64
 fn take_line(words: &[&[u8]], budget: &mut Option<u64>, tasks: &mut Vec<Task>) -> Result<(), u64> {
     let Some((&first, rest)) = words.split_first() else { return Ok(()) };
     match first {
-        b"task" if budget.is_none() => return Err(64),
+        b"task" | b"button" if budget.is_none() => return Err(64),
         b"budget" if budget.is_some() => return Err(65),
-        b"task" if tasks.len() == TASKS => return Err(66),
+        b"task" | b"button" if tasks.len() == TASKS => return Err(66),
         b"budget" => match numbers(rest, 1 << 64)? {
             [0] => return Err(27),
             [slots] => *budget = Some(slots),
         },
         b"task" => {
             let [offset, cost, deadline, period] = numbers(rest, 1 << 32)?.map(|number| number as u32);
-            tasks.push(Task { offset, cost, deadline, period });
+            tasks.push(periodic(offset, cost, deadline, period));
+        }
+        b"button" => {
+            let [cost, deadline, spacing] = numbers(rest, 1 << 32)?.map(|number| number as u32);
+            tasks.push(button(cost, deadline, spacing));
         }
         _ => return Err(60),
     }
@@ -62,7 +66,11 @@ pub fn read_text(text: &[u8]) -> Result<(u64, Vec<Task>), Refusal> {
 }
 
 fn task_line(task: &Task) -> String {
-    format!("task {} {} {} {}\n", task.offset, task.cost, task.deadline, task.period)
+    if task.button {
+        format!("button {} {} {}\n", task.cost, task.deadline, task.period)
+    } else {
+        format!("task {} {} {} {}\n", task.offset, task.cost, task.deadline, task.period)
+    }
 }
 
 pub fn text_of(budget: u64, tasks: &[Task]) -> Vec<u8> {

@@ -4,7 +4,7 @@ use crate::bench::{Bench, Permitted};
 use crate::calls::{Reply, Request};
 use crate::files::ask_all;
 use crate::inputs::*;
-use crate::reference::{self, Task, Verdict, REPORT_BYTES, TASKS};
+use crate::reference::{self, button, periodic, Task, Verdict, REPORT_BYTES, TASKS};
 
 /// The two ways of the reference to look for a late deadline, held to each other.
 pub fn reference_itself(bench: &mut Bench, rng: &mut Rng) {
@@ -26,7 +26,7 @@ pub fn reference_itself(bench: &mut Bench, rng: &mut Rng) {
     }
     bench.end_group("the reference's two searches, its quick test and its idle instants");
     for _ in 0..2_000 {
-        let mut some = || Task { offset: rng.range(0, 60), cost: 1, deadline: 1, period: rng.range(1, 24) };
+        let mut some = || periodic(rng.range(0, 60), 1, 1, rng.range(1, 24));
         let (one, other) = (some(), some());
         let (plain, reduced) = (reference::distance_by_releases(&one, &other), reference::distance(&one, &other));
         bench.count(plain == reduced, || format!("{one:?} {other:?}: {plain} by releases, {reduced} by the difference"));
@@ -66,14 +66,17 @@ fn field_of(task: &mut Task, field: usize) -> &mut u32 {
     }
 }
 
-/// Every field of every task at, just inside and just outside its borders.
+/// Every field of every task at, just inside and just outside its borders; and of a button in its place.
 pub fn field_borders(bench: &mut Bench) {
-    let good = Task { offset: 1, cost: 1, deadline: 2, period: 60_000 };
+    let good = periodic(1, 1, 2, 60_000);
     for place in 0..TASKS {
         for field in 0..4 {
             for number in [0, 1, 2, 3, 59_999, 60_000, 60_001, 65_536, 1 << 31, u32::MAX] {
                 let mut tasks = vec![good; TASKS];
                 *field_of(&mut tasks[place], field) = number;
+                ask_all(bench, &file_of(100, &tasks));
+                let Task { cost, deadline, period, .. } = tasks[place];
+                tasks[place] = button(cost, deadline, period);
                 ask_all(bench, &file_of(100, &tasks));
             }
         }
@@ -81,17 +84,18 @@ pub fn field_borders(bench: &mut Bench) {
     bench.end_group("fields at their borders");
 }
 
-/// How many of each verdict: a generator that no longer reaches one of them fails.
+/// How many of each verdict, and how many that have none since there is a button: a generator that no longer reaches one of them fails.
 #[derive(Default)]
-struct Verdicts([u64; 4]);
+struct Verdicts([u64; 5]);
 
-const VERDICT_WORDS: [&str; 4] = ["passes", "overload", "late", "undecided"];
+const VERDICT_WORDS: [&str; 5] = ["passes", "overload", "late", "undecided", "refused"];
 /// Of so many inputs at least one has each verdict.
 const INPUTS_PER_VERDICT: u64 = 1_000;
 
 impl Verdicts {
     fn count(&mut self, permitted: &Permitted) {
-        let report = String::from_utf8_lossy(&permitted.1[..permitted.0 as usize]).to_string();
+        let refused = "verdict refused\n".as_bytes();
+        let report = String::from_utf8_lossy(permitted.1.get(..permitted.0 as usize).unwrap_or(refused)).to_string();
         for (word, count) in VERDICT_WORDS.iter().zip(&mut self.0) {
             *count += report.contains(&format!("verdict {word}\n")) as u64;
         }
@@ -109,7 +113,10 @@ impl Verdicts {
 pub fn checks(bench: &mut Bench, rng: &mut Rng, count: u64) {
     let mut verdicts = Verdicts::default();
     for _ in 0..count {
-        let tasks = near_border(rng);
+        let mut tasks = near_border(rng);
+        if rng.chance(2) {
+            make_buttons(rng, &mut tasks);
+        }
         let mut request = Request::check(file_of(budget_about(rng, &tasks), &tasks));
         request.buffer = vec![rng.next() as u8; REPORT_BYTES + rng.below(3) as usize];
         let permitted = reference::answer(&request);
@@ -180,6 +187,9 @@ pub fn long_rounds(bench: &mut Bench, rng: &mut Rng, count: u64) {
         if rng.chance(70) {
             any_fields(rng, &mut tasks);
         }
+        if rng.chance(20) {
+            make_buttons(rng, &mut tasks);
+        }
         ask_all(bench, &file_of(rng.below(2_000), &tasks));
         bench.ask(Request::check(file_of(rng.next() | 1 << 40, &early_end(rng))));
     }
@@ -188,7 +198,7 @@ pub fn long_rounds(bench: &mut Bench, rng: &mut Rng, count: u64) {
 
 pub fn spoilt_tables(bench: &mut Bench, rng: &mut Rng, count: u64) {
     for _ in 0..count {
-        let mut tasks = near_border(rng);
+        let mut tasks = of_any_sort(rng);
         spoil(rng, &mut tasks);
         ask_all(bench, &file_of(rng.below(1_000), &tasks));
     }
@@ -199,6 +209,9 @@ fn any_table(rng: &mut Rng) -> Vec<Task> {
     let mut tasks = if rng.chance(85) { near_border(rng) } else { long_round(rng) };
     if rng.chance(15) {
         any_fields(rng, &mut tasks);
+    }
+    if rng.chance(3) {
+        make_buttons(rng, &mut tasks);
     }
     tasks
 }

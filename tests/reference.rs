@@ -16,12 +16,22 @@ pub const LARGEST_PLACE: usize = 65_535;
 const LONGEST: u32 = 60_000;
 const LARGEST_ROUND: u64 = 1_000_000_000_000;
 
+/// A task, or a button: of that the period is the least spacing, and the offset, which it has not, is 0.
 #[derive(Clone, Copy, PartialEq, Eq, Debug)]
 pub struct Task {
+    pub button: bool,
     pub offset: u32,
     pub cost: u32,
     pub deadline: u32,
     pub period: u32,
+}
+
+pub const fn periodic(offset: u32, cost: u32, deadline: u32, period: u32) -> Task {
+    Task { button: false, offset, cost, deadline, period }
+}
+
+pub const fn button(cost: u32, deadline: u32, spacing: u32) -> Task {
+    Task { button: true, offset: 0, cost, deadline, period: spacing }
 }
 
 #[derive(Clone, Copy, PartialEq, Eq, Debug)]
@@ -51,7 +61,11 @@ fn long(bytes: &[u8], at: usize) -> u64 {
 }
 
 fn task_from(body: &[u8]) -> Task {
-    Task { offset: word(body, 0), cost: word(body, 1), deadline: word(body, 2), period: word(body, 3) }
+    periodic(word(body, 0), word(body, 1), word(body, 2), word(body, 3))
+}
+
+fn button_from(body: &[u8]) -> Task {
+    button(word(body, 0), word(body, 1), word(body, 2))
 }
 
 fn body_length(kind: u8) -> Option<usize> {
@@ -59,6 +73,7 @@ fn body_length(kind: u8) -> Option<usize> {
         1 => Some(8),
         2 => Some(16),
         3 => Some(0),
+        4 => Some(12),
         _ => None,
     }
 }
@@ -72,7 +87,7 @@ fn body_at(file: &[u8], place: usize, tasks: usize) -> Result<&[u8], Refusal> {
     match file[place] {
         kind if place == 0 && kind != 1 => refuse(22, 0),
         1 if place > 0 => refuse(23, place),
-        2 if tasks == TASKS => refuse(25, place),
+        2 | 4 if tasks == TASKS => refuse(25, place),
         _ => file[place + 1..].get(..length).map_or(refuse(20, place), Ok),
     }
 }
@@ -87,6 +102,7 @@ pub fn read_file(file: &[u8]) -> Result<(u64, Vec<Task>), Refusal> {
             1 if body == [0; 8] => return refuse(27, 0),
             1 => budget = u64::from_le_bytes(body.try_into().unwrap()),
             2 => tasks.push(task_from(body)),
+            4 => tasks.push(button_from(body)),
             _ if place < file.len() => return refuse(24, place),
             _ => return Ok((budget, tasks)),
         }
@@ -148,6 +164,16 @@ pub fn judge(tasks: &[Task]) -> Result<(), Refusal> {
         }
     }
     round(tasks).map_or(refuse(7, 0), |_| Ok(()))
+}
+
+pub fn has_button(tasks: &[Task]) -> bool {
+    tasks.iter().any(|task| task.button)
+}
+
+/// What the exact test, its report, the quick test, T-11, T-12 and the dispatcher take: periodic tasks alone.
+pub fn judge_periodic(tasks: &[Task]) -> Result<(), Refusal> {
+    judge(tasks)?;
+    tasks.iter().position(|task| task.button).map_or(Ok(()), |first| refuse(11, first))
 }
 
 pub fn asked_in_round(tasks: &[Task], round: u64) -> u64 {
@@ -331,7 +357,7 @@ fn overloaded(tasks: &[Task]) -> bool {
 }
 
 pub fn simultaneous(tasks: &[Task]) -> Vec<Task> {
-    tasks.iter().map(|task| Task { offset: 0, ..*task }).collect()
+    tasks.iter().map(|task| Task { button: false, offset: 0, ..*task }).collect()
 }
 
 fn released_at(tasks: &[Task], slot: u64) -> Vec<Job> {
@@ -393,23 +419,47 @@ pub fn distance_by_releases(one: &Task, other: &Task) -> u32 {
     releases(one).into_iter().filter_map(after).min().unwrap()
 }
 
-/// For each task as first: it at 0, and every other at its distance.
+/// T-05, of periodic tasks: for each task as first, it at 0, and every other at its distance.
 fn patterns(tasks: &[Task]) -> Vec<Vec<Task>> {
     let from = |first: &Task| tasks.iter().map(|task| Task { offset: distance(first, task), ..*task }).collect();
     tasks.iter().map(from).collect()
 }
 
+/// T-13: for each periodic task as first, it at 0, every other one at its distance, and every button at 0; with none, all at 0. A
+/// button comes as soon as it may again, so each pattern is one of periodic tasks.
+fn mixed_patterns(tasks: &[Task]) -> Vec<Vec<Task>> {
+    let start = |first: &Task, task: &Task| if task.button { 0 } else { distance(first, task) };
+    let from = |first: &Task| {
+        let started = |task: &Task| periodic(start(first, task), task.cost, task.deadline, task.period);
+        tasks.iter().map(started).collect()
+    };
+    let patterns: Vec<Vec<Task>> = tasks.iter().filter(|task| !task.button).map(from).collect();
+    if patterns.is_empty() {
+        return vec![simultaneous(tasks)];
+    }
+    patterns
+}
+
 /// 2 for overload, 1 for pass, 0 for no answer, if that is known within so many slots of each pattern.
-pub fn by_distance_within(tasks: &[Task], slots: u64) -> Option<u64> {
+fn calm_patterns_within(tasks: &[Task], patterns: &[Vec<Task>], slots: u64) -> Option<u64> {
     if overloaded(tasks) {
         return Some(2);
     }
-    for pattern in patterns(tasks) {
-        if !calm_within(&pattern, slots)? {
+    for pattern in patterns {
+        if !calm_within(pattern, slots)? {
             return Some(0);
         }
     }
     Some(1)
+}
+
+pub fn by_distance_within(tasks: &[Task], slots: u64) -> Option<u64> {
+    calm_patterns_within(tasks, &mixed_patterns(tasks), slots)
+}
+
+/// T-05's test, which knows no buttons.
+pub fn by_periodic_distance(tasks: &[Task]) -> u64 {
+    calm_patterns_within(tasks, &patterns(tasks), u64::MAX).expect("each run is caught up within a round")
 }
 
 pub fn by_distance(tasks: &[Task]) -> u64 {
@@ -467,7 +517,7 @@ pub fn eased_by_definition(old: &[Task], new: &[Task]) -> Result<Vec<usize>, usi
 
 /// 4 x task, 4 x set + 1, or a file's refusal: 4 x refusal + 2 of the old one, + 3 of the new one.
 fn eased_files(request: &Request) -> u64 {
-    let table = |file: &[u8]| read_file(file).and_then(|(_, tasks)| judge(&tasks).map(|()| tasks));
+    let table = |file: &[u8]| read_file(file).and_then(|(_, tasks)| judge_periodic(&tasks).map(|()| tasks));
     match (table(&request.file), table(&request.buffer)) {
         (Err(refusal), _) => 4 * refusal.result() + 2,
         (_, Err(refusal)) => 4 * refusal.result() + 3,
@@ -728,11 +778,23 @@ fn check_buffer(request: &Request) -> Result<(), Refusal> {
 fn read_table(request: &Request) -> Result<(u64, Vec<Task>), Refusal> {
     check_buffer(request)?;
     let (budget, tasks) = read_file(&request.file)?;
-    judge(&tasks)?;
+    match request.call {
+        Call::ToText | Call::Distance => judge(&tasks)?,
+        _ => judge_periodic(&tasks)?,
+    }
     Ok((budget, tasks))
 }
 
-/// The table that is handed over as rows of words: its kind, then a task's numbers.
+/// A row of words: its kind, then a task's numbers, or a 0 and a button's.
+fn row_from(row: &[u8]) -> Option<Task> {
+    match (word(row, 0), word(row, 1)) {
+        (2, _) => Some(task_from(&row[4..])),
+        (4, 0) => Some(button_from(&row[8..])),
+        _ => None,
+    }
+}
+
+/// The table that is handed over as rows of words.
 fn table_from(rows: &[u8]) -> Result<Vec<Task>, Refusal> {
     const ROW_WORDS: usize = 5;
     let words = rows.len() / 4;
@@ -741,10 +803,10 @@ fn table_from(rows: &[u8]) -> Result<Vec<Task>, Refusal> {
     }
     let mut tasks = Vec::new();
     for (number, row) in rows.chunks(4 * ROW_WORDS).enumerate() {
-        if word(row, 0) != 2 {
-            return refuse(52, number.min(LARGEST_PLACE));
+        match row_from(row) {
+            Some(task) => tasks.push(task),
+            None => return refuse(52, number.min(LARGEST_PLACE)),
         }
-        tasks.push(task_from(&row[4..]));
     }
     Ok(tasks)
 }

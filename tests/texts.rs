@@ -5,11 +5,11 @@ use crate::calls::Request;
 use crate::document::refused_with;
 use crate::inputs::*;
 use crate::plain;
-use crate::reference::{self, Task, TASKS};
+use crate::reference::{self, button, periodic, Task, TASKS};
 
 const BATCH: usize = 1_000;
 /// Bytes that mean something in a text, or nearly.
-const TELLING: &[u8] = b"  \t\r\n\n##0123456789019budgetask-+.x\0\x0b\x0c\x1f\x7f\x80\xa0\xff";
+const TELLING: &[u8] = b"  \t\r\n\n##0123456789019budgetaskon-+.x\0\x0b\x0c\x1f\x7f\x80\xa0\xff";
 
 fn ask(bench: &mut Bench, text: impl Into<Vec<u8>>) {
     bench.ask(Request::from_text(text.into()));
@@ -30,6 +30,14 @@ const ALSO_B: &[&str] = &[
     "budget 1000#\ntask 8 5 7 15# task 1 2 3 4\ntask 0 2 2 5#\r",
     "\n\r\n \t\n#\n\t budget\t \t1000 \n\n\ttask 8  5\t7 15\t\r\n \r\ntask 0 2 2 5\n\n\n \t",
     "budget 00000000000000000000000000000001000\ntask 0008 005 0007 000000000000000000015\ntask 00 02 2 5\n",
+];
+
+/// A shutter button beside two tasks, in the words of the header and in others.
+const SHUTTER: &str = "budget 1000\ntask 0 2 10 10\nbutton 1 3 20\ntask 0 3 20 20\n";
+const ALSO_SHUTTER: &[&str] = &[
+    SHUTTER,
+    "budget 1000\ntask 0 2 10 10\nbutton 1 3 20      # cost, deadline, least spacing\ntask 0 3 20 20\n",
+    "\tbudget 1000\r\ntask 00 2 10 10\r\n\n \tbutton\t1  03 \t20#button\r\ntask 0 3 20 20",
 ];
 
 /// Texts with number and place of their refusal.
@@ -84,6 +92,33 @@ const REFUSED: &[(&str, u64, u64)] = &[
     ("budget 5\ntask 0 1 1 0\ntask\n", 63, 3),
     ("budget 5\ntask 0 1 2 2\n\n\ntask 60001 1 2 2\n", 6, 1),
     ("budget 5\ntask 0 1 4093 4093\ntask 0 1 8779 8779\ntask 0 1 27830 27830\n", 7, 0),
+    ("button 1 3 20\nbudget 5\n", 64, 1),
+    ("\nbutton x\n", 64, 2),
+    ("buttons 1 3 20\n", 60, 1),
+    ("budget 5\nButton 1 3 20\n", 60, 2),
+    ("budget 5\nbutto 1 3 20\n", 60, 2),
+    ("budget 5\nbutton1 3 20\n", 60, 2),
+    ("budget 5\nbutton\n", 63, 2),
+    ("budget 5\nbutton 1 3\n", 63, 2),
+    ("budget 5\nbutton 0 1 3 20\n", 63, 2),
+    ("budget 5\nbutton 1 3 20 x\n", 63, 2),
+    ("budget 5\nbutton 1 x\n", 61, 2),
+    ("budget 5\nbutton -1 3 20\n", 61, 2),
+    ("budget 5\nbutton 1 3 20x\n", 61, 2),
+    ("budget 5\nbutton 4294967296 x 1\n", 62, 2),
+    ("budget 5\nbutton x 4294967296 1\n", 61, 2),
+    ("budget 5\nbutton 1 1 4294967296 x\n", 62, 2),
+    ("budget 5\nbutton 1 3 20\nbudget 5\n", 65, 3),
+    ("budget 5\nbutton 1 1 4294967295\n", 3, 0),
+    ("budget 5\nbutton 1 1 0\n", 3, 0),
+    ("budget 5\ntask 0 1 2 2\nbutton 1 3 60001\n", 3, 1),
+    ("budget 5\ntask 0 1 2 2\nbutton 9 3 2\n", 4, 1),
+    ("budget 5\ntask 0 1 2 2\nbutton 1 0 2\n", 4, 1),
+    ("budget 5\ntask 0 1 2 2\nbutton 3 2 4\n", 5, 1),
+    ("budget 5\nbutton 0 2 4\ntask 60001 1 2 2\n", 5, 0),
+    ("budget 5\nbutton 1 2 4\ntask 60001 1 2 2\n", 6, 1),
+    ("budget 5\ntask 0 1 4093 4093\nbutton 1 8779 8779\nbutton 1 27830 27830\n", 7, 0),
+    ("budget 0\nbutton x\n", 27, 1),
 ];
 
 pub fn by_the_letter(bench: &mut Bench) {
@@ -92,14 +127,24 @@ pub fn by_the_letter(bench: &mut Bench) {
     for text in ALSO_B {
         bench.ask_filled(Request::from_text(text.as_bytes().to_vec()), &file);
     }
+    let shutter = file_of(1_000, &[periodic(0, 2, 10, 10), button(1, 3, 20), periodic(0, 3, 20, 20)]);
+    bench.ask_filled(Request::to_text(shutter.clone()), SHUTTER.as_bytes());
+    for text in ALSO_SHUTTER {
+        bench.ask_filled(Request::from_text(text.as_bytes().to_vec()), &shutter);
+    }
     for &(text, number, place) in REFUSED {
         let request = Request::from_text(text.as_bytes().to_vec());
         refused_with(bench, Request { buffer: Vec::new(), ..request.clone() }, number, place);
         refused_with(bench, request, number, place);
     }
-    let most = format!("budget 5\n{}", "task 0 1 60 60\n".repeat(TASKS));
-    for more in ["task 0 1 60 60", "task x", "task"] {
-        refused_with(bench, Request::from_text(format!("{most}{more}").into_bytes()), 66, TASKS as u64 + 2);
+    for most in [
+        "task 0 1 60 60\n".repeat(TASKS),
+        "button 1 60 60\n".repeat(TASKS),
+        "button 1 60 60\ntask 0 1 60 60\n".repeat(TASKS / 2),
+    ] {
+        for more in ["task 0 1 60 60", "task x", "task", "button 1 60 60", "button x", "button"] {
+            refused_with(bench, Request::from_text(format!("budget 5\n{most}{more}").into_bytes()), 66, TASKS as u64 + 2);
+        }
     }
     bench.end_group("plain text by the letter");
 }
@@ -107,19 +152,23 @@ pub fn by_the_letter(bench: &mut Bench) {
 // One by one.
 
 fn every_byte(bench: &mut Bench) {
-    let text = b"budget 7\n\ttask 0 1 2 2 # a\r\n";
-    for place in 0..=text.len() {
-        for byte in 0..=255 {
-            let (before, behind) = text.split_at(place);
-            ask(bench, [before, &[byte], behind].concat());
-            ask(bench, [before, &[byte], &behind[behind.len().min(1)..]].concat());
+    for text in [&b"budget 7\n\ttask 0 1 2 2 # a\r\n"[..], b"budget 7\n\tbutton 1 2 2\n"] {
+        for place in 0..=text.len() {
+            for byte in 0..=255 {
+                let (before, behind) = text.split_at(place);
+                ask(bench, [before, &[byte], behind].concat());
+                ask(bench, [before, &[byte], &behind[behind.len().min(1)..]].concat());
+            }
         }
     }
 }
 
 fn every_cut(bench: &mut Bench, rng: &mut Rng) {
-    for tasks in [0, 1, 2, TASKS, TASKS + 1] {
-        let (budget, table) = (any_budget(rng), sized(rng, tasks));
+    for (tasks, buttons) in [0, 1, 2, TASKS, TASKS + 1].into_iter().flat_map(|tasks| [(tasks, false), (tasks, true)]) {
+        let (budget, mut table) = (any_budget(rng), sized(rng, tasks));
+        if buttons {
+            make_buttons(rng, &mut table);
+        }
         for text in [plain::text_of(budget, &table), dressed(rng, budget, &table)] {
             (0..=text.len()).for_each(|length| ask(bench, &text[..length]));
         }
@@ -137,7 +186,7 @@ fn every_line(bench: &mut Bench) {
     }
     for row in rows {
         for before in ["", "budget 5\n", &most] {
-            ["budget", "task"].iter().for_each(|first| ask(bench, format!("{before}{first}{row}\ny")));
+            ["budget", "task", "button"].iter().for_each(|first| ask(bench, format!("{before}{first}{row}\ny")));
         }
     }
 }
@@ -165,6 +214,12 @@ fn every_number(bench: &mut Bench) {
             ask(bench, format!("budget 1\ntask {}\ntask 0 1 1 1", words.join(" ")));
             ask(bench, format!("budget 1\ntask 0 1 1 1\ntask {}", words.join(" ")));
         }
+        for place in 0..3 {
+            let mut words = ["1"; 3];
+            words[place] = &word;
+            ask(bench, format!("budget 1\nbutton {}\ntask 0 1 1 1", words.join(" ")));
+            ask(bench, format!("budget 1\ntask 0 1 1 1\nbutton {}", words.join(" ")));
+        }
     }
 }
 
@@ -173,14 +228,24 @@ fn long_texts(bench: &mut Bench) {
     for lines in [65_532, 65_533, 65_534, 65_535, 65_536, 70_000] {
         for empty in ["\n", "#\r\n"] {
             let empty = empty.repeat(lines);
-            for end in ["", "budget", "budget 0", "budget 1\ntask 0 1 1 1", "budget 1\ntask", "task", "#"] {
+            for end in [
+                "",
+                "budget",
+                "budget 0",
+                "budget 1\ntask 0 1 1 1",
+                "budget 1\ntask",
+                "task",
+                "budget 1\nbutton",
+                "button",
+                "#",
+            ] {
                 ask(bench, format!("{empty}{end}"));
             }
             ask(bench, format!("budget 1\n{empty}task 0 1 1 1"));
             ask(bench, format!("budget 1\n{empty}task 0 1 1 x"));
         }
     }
-    for piece in [" ", "\t", "#", "\r", "\0", "b", "budget", " task", " 1", "0"] {
+    for piece in [" ", "\t", "#", "\r", "\0", "b", "budget", " task", " button", " 1", "0"] {
         let long = piece.repeat(70_000);
         ask(bench, format!("{long}budget 1\ntask 0 1 1 1"));
         ask(bench, format!("budget {long}1\ntask 0 1 1 1"));
@@ -200,7 +265,7 @@ pub fn one_by_one(bench: &mut Bench, rng: &mut Rng) {
 
 /// The longest text there is, into buffers that are a byte too short, just long enough, and a byte longer.
 fn longest(bench: &mut Bench) {
-    let table = [Task { offset: 60_000, cost: 60_000, deadline: 60_000, period: 60_000 }; TASKS];
+    let table = [periodic(60_000, 60_000, 60_000, 60_000); TASKS];
     let (file, text) = (file_of(u64::MAX, &table), plain::text_of(u64::MAX, &table));
     bench.count(text.len() == plain::LONGEST_TEXT, || format!("the longest text has {} bytes", text.len()));
     for length in plain::LONGEST_TEXT - 1..=plain::LONGEST_TEXT + 1 {
@@ -210,8 +275,11 @@ fn longest(bench: &mut Bench) {
 }
 
 pub fn buffers(bench: &mut Bench, rng: &mut Rng) {
-    for tasks in [0, 1, 2, TASKS - 1, TASKS, TASKS + 1] {
-        let (budget, table) = (good_budget(rng), sized(rng, tasks));
+    for tasks in [0, 1, 2, TASKS - 1, TASKS, TASKS + 1, TASKS + 1, TASKS, 2, 1] {
+        let (budget, mut table) = (good_budget(rng), sized(rng, tasks));
+        if rng.chance(50) {
+            make_buttons(rng, &mut table);
+        }
         let (file, text) = (file_of(budget, &table), plain::text_of(budget, &table));
         for length in (0..=text.len() + 5).chain([4_096, 65_535, 65_536, 70_000]) {
             let buffer: Vec<u8> = (0..length).map(|_| rng.next() as u8).collect();
@@ -254,7 +322,9 @@ fn dressed_line(rng: &mut Rng, first: &str, numbers: &[u64]) -> Vec<u8> {
 fn dressed(rng: &mut Rng, budget: u64, tasks: &[Task]) -> Vec<u8> {
     let mut lines = vec![dressed_line(rng, "budget", &[budget])];
     for task in tasks {
-        lines.push(dressed_line(rng, "task", &[task.offset, task.cost, task.deadline, task.period].map(u64::from)));
+        let numbers = [task.offset, task.cost, task.deadline, task.period].map(u64::from);
+        let (first, numbers) = if task.button { ("button", &numbers[1..]) } else { ("task", &numbers[..]) };
+        lines.push(dressed_line(rng, first, numbers));
     }
     let (mut text, returns) = (Vec::new(), rng.pick(&[0, 30, 100]));
     for line in lines {
@@ -337,8 +407,24 @@ pub fn damaged(bench: &mut Bench, rng: &mut Rng, count: u64) {
 
 /// Words and marks in any order, and bytes of any sort.
 pub fn junk(bench: &mut Bench, rng: &mut Rng, count: u64) {
-    let pieces =
-        ["budget 5\n", "budget", "task", " 0 1 2 2\n", " 1", " ", "\t", "\n", "\r\n", "\r", "#", "x", "4294967296", "60001"];
+    let pieces = [
+        "budget 5\n",
+        "budget",
+        "task",
+        "button",
+        " 0 1 2 2\n",
+        " 1 2 2\n",
+        " 1",
+        " ",
+        "\t",
+        "\n",
+        "\r\n",
+        "\r",
+        "#",
+        "x",
+        "4294967296",
+        "60001",
+    ];
     for turn in 0..count {
         let length = rng.below(40);
         match turn % 4 {

@@ -5,7 +5,7 @@ use crate::calls::Request;
 use crate::inputs::{file_of, rows_of};
 use crate::plain;
 use crate::program;
-use crate::reference::{self, Task, LONGEST_FILE, TASKS};
+use crate::reference::{self, button, periodic, Task, LONGEST_FILE, TASKS};
 use std::process::Command;
 
 const STACK_LIMIT: u64 = 16_384;
@@ -23,6 +23,8 @@ const HOST_RUNS: &[&[&str]] = &[
     &["tables/refused_21.table"],
     &["tables/refused_22_empty.table"],
     &["tables/too_long.table"],
+    &["tables/shutter.table"],
+    &["--anyway", "tables/buttons.table"],
     &["tables/b.table", "0"],
     &["tables/b.table", "abc"],
     &["tables/b.table", "4x"],
@@ -45,20 +47,24 @@ fn deepest(bench: &mut Bench, name: &str, requests: &[Request]) {
 }
 
 /// As many tasks as there can be, of the longest numbers: they pass, are late, are overloaded, or are refused at the end; no task; and tasks
-/// with a release in nearly every slot and at most two slots to spare, late after a look at each release.
-fn hard_tables() -> [Vec<Task>; 7] {
-    let passes = vec![Task { offset: 60_000, cost: 60_000 / TASKS as u32, deadline: 60_000, period: 60_000 }; TASKS];
+/// with a release in nearly every slot and at most two slots to spare, late after a look at each release; and buttons, behind one task
+/// that is the last to be first, and alone.
+fn hard_tables() -> [Vec<Task>; 9] {
+    let passes = vec![periodic(60_000, 60_000 / TASKS as u32, 60_000, 60_000); TASKS];
     let (mut late, mut long, mut bad) = (passes.clone(), passes.clone(), passes.clone());
     late.iter_mut().for_each(|task| (task.offset, task.deadline) = (0, 59_999));
-    long[TASKS - 2] = Task { offset: 0, cost: 1, deadline: 1, period: 59_957 };
-    long[TASKS - 1] = Task { offset: 0, cost: 1, deadline: 1, period: 59_999 };
+    long[TASKS - 2] = periodic(0, 1, 1, 59_957);
+    long[TASKS - 1] = periodic(0, 1, 1, 59_999);
     bad[TASKS - 1].offset = 60_001;
-    let whole = |period| Task { offset: 60_000, cost: period, deadline: period, period };
+    let whole = |period| periodic(60_000, period, period, period);
     let heavy = (0..TASKS as u32).map(|task| whole(31_622 + task % 2)).collect();
-    let ruler = |k: u32| Task { offset: (1 << (k - 1)) - 1, cost: 1, deadline: 1, period: 1 << k };
+    let ruler = |k: u32| periodic((1 << (k - 1)) - 1, 1, 1, 1 << k);
     let mut looked: Vec<Task> = (1..15).map(ruler).collect();
-    looked.push(Task { offset: 0, cost: 3, deadline: 49_151, period: 49_152 });
-    [passes, late, heavy, long, bad, Vec::new(), looked]
+    looked.push(periodic(0, 3, 49_151, 49_152));
+    let alone = vec![button(60_000 / TASKS as u32, 60_000, 60_000); TASKS];
+    let mut beside = alone.clone();
+    beside[TASKS - 1] = passes[0];
+    [passes, late, heavy, long, bad, Vec::new(), looked, alone, beside]
 }
 
 pub fn hard_files() -> Vec<Vec<u8>> {
@@ -90,7 +96,7 @@ pub fn stack(bench: &mut Bench) {
 /// The first and the last task of each hard table, and one that it has not. The tables that pass have costs that are known, as the
 /// reference would try too many: a full one, and one whose deadlines leave a slot less than there is.
 fn deepest_largest(bench: &mut Bench, files: &[Vec<u8>]) {
-    let light = Task { offset: 60_000, cost: 1, deadline: 59_999, period: 60_000 };
+    let light = periodic(60_000, 1, 59_999, 60_000);
     let asked = |file: &Vec<u8>| [0, TASKS as u32 - 1, u32::MAX].map(|task| Request::largest(file.clone(), task)).to_vec();
     let known = [
         (asked(&files[0]), u64::from(60_000 / TASKS as u32)),

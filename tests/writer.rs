@@ -4,11 +4,11 @@ use crate::bench::Bench;
 use crate::calls::Request;
 use crate::files::ask_rewritten;
 use crate::inputs::*;
-use crate::reference::{self, Task, TASKS};
+use crate::reference::{self, button, has_button, Task, TASKS};
 
 const BATCH: usize = 1_000;
-/// Kinds that no row of a task has.
-const OTHER_KINDS: [u32; 9] = [0, 1, 3, 4, 16, 2 + (1 << 8), 2 + (1 << 16), 2 + (1 << 24), 1 << 31];
+/// Kinds of no row, and a task's and a button's, which a row of the other sort may be changed to.
+const KINDS: [u32; 12] = [0, 1, 2, 3, 4, 5, 16, 2 + (1 << 8), 2 + (1 << 16), 4 + (1 << 8), 4 + (1 << 24), 1 << 31];
 
 fn ask_rows(bench: &mut Bench, rng: &mut Rng, words: &[u32]) {
     bench.ask(Request::write(words, any_budget(rng)));
@@ -20,11 +20,26 @@ fn other_kinds(bench: &mut Bench, rng: &mut Rng) {
         let mut words = rows_of(&sized(rng, rows));
         words[4] = rng.pick(&[words[4], 0]);
         for place in [0, 1, 2, TASKS - 1, TASKS, TASKS + 1, rows - 1].into_iter().filter(|&place| place < rows) {
-            for kind in OTHER_KINDS {
+            for kind in KINDS {
                 let mut one = words.clone();
                 one[5 * place] = kind;
                 ask_rows(bench, rng, &one);
                 one[5 * place..].fill(kind);
+                ask_rows(bench, rng, &one);
+            }
+        }
+    }
+}
+
+/// A button's row has a 0 where a task has its offset: with anything else there it is none, wherever it stands.
+fn buttons_with_offsets(bench: &mut Bench, rng: &mut Rng) {
+    for rows in [1, 2, TASKS, TASKS + 1] {
+        let words = rows_of(&vec![button(1, 9, 20); rows]);
+        ask_rows(bench, rng, &words);
+        for place in [0, rows / 2, rows - 1] {
+            for offset in [1, 2, 4, 60_000, 60_001, 1 << 8, 1 << 16, 1 << 31, u32::MAX] {
+                let mut one = words.clone();
+                one[5 * place + 1] = offset;
                 ask_rows(bench, rng, &one);
             }
         }
@@ -48,17 +63,23 @@ pub fn rows(bench: &mut Bench, rng: &mut Rng) {
         for count in 0..=words.len() {
             ask_rows(bench, rng, &words[..count]);
             ask_rows(bench, rng, &vec![2; count]);
+            ask_rows(bench, rng, &vec![4; count]);
             ask_rows(bench, rng, &vec![any; count]);
         }
     }
     other_kinds(bench, rng);
+    buttons_with_offsets(bench, rng);
     long_tables(bench, rng);
     bench.end_group("write on rows of every number and kind");
 }
 
 pub fn buffers(bench: &mut Bench, rng: &mut Rng) {
-    for tasks in [0, 1, 2, 3, TASKS - 1, TASKS, TASKS + 1] {
-        let (rows, needed) = (rows_of(&sized(rng, tasks)), 9 + 17 * tasks + 1);
+    for tasks in [0, 1, 2, 3, TASKS - 1, TASKS, TASKS + 1, TASKS + 1, TASKS, 2, 1] {
+        let mut table = sized(rng, tasks);
+        if rng.chance(50) {
+            make_buttons(rng, &mut table);
+        }
+        let (rows, needed) = (rows_of(&table), file_of(1, &table).len());
         for length in [0, needed - 1, needed] {
             bench.ask(Request { buffer: vec![0xE7; length], ..Request::write(&rows, 0) });
         }
@@ -79,7 +100,11 @@ fn trip(bench: &mut Bench, tables: &[(Vec<Task>, u64)]) {
         let read = reference::read_file(&file) == Ok((*budget, tasks.clone()));
         let good = reply.intact && read && (reply.result, reply.buffer) == reference::answer(request);
         bench.count(good, || format!("{tasks:?} with budget {budget} is written as {file:?}"));
-        bench.ask_knowing(Request::start(file.clone()), (0, reference::start(tasks).to_bytes()));
+        if has_button(tasks) {
+            bench.ask(Request::start(file.clone()));
+        } else {
+            bench.ask_knowing(Request::start(file.clone()), (0, reference::start(tasks).to_bytes()));
+        }
         if *budget < 100 {
             bench.ask(Request::check(file));
         }
@@ -89,7 +114,7 @@ fn trip(bench: &mut Bench, tables: &[(Vec<Task>, u64)]) {
 pub fn round_trips(bench: &mut Bench, rng: &mut Rng, count: u64) {
     let mut tables = Vec::new();
     for turn in 0..count as usize {
-        let tasks = if turn % 5 == 0 { near_border(rng) } else { sized(rng, 1 + turn % TASKS) };
+        let tasks = if turn % 5 == 0 { of_any_sort(rng) } else { sized(rng, 1 + turn % TASKS) };
         tables.push((tasks, good_budget(rng)));
         if tables.len() == BATCH {
             trip(bench, &std::mem::take(&mut tables));
@@ -120,7 +145,7 @@ pub fn spoilt(bench: &mut Bench, rng: &mut Rng, count: u64) {
         let mut words = rows_of(&tasks);
         if rng.chance(10) {
             let place = rng.below(words.len() as u64) as usize;
-            words[place] = rng.pick(&[0, 1, 2, 3, 60_001, u32::MAX]);
+            words[place] = rng.pick(&[0, 1, 2, 3, 4, 60_001, u32::MAX]);
         }
         if rng.chance(5) {
             words.truncate(rng.below(words.len() as u64) as usize);
