@@ -33,6 +33,7 @@ use Rattle.slots.specs.Laws.{Has, fill-has, closed-fill, member-is, slack-has, 
 use Rattle.wellformed.specs.Ranges.{Ranged}
 use Rattle.wellformed.specs.Admitted.{fitting}
 use Rattle.backlog.specs.Taken.{owner-one}
+use Rattle.dispatch.specs.declared.Moved.{Moved}
 use Rattle.dispatch.specs.Accounts.{counted, counted-fill}
 
 -- A step that nothing refuses.
@@ -43,6 +44,10 @@ taken t d done = record { given = Given.Slot (turn t d done); state = after t d 
 abbrev pub stepWellFormed : Table → State → Bool → Stepped
 stepWellFormed t d done = stepAdmitted t d done (admittedBy t d (Judgement.WellFormed (measure t)))
 
+-- These lists, of n tasks, are the table's.
+abbrev pub Unpacked : Table → List ℕ → List ℕ → List ℕ → List ℕ → ℕ → Type 0
+Unpacked t period cost slack rank n = (n ≡ t .count) × (record { period = period; cost = cost; slack = slack; rank = rank } ≡ columnsOf t)
+
 -- What a step that nothing refuses may assume; so it is of a state that is admitted and can count a slot more.
 pub record Unrefused (t : Table) (d : State) : Type 0 where
   pub ranged : Ranged t
@@ -52,6 +57,17 @@ pub record Unrefused (t : Table) (d : State) : Type 0 where
 pub unrefused : (t : Table) (d : State) → Ranged t → admittedBy t d (Judgement.WellFormed (measure t)) ≡ Admission.Admitted → slotCount t d < slotCountLimit → Unrefused t d
 unrefused t d r e l =
     record { ranged = r; ran = one-of-iff (d .last) taskLimit (t .count) .0 (fitting t d (measure t) e .ran); room = l }
+
+-- A state of these lists and counts.
+abbrev pub stateWith : List ℕ → List ℕ → ℕ → List ℕ → ℕ → State
+stateWith wait left last given empty = record { wait = wait; left = left; last = last; given = given; empty = empty }
+
+-- The lists are those that a step leaves, and the owner and the late set are its own.
+pub record Advanced (t : Table) (d : State) (done : Bool) (m : Moved) : Type 0 where
+  pub waits : m .wait ≡ after t d done .wait
+  pub lefts : m .left ≡ after t d done .left
+  pub owned : m .owner ≡ ownerNow t d done
+  pub lates : m .late ≡ bits (isLate t d done) taskLimit
 
 -- The answer of a step: how many bits the late set has, and its lowest.
 abbrev pub turnOf : ℕ → ℕ → Turn
@@ -116,41 +132,44 @@ module _ (t : Table) (d : State) (done : Bool) (unrefused : Unrefused t d) (whol
     lefts-are : left′ ≡ fill (t .count) (λ i. leftReleased t d done i - cond (eqb (ownerNow t d done) i) 1 0) (d .left)
     lefts-are = rw owner-is at (slot .lefts ∙ ap (fill (t .count) _) e ∙ fill-again (t .count) _ _ (d .left))
 
-    -- The owner is a task of the table or none, and its count has room for one slot more.
-    one : (seen .owner ≡ taskLimit) ⊎ (seen .owner < t .count)
-    one = rw owner-is (owner-one t d done (unrefused .ranged .few))
-
-    given-room : seen .owner < taskLimit → getD (d .given) (seen .owner) 0 < slotCountLimit
-    unfolding slotCount
-    given-room l = elim one [ inl e ↦ absurd (omega arith) | inr k ↦ omega (arith, unrefused .room, sum-member (t .count) (givenOf d) (seen .owner) k) ]
-
-    gives-are : counted (d .given) (seen .owner) ≡ fill (t .count) (λ i. givenOf d i + bit (eqb (ownerNow t d done) i)) (d .given)
-    gives-are = counted-fill (t .count) (d .given) (seen .owner) (unrefused .ranged .few) one ∙ rw owner-is
-
-    state-is : record { wait = wait′; left = left′; last = seen .owner; given = counted (d .given) (seen .owner); empty = d .empty + bit (eqb (seen .owner) taskLimit) } ≡ after t d done
-    unfolding after
-    state-is = rw (slot .waits, lefts-are, gives-are, owner-is)
-
-  -- The answer.
-  turn-is : {owner late : ℕ} → owner ≡ ownerNow t d done → late ≡ bits (isLate t d done) taskLimit → turnOf owner late ≡ turn t d done
-  unfolding turn
-  turn-is e q = rw (e, q, ones-bits, trailing-bits)
-
   -- All four, from the lists that the code makes, and the slot counted.
-  module _ {columns : Columns} {left left₂ wait′ left′ : List ℕ} {late : ℕ} {seen : Seen} (c : columns ≡ columnsOf t)
+  module _ {period cost slack rank : List ℕ} {n : ℕ} (c : Unpacked t period cost slack rank n) {left left₂ wait′ left′ : List ℕ} {late : ℕ} {seen : Seen}
       (a : left ≡ cond done (closed (d .left) (d .last)) (d .left))
-      (b : late ≡ bits (isLateIn (d .wait) left (columns .slack) (t .count)) taskLimit)
-      (e : left₂ ≡ closedAll left late (t .count))
-      (s : Served (d .wait) left₂ (columns .period) (columns .cost) (columns .slack) (columns .rank) (t .count) wait′ left′ seen) where
+      (b : late ≡ bits (isLateIn (d .wait) left slack n) taskLimit)
+      (e : left₂ ≡ closedAll left late n)
+      (s : Served (d .wait) left₂ period cost slack rank n wait′ left′ seen) where
+    slacks : slack ≡ columnsOf t .slack
+    slacks = ap (λ (x : Columns). x .slack) (c .1)
+
     late-are : late ≡ bits (isLate t d done) taskLimit
-    late-are = late-bits (done-fill a) (rw c at b)
+    late-are = late-bits (done-fill a) (rw (slacks, c .0) at b)
 
     lefts-left : left₂ ≡ fill (t .count) (leftLate t d done) (d .left)
-    lefts-left = late-fill (done-fill a) late-are e
+    lefts-left = late-fill (done-fill a) late-are (rw (c .0) at e)
 
-    pub owner-room : seen .owner < taskLimit → getD (d .given) (seen .owner) 0 < slotCountLimit
-    owner-room = given-room lefts-left (rw c at s)
+    serving : Served (d .wait) left₂ (columnsOf t .period) (columnsOf t .cost) (columnsOf t .slack) (columnsOf t .rank) (t .count) wait′ left′ seen
+    serving = rw (ap (λ (x : Columns). x .period) (c .1), ap (λ (x : Columns). x .cost) (c .1), slacks, ap (λ (x : Columns). x .rank) (c .1), c .0) at s
 
-    pub taken-is : {answer : Turn} {given : List ℕ} {empty : ℕ} → given ≡ counted (d .given) (seen .owner) → answer ≡ turnOf (seen .owner) late → empty ≡ d .empty + bit (eqb (seen .owner) taskLimit)
-        → record { given = Given.Slot answer; state = record { wait = wait′; left = left′; last = seen .owner; given = given; empty = empty } } ≡ taken t d done
-    taken-is g w h = rw (w, g, h, turn-is (owner-is lefts-left (rw c at s)) late-are, state-is lefts-left (rw c at s))
+    pub advanced-is : Advanced t d done (record { wait = wait′; left = left′; owner = seen .owner; late = late })
+    unfolding after
+    advanced-is = record { waits = slot lefts-left serving .waits; lefts = lefts-are lefts-left serving; owned = owner-is lefts-left serving; lates = late-are }
+
+-- And the slot counted: the owner is a task of the table or none, and its count has room for one slot more.
+module _ (t : Table) (d : State) (done : Bool) (unrefused : Unrefused t d) (m : Moved) (a : Advanced t d done m) where
+  one : (m .owner ≡ taskLimit) ⊎ (m .owner < t .count)
+  one = rw (a .owned) (owner-one t d done (unrefused .ranged .few))
+
+  pub owner-room : m .owner < taskLimit → getD (d .given) (m .owner) 0 < slotCountLimit
+  unfolding slotCount
+  owner-room l = elim one [ inl e ↦ absurd (omega arith) | inr k ↦ omega (arith, unrefused .room, sum-member (t .count) (givenOf d) (m .owner) k) ]
+
+  pub state-is : {given : List ℕ} {empty : ℕ} → given ≡ counted (d .given) (m .owner) → empty ≡ d .empty + bit (eqb (m .owner) taskLimit) → stateWith (m .wait) (m .left) (m .owner) given empty ≡ after t d done
+  unfolding after
+  state-is g h =
+      let gives : counted (d .given) (m .owner) ≡ fill (t .count) (λ i. givenOf d i + bit (eqb (ownerNow t d done) i)) (d .given) = counted-fill (t .count) (d .given) (m .owner) (unrefused .ranged .few) one ∙ rw (a .owned) in
+      rw (g, h, gives, a .waits, a .lefts, a .owned)
+
+  pub taken-is : {answer : Turn} {given : List ℕ} {empty : ℕ} → given ≡ counted (d .given) (m .owner) → answer ≡ turnOf (m .owner) (m .late) → empty ≡ d .empty + bit (eqb (m .owner) taskLimit)
+      → record { given = Given.Slot answer; state = stateWith (m .wait) (m .left) (m .owner) given empty } ≡ taken t d done
+  unfolding turn
+  taken-is g w h = rw (w, state-is g h, a .owned, a .lates, ones-bits, trailing-bits)

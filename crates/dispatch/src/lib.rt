@@ -1,9 +1,11 @@
 // The dispatcher: a start on any table, and a step on any table and any state.
 ghost use mathlib.Core.Path.{_≡_};
 ghost use mathlib.Core.Bool.{cond, not, _||_};
-ghost use Prim.Native.Nat.{_+_, _-_, max, _≤_, _<_};
+ghost use mathlib.Core.List.{List};
+ghost use Prim.Native.Nat.{ℕ, _+_, _-_, max, _≤_, _<_};
 ghost use lib.Dec.{ltb, eqb};
 ghost use lib.ListN.{getD};
+ghost use Rattle.values.specs.declared.Table.{Table};
 ghost use Rattle.model.specs.Limits.{taskLimit, slotCountLimit};
 ghost use Rattle.model.specs.Notation.{bit};
 ghost use Rattle.model.specs.Values.{refusal};
@@ -14,9 +16,10 @@ ghost use Rattle.slots.specs.Slot.{closed};
 ghost use Rattle.dispatch.specs.State.{stateOf, startedOf, steppedOf};
 ghost use Rattle.dispatch.specs.Strange.{strangeAt};
 ghost use Rattle.dispatch.specs.Accounts.{roomFor, belonging, counted};
-ghost use Rattle.dispatch.specs.Step.{Unrefused, taken, stepWellFormed, turnOf};
+ghost use Rattle.dispatch.specs.Step.{Unpacked, Unrefused, stateWith, Advanced, taken, stepWellFormed, turnOf};
 use slots::NO_TASK;
 use slots::Numbers;
+use slots::Ranks;
 use values::Admission;
 use values::Given;
 use values::Judgement;
@@ -120,7 +123,7 @@ fn step_well_formed(d: Dispatcher, t: Table, done: bool) -> Stepped
 }
 
 // The places of 8, in their order.
-fn belonging(d: Dispatcher, t: Table) -> Room
+pub fn belonging(d: Dispatcher, t: Table) -> Room
     requires { ⌜ t .count ≤ taskLimit ⌝ }
     ensures { λ r. ⌜ r ≡ belonging t (stateOf d) ⌝ }
 {
@@ -217,34 +220,40 @@ fn step_admitted(d: Dispatcher, t: Table, room: u64, done: bool) -> Stepped
             },
         );
     }
-    step_taken(d, t, done)
-}
-
-// The four rules of a step that nothing refuses, and the slot counted.
-fn step_taken(d: Dispatcher, t: Table, done: bool) -> Stepped
-    requires { ⌜ Unrefused t (stateOf d) ⌝ }
-    ensures { λ r. ⌜ steppedOf r ≡ taken t (stateOf d) done ⌝ }
-{
-    let n = t.count;
     let columns = slots::unpack(t);
     let period = columns.period;
     let cost = columns.cost;
     let slack = columns.slack;
     let rank = columns.rank;
-    let mut wait = d.wait;
+    step_taken(d, &period, &cost, &slack, &rank, t.count, done)
+}
+
+// The four rules of a step that nothing refuses, on a table that is unpacked, and the slot counted.
+fn step_taken(
+    d: Dispatcher,
+    period: &Numbers,
+    cost: &Numbers,
+    slack: &Numbers,
+    rank: &Ranks,
+    n: usize,
+    done: bool,
+) -> Stepped
+    requires { ⌜ ((t : Table) × Unpacked t (now period) (now cost) (now slack) (now rank) n × Unrefused t (stateOf d)) ⌝ }
+    ensures { λ r. ⌜ ((t : Table) → Unpacked t (now (period .entry)) (now (cost .entry)) (now (slack .entry)) (now (rank .entry)) n → Unrefused t (stateOf d) → steppedOf r ≡ taken t (stateOf d) done) ⌝ }
+{
+    let wait = d.wait;
     let left = d.left;
     let mut given = d.given;
-    let mut open = after_report(left, d.last, done);
-    let late = slots::late_set(&wait, &open, &slack, n);
-    slots::close_all(&mut open, late, n);
-    let seen = slots::serve(&mut wait, &mut open, &period, &cost, &slack, &rank, n);
-    let owner = seen.owner;
+    let moved = advance(wait, left, d.last, period, cost, slack, rank, n, done);
+    let owner = moved.owner;
+    let wait = moved.wait;
+    let left = moved.left;
     count_given(&mut given, owner);
     Stepped {
-        given: Given::Slot(turn_of(owner, late)),
+        given: Given::Slot(turn_of(owner, moved.late)),
         next: Dispatcher {
             wait,
-            left: open,
+            left,
             last: owner,
             given,
             empty: count_empty(d.empty, owner),
@@ -252,8 +261,44 @@ fn step_taken(d: Dispatcher, t: Table, done: bool) -> Stepped
     }
 }
 
+// The lists after a slot, the slot's owner, and the tasks that were closed late.
+pub struct Moved {
+    pub wait: Numbers,
+    pub left: Numbers,
+    pub owner: u32,
+    pub late: u32,
+}
+
+// The four rules on the lists alone: what is counted plays no part in them.
+pub fn advance(
+    wait: Numbers,
+    left: Numbers,
+    last: u32,
+    period: &Numbers,
+    cost: &Numbers,
+    slack: &Numbers,
+    rank: &Ranks,
+    n: usize,
+    done: bool,
+) -> Moved
+    requires { ⌜ ((t : Table) × (given : List ℕ) × (empty : ℕ) × Unpacked t (now period) (now cost) (now slack) (now rank) n × Unrefused t (stateWith wait left last given empty)) ⌝ }
+    ensures { λ r. ⌜ ((t : Table) (given : List ℕ) (empty : ℕ) → Unpacked t (now (period .entry)) (now (cost .entry)) (now (slack .entry)) (now (rank .entry)) n → Unrefused t (stateWith wait left last given empty) → Advanced t (stateWith wait left last given empty) done r) ⌝ }
+{
+    let mut next = wait;
+    let mut open = after_report(left, last, done);
+    let late = slots::late_set(&next, &open, slack, n);
+    slots::close_all(&mut open, late, n);
+    let seen = slots::serve(&mut next, &mut open, period, cost, slack, rank, n);
+    Moved {
+        wait: next,
+        left: open,
+        owner: seen.owner,
+        late,
+    }
+}
+
 // The slot is counted as its owner's, or as empty.
-fn count_given(given: &mut Counts, owner: u32)
+pub fn count_given(given: &mut Counts, owner: u32)
     requires { ⌜ (owner < taskLimit → getD (now given) owner 0 < slotCountLimit) ⌝ }
     ensures { λ _. ⌜ now (given .exit) ≡ counted (now (given .entry)) owner ⌝ }
 {
@@ -263,7 +308,7 @@ fn count_given(given: &mut Counts, owner: u32)
     }
 }
 
-fn count_empty(empty: u64, owner: u32) -> u64
+pub fn count_empty(empty: u64, owner: u32) -> u64
     requires { ⌜ empty < slotCountLimit ⌝ }
     ensures { λ r. ⌜ r ≡ empty + bit (eqb owner taskLimit) ⌝ }
 {

@@ -19,5 +19,9 @@ pub mod Writer
 pub mod PlainText
 pub mod Easing
 pub mod Largest
+pub mod Log
+pub mod LogMeaning
+pub mod LogBuffer
 pub mod Examples
 pub mod ButtonExamples
+pub mod LogExamples

@@ -47,3 +47,10 @@ slotCountLimit = 18446744073709551615
 
 abbrev pub sumPlace : ℕ
 sumPlace = taskLimit + 1
+
+-- The bytes of a camera's log, 2^32 - 1 (T-14); the place at which 8 refuses a log whose counts are wrong.
+abbrev pub logLimit : ℕ
+logLimit = 4294967295
+
+abbrev pub countPlace : ℕ
+countPlace = taskLimit + 2

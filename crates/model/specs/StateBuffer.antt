@@ -54,19 +54,20 @@ abbrev pub stepWritten : List ℕ → State → Given → Exported
 stepWritten buffer d (Given.Refused r) = refused r buffer
 stepWritten buffer d (Given.Slot u) = record { number = u .owner; buffer = bufferOf d u }
 
--- The order of the refusals: 50 for a buffer of another length, at its length or the largest place; the file's form; the table; the state.
-abbrev pub onFile : List ℕ → List ℕ → (Table → Exported) → Exported
-onFile file buffer go =
+-- The order of the refusals: 50 for a buffer that has not this many bytes, at its length or the largest place; the file's form; the table; the
+-- state.
+abbrev pub onFile : ℕ → List ℕ → List ℕ → (Table → Exported) → Exported
+onFile bytes file buffer go =
     let unfit = Admission.Refused (refusal 50 (min (length buffer) 65535)) in
-    let admission = cond (eqb (length buffer) stateBytes) (formOf file .admission) unfit in
+    let admission = cond (eqb (length buffer) bytes) (formOf file .admission) unfit in
     elim admission [ Admission.Refused r ↦ refused r buffer | Admission.Admitted ↦ go (formOf file .table) ]
 
 -- The one permitted result of each on any file and any buffer; a done report is any number but 0.
 abbrev pub startExported : List ℕ → List ℕ → Exported
-startExported file buffer = onFile file buffer (λ t. startWritten buffer (started t .state) (started t .admission))
+startExported file buffer = onFile stateBytes file buffer (λ t. startWritten buffer (started t .state) (started t .admission))
 
 abbrev pub stepExported : List ℕ → List ℕ → ℕ → Exported
-stepExported file buffer done = onFile file buffer (λ t. let s = stepped t (stateIn buffer) (not (eqb done 0)) in stepWritten buffer (s .state) (s .given))
+stepExported file buffer done = onFile stateBytes file buffer (λ t. let s = stepped t (stateIn buffer) (not (eqb done 0)) in stepWritten buffer (s .state) (s .given))
 
 -- A camera's loop: a start in a lent buffer, and then steps in it. The buffer that step n is handed; `done n` is what it is told.
 unfoldable pub handed : List ℕ → List ℕ → (ℕ → ℕ) → ℕ → List ℕ

@@ -19,6 +19,7 @@ pub use Rattle.values.specs.declared.Writing.{Writing}
 pub use Rattle.values.specs.declared.Line.{Line}
 pub use Rattle.values.specs.declared.Turn.{Turn}
 pub use Rattle.values.specs.declared.Given.{Given}
+pub use Rattle.values.specs.declared.Finding.{Finding}
 
 -- A verdict: its number in document 01's order, and the interval and demand of a late one.
 abbrev pub verdictSaid : Verdict → List ℕ
@@ -76,3 +77,10 @@ costSaid LargestCost.Overload = 1 ∷ []
 costSaid LargestCost.Undecided = 2 ∷ []
 costSaid LargestCost.Late = 3 ∷ []
 costSaid (LargestCost.Cost c) = 0 ∷ c ∷ []
+
+-- Of a log: 0 for nothing found yet, 1 for good, 2 with the slot that differs, or a fault's number, from 40 on, with the place of its byte.
+abbrev pub findingSaid : Finding → List ℕ
+findingSaid Finding.Nothing = 0 ∷ []
+findingSaid Finding.Good = 1 ∷ []
+findingSaid (Finding.Differs slot) = 2 ∷ slot ∷ []
+findingSaid (Finding.Fault n p) = n ∷ p ∷ []

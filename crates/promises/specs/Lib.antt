@@ -14,3 +14,4 @@ pub mod Easing
 pub mod Largest
 pub mod Engines
 pub mod Ties
+pub mod Logs

@@ -55,7 +55,7 @@ module _ (t : Table) (r : Ranged t) (done : ℕ → Bool) where
     | no l ↦ omega (arith, past-none t done n i (omega arith) .2)
   ]
 
-  fits : (n : ℕ) → n ≤ slotCountLimit → Fits (stateAt t done n)
+  pub fits : (n : ℕ) → n ≤ slotCountLimit → Fits (stateAt t done n)
   fits n h = record {
     waits = sound t r done n .belongs .waits;
     lefts = sound t r done n .belongs .lefts;
@@ -68,8 +68,8 @@ module _ (t : Table) (r : Ranged t) (done : ℕ → Bool) where
   }
 
 -- A file whose form is good and a buffer of the right length lead to the table.
-on-table : (file buffer : List ℕ) (t : Table) (go : Table → Exported) → formOf file .admission ≡ Admission.Admitted → formOf file .table ≡ t → length buffer ≡ stateBytes → onFile file buffer go ≡ go t
-on-table file buffer t go formed held size = rw (eq-eqb (length buffer) stateBytes size, formed, held, onFile)
+pub on-table : (bytes : ℕ) (file buffer : List ℕ) (t : Table) (go : Table → Exported) → formOf file .admission ≡ Admission.Admitted → formOf file .table ≡ t → length buffer ≡ bytes → onFile bytes file buffer go ≡ go t
+on-table bytes file buffer t go formed held size = rw (eq-eqb (length buffer) bytes size, formed, held, onFile)
 
 module _ (file : List ℕ) (t : Table) (m : Measure) (formed : formOf file .admission ≡ Admission.Admitted) (held : formOf file .table ≡ t) (well : judged t ≡ Judgement.WellFormed m) (lent : List ℕ) (size : length lent ≡ stateBytes) (done : ℕ → ℕ) where
   r : Ranged t
@@ -81,14 +81,14 @@ module _ (file : List ℕ) (t : Table) (m : Measure) (formed : formOf file .admi
 
   pub starts : startExported file lent ≡ record { number = 0; buffer = bufferOf (stateAt t reports 0) quiet }
   unfolding started stateAt
-  starts = on-table file lent t (λ k. startWritten lent (started k .state) (started k .admission)) formed held size ∙ rw well refl
+  starts = on-table stateBytes file lent t (λ k. startWritten lent (started k .state) (started k .admission)) formed held size ∙ rw well refl
 
   abbrev told : ℕ → Turn
   told n = turn t (stateAt t reports n) (reports n)
 
   stepped-in : (n : ℕ) → n < slotCountLimit → (buffer : List ℕ) (u : Turn) → buffer ≡ bufferOf (stateAt t reports n) u → stepExported file buffer (done n) ≡ record { number = told n .owner; buffer = bufferOf (stateAt t reports (suc n)) (told n) }
   stepped-in n h buffer u e =
-      on-table file buffer t (λ k. let s = stepped k (stateIn buffer) (reports n) in stepWritten buffer (s .state) (s .given)) formed held (ap length e ∙ buffer-size _ u (fits t r reports n (omega arith)))
+      on-table stateBytes file buffer t (λ k. let s = stepped k (stateIn buffer) (reports n) in stepWritten buffer (s .state) (s .given)) formed held (ap length e ∙ buffer-size _ u (fits t r reports n (omega arith)))
       ∙ rw (e, state-back _ u (fits t r reports n (omega arith)), never-refused t m well reports n h)
 
   holds : (n : ℕ) → n ≤ slotCountLimit → (u : Turn) × (handed file lent done n ≡ bufferOf (stateAt t reports n) u)

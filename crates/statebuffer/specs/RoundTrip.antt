@@ -1,7 +1,7 @@
 -- What was written into a state buffer is what is read from it.
 use mathlib.Core.Path.{_≡_, refl, sym, _∙_}
 use mathlib.Core.List.{List, [], _∷_, _++_}
-use Prim.Native.Nat.{ℕ, zero, suc, _+_, _*_, _/_, _%_, _<_}
+use Prim.Native.Nat.{ℕ, zero, suc, _+_, _*_, _/_, _%_, _≤_, _<_}
 use native.Mathlib.Omega.{arith}
 use lib.ListN.{length, getD, replicate, length-append, length-replicate, List·getD-append}
 use lib.Seq.{ext-getD, getD-append-add}
@@ -11,10 +11,10 @@ use Rattle.model.specs.Notation.{fill}
 use Rattle.model.specs.TableFile.{four, eight, wordBytes, twoWords, bytesOf}
 use Rattle.model.specs.Dispatcher.{State}
 use Rattle.model.specs.StateBuffer.{countsAt, stateBytes, halves, bufferOf, wordsIn, countsIn, stateIn}
-use Rattle.counting.specs.Fill.{fill-length, fill-passed}
+use Rattle.counting.specs.Fill.{fill-eq, fill-length, fill-passed}
 use Rattle.words.specs.Word.{word-back}
-use Rattle.words.specs.Bytes.{bytes-append, bytes-length}
-use Rattle.statebuffer.specs.Words.{halves-length}
+use Rattle.words.specs.Bytes.{bytes-append}
+use Rattle.statebuffer.specs.Words.{halves-length, buffer-length}
 
 -- Behind a word the next one is read four bytes further on.
 behind : (a b c d : ℕ) (s : List ℕ) (at : ℕ) → getD (a ∷ b ∷ c ∷ d ∷ s) (4 + at) 0 ≡ getD s at 0
@@ -28,7 +28,7 @@ four-behind x s at =
     rw (one, two, three, behind _ _ _ _ s at, behind _ _ _ _ s (at + 1), behind _ _ _ _ s (at + 2), behind _ _ _ _ s (at + 3))
 
 -- Each word of a list is read where it was written.
-word-at : (w : List ℕ) (i : ℕ) → i < length w → getD w i 0 < wordLimit → four (bytesOf w) (4 * i) ≡ getD w i 0
+pub word-at : (w : List ℕ) (i : ℕ) → i < length w → getD w i 0 < wordLimit → four (bytesOf w) (4 * i) ≡ getD w i 0
 unfolding bytesOf
 word-at [] i l h = absurd (omega arith)
 word-at (x ∷ w) zero l h = word-back x h
@@ -152,4 +152,21 @@ module _ (d : State) (u : Turn) (fits : Fits d) where
           (given-word (2 * i) (omega arith) ∙ h .0) (rw next (given-word (2 * i + 1) (omega arith) ∙ h .1))
 
   pub buffer-size : length (bufferOf d u) ≡ stateBytes
-  buffer-size = rw (as-words d u) (omega (arith, bytes-length (words d u), size))
+  buffer-size = buffer-length d u (fits .waits) (fits .lefts) (fits .gives)
+
+-- A state at the front of a buffer is read from there alone.
+four-front : (a b : List ℕ) (at : ℕ) → at + 4 ≤ length a → four (a ++ b) at ≡ four a at
+four-front a b at h = rw (List·getD-append a b 0 at (omega arith), List·getD-append a b 0 (at + 1) (omega arith), List·getD-append a b 0 (at + 2) (omega arith), List·getD-append a b 0 (at + 3) (omega arith))
+
+eight-front : (a b : List ℕ) (at : ℕ) → at + 8 ≤ length a → eight (a ++ b) at ≡ eight a at
+eight-front a b at h = let low = four-front a b at (omega arith) in let high = four-front a b (at + 4) (omega arith) in omega arith
+
+pub state-front : (a b : List ℕ) → length a ≡ stateBytes → stateIn (a ++ b) ≡ stateIn a
+unfolding stateIn
+state-front a b size =
+    let wait : wordsIn (a ++ b) 0 ≡ wordsIn a 0 = fill-eq taskLimit _ _ (replicate taskLimit 0) (λ i l. four-front a b (0 + 4 * i) (omega arith)) in
+    let left : wordsIn (a ++ b) (4 * taskLimit) ≡ wordsIn a (4 * taskLimit) = fill-eq taskLimit _ _ (replicate taskLimit 0) (λ i l. four-front a b (4 * taskLimit + 4 * i) (omega arith)) in
+    let last : four (a ++ b) (8 * taskLimit) ≡ four a (8 * taskLimit) = four-front a b (8 * taskLimit) (omega arith) in
+    let given : countsIn (a ++ b) countsAt ≡ countsIn a countsAt = fill-eq taskLimit _ _ (replicate taskLimit 0) (λ i l. eight-front a b (countsAt + 8 * i) (omega arith)) in
+    let empty : eight (a ++ b) (countsAt + 8 * taskLimit) ≡ eight a (countsAt + 8 * taskLimit) = eight-front a b (countsAt + 8 * taskLimit) (omega arith) in
+    rw (wait, left, last, given, empty)

@@ -39,13 +39,13 @@ abbrev TakenStep : Table → Exported → Type 0
 TakenStep t e = (e .number ≤ taskLimit) × ((e .number ≡ taskLimit) ⊎ (e .number < t .count))
 
 -- The buffer and the form are looked at first.
-module _ (Taken : Exported → Type 0) (file buffer : List ℕ) (go : Table → Exported) (h : Apart Taken buffer (go (formOf file .table))) where
+module _ (Taken : Exported → Type 0) (bytes : ℕ) (file buffer : List ℕ) (go : Table → Exported) (h : Apart Taken buffer (go (formOf file .table))) where
   admission-apart : (a : Admission) → AdmissionTellable a → Apart Taken buffer (elim a [ Admission.Refused r ↦ refused r buffer | Admission.Admitted ↦ go (formOf file .table) ])
   admission-apart (Admission.Refused r) n = inr (r, refl, n)
   admission-apart Admission.Admitted n = h
 
-  file-apart : Apart Taken buffer (onFile file buffer go)
-  file-apart = admission-apart (cond (eqb (length buffer) stateBytes) (formOf file .admission) strange) (tellable (eqb (length buffer) stateBytes))
+  pub file-apart : Apart Taken buffer (onFile bytes file buffer go)
+  file-apart = admission-apart (cond (eqb (length buffer) bytes) (formOf file .admission) strange) (tellable (eqb (length buffer) bytes))
     where
       strange : Admission
       strange = Admission.Refused (record { number = 50; place = min (length buffer) 65535 })
@@ -56,7 +56,7 @@ module _ (Taken : Exported → Type 0) (file buffer : List ℕ) (go : Table → 
 
 pub start-apart : (file buffer : List ℕ) → Apart TakenStart buffer (startExported file buffer)
 unfolding started
-start-apart file buffer = file-apart TakenStart file buffer (λ t. startWritten buffer (started t .state) (started t .admission)) (by (formOf file .table) (judged (formOf file .table)) (judged-tellable (formOf file .table)))
+start-apart file buffer = file-apart TakenStart stateBytes file buffer (λ t. startWritten buffer (started t .state) (started t .admission)) (by (formOf file .table) (judged (formOf file .table)) (judged-tellable (formOf file .table)))
   where
     by : (t : Table) (j : Judgement) → JudgementTellable j → let s = startJudged t j in Apart TakenStart buffer (startWritten buffer (s .state) (s .admission))
     by t (Judgement.Refused r) n = inr (r, refl, n)
@@ -72,7 +72,7 @@ owner-range t d done few = go (owner-one t d done few)
     go (inr l) = (omega arith, inr l)
 
 -- The refusal of a state is tellable.
-admitted-tellable : (t : Table) (d : State) → AdmissionTellable (admitted t d)
+pub admitted-tellable : (t : Table) (d : State) → AdmissionTellable (admitted t d)
 unfolding admitted
 admitted-tellable t d = by (judged t) refl (judged-tellable t)
   where
@@ -90,7 +90,7 @@ pub step-apart : (file buffer : List ℕ) (done : ℕ) → Apart (TakenStep (for
 unfolding stepped
 step-apart file buffer done =
     let t = formOf file .table in
-    file-apart (TakenStep t) file buffer (λ t. let s = stepped t (stateIn buffer) (not (eqb done 0)) in stepWritten buffer (s .state) (s .given)) (by t (stateIn buffer) (not (eqb done 0)) (admitted t (stateIn buffer)) refl (admitted-tellable t (stateIn buffer)))
+    file-apart (TakenStep t) stateBytes file buffer (λ t. let s = stepped t (stateIn buffer) (not (eqb done 0)) in stepWritten buffer (s .state) (s .given)) (by t (stateIn buffer) (not (eqb done 0)) (admitted t (stateIn buffer)) refl (admitted-tellable t (stateIn buffer)))
   where
     by : (t : Table) (d : State) (report : Bool) (a : Admission) → admitted t d ≡ a → AdmissionTellable a → let s = stepAdmitted t d report a in Apart (TakenStep t) buffer (stepWritten buffer (s .state) (s .given))
     by t d report (Admission.Refused r) e n = inr (r, refl, n)

@@ -39,12 +39,14 @@ pub one-count : (w : List ℕ) (i : ℕ) {before between after : List ℕ} {at m
 one-count w i h p q =
     rw (add-one i, take-suc w i 0, halves-append (take i w) (getD w i 0 ∷ []), one-half (getD w i 0), bytes-append (halves (take i w)) (twoWords (getD w i 0))) (join p q)
 
--- The parts of a state, put one after another.
-pub written-whole : (d : State) (u : Turn) {b₀ b₁ b₂ b₃ b₄ b₅ b₆ b₇ b₈ : List ℕ} {a₁ a₂ a₃ a₄ a₅ a₆ a₇ a₈ : ℕ} → length b₀ ≡ stateBytes → length (d .wait) ≡ taskLimit → length (d .left) ≡ taskLimit → length (d .given) ≡ taskLimit
-    → Put (bytesOf (d .wait)) 0 b₀ b₁ a₁ → Put (bytesOf (d .left)) a₁ b₁ b₂ a₂
-    → Put (wordBytes (d .last)) a₂ b₂ b₃ a₃ → Put (wordBytes (u .late)) a₃ b₃ b₄ a₄ → Put (wordBytes (u .closed)) a₄ b₄ b₅ a₅ → Put (wordBytes (u .lowest)) a₅ b₅ b₆ a₆
-    → Put (bytesOf (halves (d .given))) a₆ b₆ b₇ a₇ → Put (bytesOf (twoWords (d .empty))) a₇ b₇ b₈ a₈ → b₈ ≡ bufferOf d u
+-- A state whose lists have their length, in bytes.
+pub buffer-length : (d : State) (u : Turn) → length (d .wait) ≡ taskLimit → length (d .left) ≡ taskLimit → length (d .given) ≡ taskLimit → length (bufferOf d u) ≡ stateBytes
 unfolding bufferOf bytesOf
-written-whole d u size waits lefts gives wait left last late closed lowest given empty =
-    whole (join (join (join (join wait left) (join last (join late (join closed lowest)))) given) empty)
-    (simp length-append (omega (arith, bytes-length (d .wait), bytes-length (d .left), bytes-length (halves (d .given)), halves-length (d .given))))
+buffer-length d u waits lefts gives = simp length-append (omega (arith, bytes-length (d .wait), bytes-length (d .left), bytes-length (halves (d .given)), halves-length (d .given)))
+
+-- The parts of a state, put one after another.
+pub state-put : (d : State) (u : Turn) {b₀ b₁ b₂ b₃ b₄ b₅ b₆ b₇ b₈ : List ℕ} {a₁ a₂ a₃ a₄ a₅ a₆ a₇ a₈ : ℕ} → Put (bytesOf (d .wait)) 0 b₀ b₁ a₁ → Put (bytesOf (d .left)) a₁ b₁ b₂ a₂
+    → Put (wordBytes (d .last)) a₂ b₂ b₃ a₃ → Put (wordBytes (u .late)) a₃ b₃ b₄ a₄ → Put (wordBytes (u .closed)) a₄ b₄ b₅ a₅ → Put (wordBytes (u .lowest)) a₅ b₅ b₆ a₆
+    → Put (bytesOf (halves (d .given))) a₆ b₆ b₇ a₇ → Put (bytesOf (twoWords (d .empty))) a₇ b₇ b₈ a₈ → Put (bufferOf d u) 0 b₀ b₈ a₈
+unfolding bufferOf bytesOf
+state-put d u wait left last late closed lowest given empty = join (join (join (join wait left) (join last (join late (join closed lowest)))) given) empty

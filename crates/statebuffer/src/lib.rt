@@ -24,8 +24,9 @@ const COUNTS_AT: usize = LAST_AT + 4 * WORD_BYTES;
 
 const EMPTY_AT: usize = COUNTS_AT + TASK_LIMIT * COUNT_BYTES;
 
+// The state at the front of a buffer.
 pub fn state_in(buffer: &[u8]) -> Dispatcher
-    requires { ⌜ length (now buffer) ≡ stateBytes ⌝ }
+    requires { ⌜ stateBytes ≤ length (now buffer) ⌝ }
     ensures { λ r. ⌜ stateOf r ≡ stateIn (now (buffer .entry)) ⌝ }
 {
     let wait = words_in(buffer, 0);
@@ -66,6 +67,15 @@ pub fn write_state(buffer: &mut [u8], d: Dispatcher, turn: Turn)
     requires { ⌜ length (now buffer) ≡ stateBytes ⌝ }
     ensures { λ r. ⌜ now (buffer .exit) ≡ bufferOf (stateOf d) turn ⌝ }
 {
+    put_state(buffer, d, turn);
+}
+
+// A state at the front of a buffer; what stands behind it stays.
+pub fn put_state(buffer: &mut [u8], d: Dispatcher, turn: Turn) -> usize
+    requires { ⌜ stateBytes ≤ length (now buffer) ⌝ }
+    ensures { λ r. ⌜ Put (bufferOf (stateOf d) turn) 0 (now (buffer .entry)) (now (buffer .exit)) r ⌝ }
+    ensures { λ r. ⌜ r ≡ stateBytes ⌝ }
+{
     let wait = d.wait;
     let left = d.left;
     let given = d.given;
@@ -76,7 +86,7 @@ pub fn write_state(buffer: &mut [u8], d: Dispatcher, turn: Turn)
     let at = words::put_word(buffer, at, turn.closed);
     let at = words::put_word(buffer, at, turn.lowest);
     let at = put_counts(buffer, at, given);
-    words::put_long(buffer, at, d.empty);
+    words::put_long(buffer, at, d.empty)
 }
 
 fn put_words(buffer: &mut [u8], at: usize, words: Numbers) -> usize

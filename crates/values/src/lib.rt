@@ -15,6 +15,10 @@ pub const STATE_BYTES: usize = 4 * (TASK_LIMIT + TASK_LIMIT + 4) + 8 * (TASK_LIM
 
 pub const SLOT_COUNT_LIMIT: u64 = 0xffff_ffff_ffff_ffff;
 
+pub const LOG_LIMIT: u64 = 0xffff_ffff;
+
+pub const LOG_STATE_BYTES: usize = STATE_BYTES + 4 * 4 + 8 * 2;
+
 // How the jobs of a task come: from an offset on, every period, or as a button is pressed, with no offset at all.
 pub enum Sort {
     Periodic(u32),
@@ -148,4 +152,13 @@ pub struct Turn {
 pub enum Given {
     Refused(Refusal),
     Slot(Turn),
+}
+
+// What is found of a camera's log: nothing yet; its end, with nothing wrong before it; the first slot that differs from the
+// dispatcher's; a fault, by document 02's number and the place of its byte.
+pub enum Finding {
+    Nothing,
+    Good,
+    Differs(u32),
+    Fault { number: u32, place: u32 },
 }

@@ -27,7 +27,7 @@ pub record Admissible (t : Table) (d : State) : Type 0 where
   pub fits : Fitting t d
 
 -- What one test does not refuse goes on to the next.
-unrefused : (p : Bool) (r : Refusal) {a : Admission} → cond p (Admission.Refused r) a ≡ Admission.Admitted → (p ≡ false) × (a ≡ Admission.Admitted)
+pub unrefused : (p : Bool) (r : Refusal) {a : Admission} → cond p (Admission.Refused r) a ≡ Admission.Admitted → (p ≡ false) × (a ≡ Admission.Admitted)
 unrefused true r e = let z : _≡_ {A = ℕ} 0 1 = cc in absurd (omega arith)
 unrefused false r e = (refl, e)
 

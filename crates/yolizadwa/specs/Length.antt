@@ -6,10 +6,9 @@ use Prim.Native.Nat.{ℕ}
 use borrow.Author.Tests.{not-true, not-false}
 use lib.Dec.{eqb}
 use lib.ListN.{length}
-use Rattle.model.specs.StateBuffer.{stateBytes}
 
-pub strange : {r : Bool} (buffer : List ℕ) → r ≡ not (eqb (length buffer) stateBytes) → r ≡ true → eqb (length buffer) stateBytes ≡ false
-strange buffer e taken = not-true _ (sym e ∙ taken)
+pub strange : {r : Bool} (bytes : ℕ) (buffer : List ℕ) → r ≡ not (eqb (length buffer) bytes) → r ≡ true → eqb (length buffer) bytes ≡ false
+strange bytes buffer e taken = not-true _ (sym e ∙ taken)
 
-pub right : {r : Bool} (buffer : List ℕ) → r ≡ not (eqb (length buffer) stateBytes) → r ≡ false → eqb (length buffer) stateBytes ≡ true
-right buffer e left = not-false _ (sym e ∙ left)
+pub right : {r : Bool} (bytes : ℕ) (buffer : List ℕ) → r ≡ not (eqb (length buffer) bytes) → r ≡ false → eqb (length buffer) bytes ≡ true
+right bytes buffer e left = not-false _ (sym e ∙ left)

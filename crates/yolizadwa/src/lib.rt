@@ -1,5 +1,5 @@
 // The exported calls: the check of a table file into a report buffer, the quick test and the distance test of one, whether one is an
-// easing of another, the writer of one, texts, and the start and the step of a camera's own loop.
+// easing of another, the writer of one, texts, the start and the step of a camera's own loop, and the judge of the log it brings home.
 ghost use mathlib.Core.Path.{_≡_};
 ghost use mathlib.Core.Bool.{not};
 ghost use Prim.Native.Nat.{_+_, _*_, _<_, _≤_, min};
@@ -12,19 +12,24 @@ ghost use Rattle.model.specs.TableFile.{loadedFrom, periodicFrom};
 ghost use Rattle.model.specs.Dispatcher.{started, stepped};
 ghost use Rattle.model.specs.Report.{quickNumber, quickExported, distanceNumber, distanceExported, Checked};
 ghost use Rattle.model.specs.StateBuffer.{stateBytes, stateIn, quiet, startWritten, stepWritten, startExported, stepExported};
+ghost use Rattle.model.specs.LogBuffer.{logBytes, logWritten, logStartExported, logFeedExported, logFinishExported};
 ghost use Rattle.model.specs.Writer.{writeExported};
 ghost use Rattle.model.specs.PlainText.{fromTextExported, toTextExported};
 ghost use Rattle.model.specs.Easing.{easingNumber, easedNumber, easedExported};
 ghost use Rattle.model.specs.Largest.{costNumber, largestExported};
+ghost use Rattle.logbook.specs.State.{logStateOf};
 ghost use Rattle.report.specs.Put.{exported};
 ghost use Rattle.yolizadwa.specs.Outcomes.{FileExported, exportOf, ToldAs};
 use dispatch::Dispatcher;
+use logbook::Fed;
+use logbook::Log;
 use slots::NO_TASK;
 use values::Admission;
 use values::Answer;
 use values::DistanceAnswer;
 use values::Easing;
 use values::Given;
+use values::LOG_STATE_BYTES;
 use values::LargestCost;
 use values::Outcome;
 use values::QuickAnswer;
@@ -280,6 +285,12 @@ fn strange_length(bytes: usize) -> bool
     bytes != STATE_BYTES
 }
 
+fn strange_log(bytes: usize) -> bool
+    ensures { λ r. ⌜ r ≡ not (eqb bytes logBytes) ⌝ }
+{
+    bytes != LOG_STATE_BYTES
+}
+
 // A place has two bytes: a longer length is told as the largest.
 fn place_of(bytes: usize) -> u32
     ensures { λ r. ⌜ r ≡ min bytes 65535 ⌝ }
@@ -399,6 +410,102 @@ pub extern "C" fn yolizadwa_step(file: &[u8], state: &mut [u8], done: u32) -> u6
         return refused_at(STRANGE_BUFFER, state.len());
     }
     step_file(file, state, done)
+}
+
+// What a log's call says as a number; its buffer is written unless it refuses.
+fn log_told(said: Fed, state: &mut [u8]) -> u64
+    requires { ⌜ length (now state) ≡ logBytes ⌝ }
+    ensures { λ r. ⌜ exported r (now (state .exit)) ≡ logWritten (now (state .entry)) (logStateOf (said .log)) (said .admission) ⌝ }
+{
+    let admission = said.admission;
+    match admission {
+        Admission::Refused(why) => refused(why),
+        Admission::Admitted => {
+            let log = said.log;
+            let reading = log.reading;
+            let found = reading.found;
+            logbuffer::write_log(state, log);
+            logbuffer::answer_number(found)
+        }
+    }
+}
+
+fn log_start_file(file: &[u8], state: &mut [u8]) -> u64
+    requires { ⌜ length (now state) ≡ logBytes ⌝ }
+    ensures { λ r. ⌜ exported r (now (state .exit)) ≡ logStartExported (now (file .entry)) (now (state .entry)) ⌝ }
+{
+    let form = tablefile::form_of(file);
+    let admission = form.admission;
+    match admission {
+        Admission::Refused(why) => refused(why),
+        Admission::Admitted => {
+            let table = form.table;
+            log_told(Log::start(table), state)
+        }
+    }
+}
+
+// Any file and any buffer: the buffer is looked at before the file.
+#[no_mangle]
+pub extern "C" fn yolizadwa_log_start(file: &[u8], state: &mut [u8]) -> u64
+    ensures { λ r. ⌜ record { number = r; buffer = now (state .exit) } ≡ logStartExported (now (file .entry)) (now (state .entry)) ⌝ }
+{
+    if strange_log(state.len()) {
+        return refused_at(STRANGE_BUFFER, state.len());
+    }
+    log_start_file(file, state)
+}
+
+fn log_feed_file(file: &[u8], state: &mut [u8], piece: &[u8]) -> u64
+    requires { ⌜ length (now state) ≡ logBytes ⌝ }
+    ensures { λ r. ⌜ exported r (now (state .exit)) ≡ logFeedExported (now (file .entry)) (now (state .entry)) (now (piece .entry)) ⌝ }
+{
+    let form = tablefile::form_of(file);
+    let admission = form.admission;
+    match admission {
+        Admission::Refused(why) => refused(why),
+        Admission::Admitted => {
+            let table = form.table;
+            let log = logbuffer::log_in(state);
+            log_told(log.feed(table, piece), state)
+        }
+    }
+}
+
+#[no_mangle]
+pub extern "C" fn yolizadwa_log_feed(file: &[u8], state: &mut [u8], piece: &[u8]) -> u64
+    ensures { λ r. ⌜ record { number = r; buffer = now (state .exit) } ≡ logFeedExported (now (file .entry)) (now (state .entry)) (now (piece .entry)) ⌝ }
+{
+    if strange_log(state.len()) {
+        return refused_at(STRANGE_BUFFER, state.len());
+    }
+    log_feed_file(file, state, piece)
+}
+
+fn log_finish_file(file: &[u8], state: &mut [u8]) -> u64
+    requires { ⌜ length (now state) ≡ logBytes ⌝ }
+    ensures { λ r. ⌜ exported r (now (state .exit)) ≡ logFinishExported (now (file .entry)) (now (state .entry)) ⌝ }
+{
+    let form = tablefile::form_of(file);
+    let admission = form.admission;
+    match admission {
+        Admission::Refused(why) => refused(why),
+        Admission::Admitted => {
+            let table = form.table;
+            let log = logbuffer::log_in(state);
+            log_told(log.finish(table), state)
+        }
+    }
+}
+
+#[no_mangle]
+pub extern "C" fn yolizadwa_log_finish(file: &[u8], state: &mut [u8]) -> u64
+    ensures { λ r. ⌜ record { number = r; buffer = now (state .exit) } ≡ logFinishExported (now (file .entry)) (now (state .entry)) ⌝ }
+{
+    if strange_log(state.len()) {
+        return refused_at(STRANGE_BUFFER, state.len());
+    }
+    log_finish_file(file, state)
 }
 
 // What a writer says as a number; the buffer is as it left it.

@@ -1,5 +1,5 @@
 -- Full, or taken.
-use mathlib.Core.Path.{_≡_}
+use mathlib.Core.Path.{_≡_, refl}
 use Prim.Native.Nat.{_-_, _≤_}
 use native.Mathlib.Omega.{arith}
 use borrow.Author.Needs.{needs}
@@ -12,7 +12,7 @@ use Rattle.model.specs.Dispatcher.{slotCount, admittedBy}
 use Rattle.wellformed.specs.Admitted.{fitting}
 use Rattle.dispatch.specs.State.{stateOf}
 use Rattle.dispatch.specs.Accounts.{slots-tell}
-use Rattle.dispatch.specs.Step.{unrefused}
+use Rattle.dispatch.specs.Step.{Unpacked, Unrefused, unrefused}
 use Rattle.dispatch.proofs.step_admitted.Statement.{statement}
 use Rattle.dispatch.proofs.step_admitted.Tie as tie
 
@@ -30,12 +30,27 @@ returns : tie.Need-returns
 returns c = let s = c .before .before in
     rw (told s .0, eq-eqb (slotCount (s .args .t) (stateOf (s .args .d))) slotCountLimit (omega (arith, told s .1, most s, c .before .if1 .taken))) (c .refused .ensures)
 
+unpack-requires : tie.Need-unpack-requires
+unpack-requires c κs = c .before .pre .0
+
+-- The table is unpacked, and nothing refuses the step.
+abbrev unpack-from : tie.After-rank2 → tie.After-unpack
+unpack-from c = c .before .before .before .before .before .before .before .before
+
+ready : (c : tie.After-rank2) → let u = unpack-from c in let s = u .before .before in
+    Unpacked (s .args .t) (u .unpack .result .period) (u .unpack .result .cost) (u .unpack .result .slack) (u .unpack .result .rank) (s .args .t .count) × Unrefused (s .args .t) (stateOf (s .args .d))
+ready c = let u = unpack-from c in
+    let s = u .before .before in
+    ((refl, u .unpack .ensures), unrefused _ _ (s .pre .0) (told s .0) (omega (arith, told s .1, u .before .if1 .left)))
+
 step-taken-requires : tie.Need-step-taken-requires
-step-taken-requires c κs = let s = c .before in unrefused _ _ (s .pre .0) (told s .0) (omega (arith, told s .1, c .if1 .left))
+step-taken-requires c κs = (unpack-from c .before .before .args .t, ready c .0, ready c .1)
 
 returns-2 : tie.Need-returns-2
-returns-2 c = let s = c .before .before in
-    rw (told s .0, ne-eqb (slotCount (s .args .t) (stateOf (s .args .d))) slotCountLimit (λ e. absurd (omega (arith, told s .1, c .before .if1 .left)))) (c .step-taken .ensures)
+returns-2 c = let s = unpack-from (c .before) .before .before in
+    rw (told s .0, ne-eqb (slotCount (s .args .t) (stateOf (s .args .d))) slotCountLimit (λ e. absurd (omega (arith, told s .1, unpack-from (c .before) .before .if1 .left))))
+    (c .step-taken .ensures (s .args .t) (ready (c .before) .0) (ready (c .before) .1))
 
 pub step-admitted-spec : {M : Type 1} → statement M
-step-admitted-spec = tie.close (tie.spec refused-requires returns step-taken-requires returns-2)
+step-admitted-spec =
+    tie.close (tie.spec refused-requires returns unpack-requires step-taken-requires returns-2)

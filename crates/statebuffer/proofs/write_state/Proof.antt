@@ -1,10 +1,9 @@
--- The parts stand one after another, and fill the buffer.
-use mathlib.Core.Path.{_≡_}
-use native.Mathlib.Omega.{arith}
+-- A state as long as the buffer is all that the buffer then holds.
+use mathlib.Core.Path.{_≡_, sym, _∙_}
 use lib.ListN.{length}
 use Rattle.model.specs.Limits.{taskLimit}
 use Rattle.dispatch.specs.State.{stateOf}
-use Rattle.statebuffer.specs.Words.{written-whole}
+use Rattle.statebuffer.specs.Words.{whole, buffer-length}
 use borrow.Author.Needs.{needs}
 use Rattle.statebuffer.proofs.write_state.Statement.{statement}
 use Rattle.statebuffer.proofs.write_state.Tie as tie
@@ -13,87 +12,17 @@ use Rattle.statebuffer.proofs.write_state.Tie as tie
 sizes : (c : tie.Start) → (length (c .args .d .wait) ≡ taskLimit) × (length (c .args .d .left) ≡ taskLimit) × (length (c .args .d .given) ≡ taskLimit)
 sizes c = (search needs, search needs, search needs)
 
--- The places that were passed before.
-abbrev lowest-from : tie.After-put-counts → tie.After-put-word4
-lowest-from c = c .before .before .before .before
-
-abbrev closed-from : tie.After-put-word4 → tie.After-put-word3
-closed-from c = c .before .before .before .before
-
-abbrev late-from : tie.After-put-word3 → tie.After-put-word2
-late-from c = c .before .before .before .before
-
-abbrev last-from : tie.After-put-word2 → tie.After-put-word
-last-from c = c .before .before .before .before
-
-abbrev left-from : tie.After-put-word → tie.After-put-words2
-left-from c = c .before .before .before .before
-
-abbrev wait-from : tie.After-put-words2 → tie.After-put-words
-wait-from c = c .before .before .before .before
-
-put-words-requires : tie.Need-put-words-requires
-put-words-requires c κs = search needs
-
-put-words-requires-2 : tie.Need-put-words-requires-2
-put-words-requires-2 c κs = search needs
-
-put-word-requires : tie.Need-put-word-requires
-put-word-requires c κs = search needs
-
-put-word-requires-2 : tie.Need-put-word-requires-2
-put-word-requires-2 c κs = search needs
-
-put-word-requires-3 : tie.Need-put-word-requires-3
-put-word-requires-3 c κs = search needs
-
-put-word-requires-4 : tie.Need-put-word-requires-4
-put-word-requires-4 c κs = search needs
-
-put-counts-requires : tie.Need-put-counts-requires
-put-counts-requires c κs = search needs
-
-put-long-requires : tie.Need-put-long-requires
-put-long-requires c κs =
-    let given = c .before .before .before in
-    let lowest = lowest-from given in
-    let closed = closed-from lowest in
-    let late = late-from closed in
-    let last = last-from late in
-    let left = left-from last in
-    let wait = wait-from left in
-    omega (arith, given .put-counts .ensures .1, lowest .put-word4 .ensures .1, closed .put-word3 .ensures .1, late .put-word2 .ensures .1, last .put-word .ensures .1, left .put-words2 .ensures .1, wait .put-words .ensures .1, wait .before .before .before .before .before .before .pre)
+put-state-requires : tie.Need-put-state-requires
+put-state-requires c κs = search needs
 
 same-length : tie.Need-same-length
 same-length c = search needs
 
 returns : tie.Need-returns
 returns c =
-    let empty = c .before .before in
-    let given = empty .before .before .before .before in
-    let lowest = lowest-from given in
-    let closed = closed-from lowest in
-    let late = late-from closed in
-    let last = last-from late in
-    let left = left-from last in
-    let wait = wait-from left in
-    let start = wait .before .before .before .before .before .before in
-    written-whole (stateOf (start .args .d)) (start .args .turn) (start .pre) (sizes start .0) (sizes start .1) (sizes start .2)
-    (wait .put-words .ensures .0) (left .put-words2 .ensures .0)
-    (last .put-word .ensures .0) (late .put-word2 .ensures .0) (closed .put-word3 .ensures .0) (lowest .put-word4 .ensures .0)
-    (given .put-counts .ensures .0) (empty .put-long .ensures .0)
+    let put = c .before .before in
+    let start = put .before .before .before in
+    whole (put .put-state .ensures .0) (start .pre ∙ sym (buffer-length (stateOf (start .args .d)) (start .args .turn) (sizes start .0) (sizes start .1) (sizes start .2)))
 
 pub write-state-spec : {M : Type 1} → statement M
-write-state-spec =
-    tie.close
-    (tie.spec
-    put-words-requires
-    put-words-requires-2
-    put-word-requires
-    put-word-requires-2
-    put-word-requires-3
-    put-word-requires-4
-    put-counts-requires
-    put-long-requires
-    same-length
-    returns)
+write-state-spec = tie.close (tie.spec put-state-requires same-length returns)

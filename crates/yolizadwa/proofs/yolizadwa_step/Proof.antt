@@ -1,7 +1,7 @@
 -- The buffer's length decides first.
 use borrow.Author.Tests.{eqb-true}
 use borrow.Author.Needs.{needs}
-use Rattle.model.specs.StateBuffer.{onFile}
+use Rattle.model.specs.StateBuffer.{stateBytes, onFile}
 use Rattle.yolizadwa.specs.Length.{strange, right}
 use Rattle.yolizadwa.proofs.yolizadwa_step.Statement.{statement}
 use Rattle.yolizadwa.proofs.yolizadwa_step.Tie as tie
@@ -15,12 +15,12 @@ refused-at-requires c κs = search needs
 returns : tie.Need-returns
 returns c =
     let tested = c .before .before in
-    rw (strange (tested .before .before .before .args .state .now) (tested .strange-length .ensures) (c .before .if1 .taken), c .refused-at .ensures, onFile)
+    rw (strange stateBytes (tested .before .before .before .args .state .now) (tested .strange-length .ensures) (c .before .if1 .taken), c .refused-at .ensures, onFile)
 
 step-file-requires : tie.Need-step-file-requires
 step-file-requires c κs =
     let tested = c .before .before in
-    eqb-true _ _ (right (tested .before .before .before .args .state .now) (tested .strange-length .ensures) (c .before .if1 .left))
+    eqb-true _ _ (right stateBytes (tested .before .before .before .args .state .now) (tested .strange-length .ensures) (c .before .if1 .left))
 
 same-length : tie.Need-same-length
 same-length c = search needs

@@ -1,0 +1,22 @@
+-- What was found, at the end.
+use mathlib.Core.Path.{ap, _∙_}
+use Rattle.dispatch.specs.State.{stateOf}
+use Rattle.logbook.specs.State.{joined}
+use Rattle.logbook.specs.Bytes.{stoppedAt}
+use borrow.Author.Needs.{needs}
+use Rattle.logbook.proofs.close.Statement.{statement}
+use Rattle.logbook.proofs.close.Tie as tie
+
+at-end-requires : tie.Need-at-end-requires
+at-end-requires c κs = search needs
+
+found-in-requires : tie.Need-found-in-requires
+found-in-requires c κs = search needs
+
+returns : tie.Need-returns
+returns c = let ended = c .before in
+    let l = ended .before .before .before .args .log in
+    ap (joined (stateOf (l .dispatcher))) (c .found-in .ensures ∙ ap (stoppedAt (l .reading)) (ended .at-end .ensures))
+
+pub close-spec : {M : Type 1} → statement M
+close-spec = tie.close (tie.spec at-end-requires found-in-requires returns)

@@ -1,0 +1,418 @@
+// The judge of a camera's log, in pieces cut anywhere: any table, any state and any bytes.
+ghost use mathlib.Core.Path.{_≡_};
+ghost use mathlib.Core.Bool.{false, true, cond, not, _&&_, _||_};
+ghost use Prim.Native.Nat.{_-_, _≤_};
+ghost use lib.Dec.{ltb, eqb};
+ghost use Rattle.values.specs.declared.Table.{Table};
+ghost use Rattle.values.specs.declared.Admission.{Admission};
+ghost use Rattle.values.specs.declared.Finding.{Finding};
+ghost use Rattle.model.specs.Limits.{taskLimit, logLimit};
+ghost use Rattle.model.specs.Log.{logStarted, fed, logFinished, logAdmitted, atEnd, readAll};
+ghost use Rattle.dispatch.specs.State.{stateOf};
+ghost use Rattle.dispatch.specs.Step.{Unpacked, stateWith};
+ghost use Rattle.logbook.specs.State.{joined, logStateOf, fedOf};
+ghost use Rattle.logbook.specs.Bytes.{Readable, endsSlot, isDue, slotOn, stoppedAt, passedOn, doneHeard, kindHeard, otherRead, logBelonging};
+use dispatch::Counts;
+use dispatch::Dispatcher;
+use dispatch::Room;
+use slots::NO_TASK;
+use slots::Numbers;
+use slots::Ranks;
+use values::Admission;
+use values::Finding;
+use values::Judgement;
+use values::LOG_LIMIT;
+use values::Refusal;
+use values::SLOT_COUNT_LIMIT;
+use values::Table;
+
+// The place of 8 for a log whose counts are wrong.
+const COUNT_PLACE: u32 = NO_TASK + 2;
+
+// What is kept between pieces beside the dispatcher: whether a task's record is open, whose number is still to come; whether a
+// done report waits for the next slot; the slots and the bytes that were read; and what was found.
+pub struct Reading {
+    pub opened: bool,
+    pub done: bool,
+    pub slots: u64,
+    pub bytes: u64,
+    pub found: Finding,
+}
+
+pub struct Log {
+    pub dispatcher: Dispatcher,
+    pub reading: Reading,
+}
+
+pub struct Fed {
+    pub admission: Admission,
+    pub log: Log,
+}
+
+impl Log {
+    pub fn start(t: Table) -> Fed
+        ensures { λ r. ⌜ fedOf r ≡ logStarted t ⌝ }
+    {
+        let started = Dispatcher::start(t);
+        let admission = started.admission;
+        let dispatcher = started.dispatcher;
+        Fed {
+            admission,
+            log: Log {
+                dispatcher,
+                reading: Reading {
+                    opened: false,
+                    done: false,
+                    slots: 0,
+                    bytes: 0,
+                    found: Finding::Nothing,
+                },
+            },
+        }
+    }
+
+    // A refused piece hands the log back as it came.
+    pub fn feed(self, t: Table, piece: &[u8]) -> Fed
+        ensures { λ r. ⌜ fedOf r ≡ fed t (logStateOf self) (now (piece .entry)) ⌝ }
+    {
+        match admission(self, t) {
+            Admission::Refused(why) => Fed {
+                admission: Admission::Refused(why),
+                log: self,
+            },
+            Admission::Admitted => Fed {
+                admission: Admission::Admitted,
+                log: read_all(self, t, piece),
+            },
+        }
+    }
+
+    // The answer is what is then found; it is kept, and so a second finish says the same.
+    pub fn finish(self, t: Table) -> Fed
+        ensures { λ r. ⌜ fedOf r ≡ logFinished t (logStateOf self) ⌝ }
+    {
+        match admission(self, t) {
+            Admission::Refused(why) => Fed {
+                admission: Admission::Refused(why),
+                log: self,
+            },
+            Admission::Admitted => Fed {
+                admission: Admission::Admitted,
+                log: close(self),
+            },
+        }
+    }
+}
+
+// Whether the log belongs to the table.
+fn admission(log: Log, t: Table) -> Admission
+    ensures { λ r. ⌜ r ≡ logAdmitted t (logStateOf log) ⌝ }
+{
+    match table::judge(t) {
+        Judgement::Refused(why) => Admission::Refused(why),
+        Judgement::WellFormed(_) => belonging(log, t),
+    }
+}
+
+// The places of 8, in their order: the dispatcher's, and then that of the counts.
+fn belonging(log: Log, t: Table) -> Admission
+    requires { ⌜ t .count ≤ taskLimit ⌝ }
+    ensures { λ r. ⌜ r ≡ logBelonging t (logStateOf log) ⌝ }
+{
+    let dispatcher = log.dispatcher;
+    match dispatch::belonging(dispatcher, t) {
+        Room::Refused(why) => Admission::Refused(why),
+        Room::Slots(room) => {
+            if miscounted(
+                log.reading.slots,
+                log.reading.bytes,
+                SLOT_COUNT_LIMIT - room,
+            ) {
+                return Admission::Refused(Refusal {
+                    number: 8,
+                    place: COUNT_PLACE,
+                });
+            }
+            Admission::Admitted
+        }
+    }
+}
+
+fn miscounted(slots: u64, bytes: u64, counted: u64) -> bool
+    ensures { λ r. ⌜ r ≡ (not (eqb slots counted) || ltb bytes slots || ltb logLimit bytes) ⌝ }
+{
+    if slots != counted {
+        return true;
+    }
+    if bytes < slots {
+        return true;
+    }
+    LOG_LIMIT < bytes
+}
+
+fn close(log: Log) -> Log
+    requires { ⌜ log .reading .bytes ≤ logLimit ⌝ }
+    ensures { λ r. ⌜ logStateOf r ≡ joined (stateOf (log .dispatcher)) (stoppedAt (log .reading) (atEnd (log .reading .bytes) (log .reading .found))) ⌝ }
+{
+    let dispatcher = log.dispatcher;
+    let reading = log.reading;
+    let found = reading.found;
+    Log {
+        dispatcher,
+        reading: found_in(reading, at_end(reading.bytes, found)),
+    }
+}
+
+// A log that has no end is 43, with its length.
+fn at_end(bytes: u64, found: Finding) -> Finding
+    requires { ⌜ bytes ≤ logLimit ⌝ }
+    ensures { λ r. ⌜ r ≡ atEnd bytes found ⌝ }
+{
+    match found {
+        Finding::Nothing => Finding::Fault {
+            number: 43,
+            place: bytes as u32,
+        },
+        Finding::Good => Finding::Good,
+        Finding::Differs(slot) => Finding::Differs(slot),
+        Finding::Fault { number, place } => Finding::Fault { number, place },
+    }
+}
+
+// The table is unpacked once for all bytes of the piece.
+fn read_all(log: Log, t: Table, piece: &[u8]) -> Log
+    requires { ⌜ logAdmitted t (logStateOf log) ≡ Admission.Admitted ⌝ }
+    ensures { λ r. ⌜ logStateOf r ≡ readAll t (logStateOf log) (now (piece .entry)) ⌝ }
+{
+    let columns = slots::unpack(t);
+    let period = columns.period;
+    let cost = columns.cost;
+    let slack = columns.slack;
+    let rank = columns.rank;
+    read_bytes(log, &period, &cost, &slack, &rank, t.count, piece)
+}
+
+// The dispatcher's lists are touched only where a slot's record is whole, and its counts only where the slot is its own.
+fn read_bytes(
+    log: Log,
+    period: &Numbers,
+    cost: &Numbers,
+    slack: &Numbers,
+    rank: &Ranks,
+    n: usize,
+    piece: &[u8],
+) -> Log
+    requires { ⌜ ((t : Table) × Unpacked t (now period) (now cost) (now slack) (now rank) n × Readable t (logStateOf log)) ⌝ }
+    ensures { λ r. ⌜ ((t : Table) → Unpacked t (now (period .entry)) (now (cost .entry)) (now (slack .entry)) (now (rank .entry)) n → Readable t (logStateOf log) → logStateOf r ≡ readAll t (logStateOf log) (now (piece .entry))) ⌝ }
+{
+    let d = log.dispatcher;
+    let mut wait = d.wait;
+    let mut left = d.left;
+    let mut last = d.last;
+    let mut given = d.given;
+    let mut empty = d.empty;
+    let mut read = log.reading;
+    for i in 0..piece.len() {
+        let byte = piece[i];
+        if ends_slot(read, byte) {
+            let moved = dispatch::advance(
+                wait,
+                left,
+                last,
+                period,
+                cost,
+                slack,
+                rank,
+                n,
+                read.done,
+            );
+            if is_due(read.opened, byte, n, moved.owner) {
+                wait = moved.wait;
+                left = moved.left;
+                last = moved.owner;
+                dispatch::count_given(&mut given, last);
+                empty = dispatch::count_empty(empty, last);
+                read = one_slot(read);
+            } else {
+                read = found_in(read, Finding::Differs(read.slots as u32));
+            }
+        } else {
+            read = read_other(read, byte);
+        }
+    }
+    log_of(wait, left, last, given, empty, read)
+}
+
+fn log_of(
+    wait: Numbers,
+    left: Numbers,
+    last: u32,
+    given: Counts,
+    empty: u64,
+    reading: Reading,
+) -> Log
+    ensures { λ r. ⌜ logStateOf r ≡ joined (stateWith wait left last given empty) reading ⌝ }
+{
+    Log {
+        dispatcher: Dispatcher {
+            wait,
+            left,
+            last,
+            given,
+            empty,
+        },
+        reading,
+    }
+}
+
+// This byte makes the record of a slot whole.
+fn ends_slot(reading: Reading, byte: u8) -> bool
+    ensures { λ r. ⌜ r ≡ endsSlot (reading .found) (reading .bytes) (reading .opened) byte ⌝ }
+{
+    let found = reading.found;
+    match found {
+        Finding::Nothing => at_slot(reading.bytes, reading.opened, byte),
+        Finding::Good => false,
+        Finding::Differs(_) => false,
+        Finding::Fault {
+            number: _,
+            place: _,
+        } => false,
+    }
+}
+
+fn at_slot(bytes: u64, opened: bool, byte: u8) -> bool
+    ensures { λ r. ⌜ r ≡ cond (eqb bytes logLimit) false (opened || eqb byte 17) ⌝ }
+{
+    if bytes == LOG_LIMIT {
+        return false;
+    }
+    opened || byte == 17
+}
+
+// The slot is the dispatcher's.
+fn one_slot(reading: Reading) -> Reading
+    requires { ⌜ (reading .slots ≤ logLimit) × (reading .bytes ≤ logLimit) ⌝ }
+    ensures { λ r. ⌜ r ≡ slotOn reading ⌝ }
+{
+    Reading {
+        opened: false,
+        done: false,
+        slots: reading.slots + 1,
+        bytes: reading.bytes + 1,
+        found: Finding::Nothing,
+    }
+}
+
+// The record is that of the owner: an empty slot's, or a task's, whose number may lie outside the table.
+fn is_due(opened: bool, byte: u8, n: usize, owner: u32) -> bool
+    ensures { λ r. ⌜ r ≡ isDue opened byte n owner ⌝ }
+{
+    if opened {
+        return is_owner(byte, n, owner);
+    }
+    owner == NO_TASK
+}
+
+fn is_owner(task: u8, n: usize, owner: u32) -> bool
+    ensures { λ r. ⌜ r ≡ (ltb task n && eqb task owner) ⌝ }
+{
+    (task as usize) < n && task as u32 == owner
+}
+
+// A fault or a difference is found: nothing else moves.
+fn found_in(reading: Reading, found: Finding) -> Reading
+    ensures { λ r. ⌜ r ≡ stoppedAt reading found ⌝ }
+{
+    Reading {
+        opened: reading.opened,
+        done: reading.done,
+        slots: reading.slots,
+        bytes: reading.bytes,
+        found,
+    }
+}
+
+// A fault at this byte.
+fn stop(reading: Reading, number: u32) -> Reading
+    requires { ⌜ reading .bytes ≤ logLimit ⌝ }
+    ensures { λ r. ⌜ r ≡ stoppedAt reading (Finding.Fault number (reading .bytes)) ⌝ }
+{
+    found_in(
+        reading,
+        Finding::Fault {
+            number,
+            place: reading.bytes as u32,
+        },
+    )
+}
+
+// A byte that makes no slot's record whole is read.
+fn pass(reading: Reading, opened: bool, done: bool, found: Finding) -> Reading
+    requires { ⌜ reading .bytes ≤ logLimit ⌝ }
+    ensures { λ r. ⌜ r ≡ passedOn reading opened done found ⌝ }
+{
+    Reading {
+        opened,
+        done,
+        slots: reading.slots,
+        bytes: reading.bytes + 1,
+        found,
+    }
+}
+
+fn read_other(reading: Reading, byte: u8) -> Reading
+    requires { ⌜ reading .bytes ≤ logLimit ⌝ }
+    ensures { λ r. ⌜ r ≡ otherRead reading byte (reading .found) ⌝ }
+{
+    let found = reading.found;
+    match found {
+        Finding::Nothing => read_kind(reading, byte),
+        Finding::Good => stop(reading, behind_end(reading.bytes)),
+        Finding::Differs(_) => reading,
+        Finding::Fault {
+            number: _,
+            place: _,
+        } => reading,
+    }
+}
+
+// Past the limit it is 44, whatever the byte is.
+fn behind_end(bytes: u64) -> u32
+    ensures { λ r. ⌜ r ≡ cond (eqb bytes logLimit) 44 42 ⌝ }
+{
+    if bytes == LOG_LIMIT { 44 } else { 42 }
+}
+
+fn read_kind(reading: Reading, kind: u8) -> Reading
+    requires { ⌜ reading .bytes ≤ logLimit ⌝ }
+    ensures { λ r. ⌜ r ≡ kindHeard reading kind ⌝ }
+{
+    if reading.bytes == LOG_LIMIT {
+        return stop(reading, 44);
+    }
+    if kind == 16 {
+        return pass(reading, true, reading.done, Finding::Nothing);
+    }
+    if kind == 18 {
+        return read_done(reading);
+    }
+    if kind == 19 {
+        return pass(reading, false, reading.done, Finding::Good);
+    }
+    stop(reading, 40)
+}
+
+// A done report is about the slot just before: one, and not a second.
+fn read_done(reading: Reading) -> Reading
+    requires { ⌜ reading .bytes ≤ logLimit ⌝ }
+    ensures { λ r. ⌜ r ≡ doneHeard reading ⌝ }
+{
+    if reading.slots == 0 {
+        return stop(reading, 41);
+    }
+    if reading.done {
+        return stop(reading, 41);
+    }
+    pass(reading, false, true, Finding::Nothing)
+}

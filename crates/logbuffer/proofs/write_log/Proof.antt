@@ -1,0 +1,52 @@
+-- The parts stand one after another, and fill the buffer.
+use Rattle.dispatch.specs.State.{stateOf}
+use Rattle.logbook.specs.Fits.{Sized}
+use Rattle.logbook.specs.State.{logStateOf}
+use Rattle.logbuffer.specs.Parts.{log-whole}
+use borrow.Author.Needs.{needs}
+use Rattle.logbuffer.proofs.write_log.Statement.{statement}
+use Rattle.logbuffer.proofs.write_log.Tie as tie
+
+-- The arrays of the state have their length.
+sizes : (c : tie.Start) → Sized (stateOf (c .args .log .dispatcher))
+sizes c = record { waits = search needs; lefts = search needs; gives = search needs }
+
+quiet-requires : tie.Need-quiet-requires
+quiet-requires c κs = search needs
+
+put-state-requires : tie.Need-put-state-requires
+put-state-requires c κs = search needs
+
+put-words-requires : tie.Need-put-words-requires
+put-words-requires c κs = search needs
+
+put-long-requires : tie.Need-put-long-requires
+put-long-requires c κs = search needs
+
+put-long-requires-2 : tie.Need-put-long-requires-2
+put-long-requires-2 c κs = search needs
+
+same-length : tie.Need-same-length
+same-length c = search needs
+
+returns : tie.Need-returns
+returns c =
+    let bytes = c .before .before in
+    let slots = bytes .before .before .before .before in
+    let words = slots .before .before .before .before in
+    let state = words .before .before .before .before in
+    let start = state .before .before .before .before .before .before in
+    log-whole (logStateOf (start .args .log)) (start .pre) (sizes start)
+    (rw (state .before .quiet .ensures) at (state .put-state .ensures .0)) (words .put-words .ensures .0) (slots .put-long .ensures .0) (bytes .put-long2 .ensures .0)
+
+pub write-log-spec : {M : Type 1} → statement M
+write-log-spec =
+    tie.close
+    (tie.spec
+    quiet-requires
+    put-state-requires
+    put-words-requires
+    put-long-requires
+    put-long-requires-2
+    same-length
+    returns)
