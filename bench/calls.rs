@@ -4,6 +4,7 @@
 pub const TASKS: usize = 32;
 pub const REPORT_BYTES: usize = 1024;
 pub const STATE_BYTES: usize = 4 * (2 * TASKS + 4) + 8 * (TASKS + 1);
+pub const LOG_BYTES: usize = STATE_BYTES + 4 * 4 + 8 * 2;
 
 #[derive(Clone, Copy)]
 pub struct Task {
@@ -23,6 +24,9 @@ extern "C" {
     fn yolizadwa_largest(file: *const u8, file_len: usize, task: u32) -> u64;
     fn yolizadwa_start(file: *const u8, file_len: usize, state: *mut u8, state_len: usize) -> u64;
     fn yolizadwa_step(file: *const u8, file_len: usize, state: *mut u8, state_len: usize, done: u32) -> u64;
+    fn yolizadwa_log_start(file: *const u8, file_len: usize, state: *mut u8, state_len: usize) -> u64;
+    fn yolizadwa_log_feed(file: *const u8, file_len: usize, state: *mut u8, state_len: usize, piece: *const u8, piece_len: usize) -> u64;
+    fn yolizadwa_log_finish(file: *const u8, file_len: usize, state: *mut u8, state_len: usize) -> u64;
 }
 
 // Either engine: check leaps, check_plainly walks slot by slot.
@@ -58,6 +62,18 @@ pub fn start(file: &[u8], state: &mut [u8; STATE_BYTES]) -> u64 {
 
 pub fn step(file: &[u8], state: &mut [u8; STATE_BYTES], done: u32) -> u64 {
     unsafe { yolizadwa_step(file.as_ptr(), file.len(), state.as_mut_ptr(), state.len(), done) }
+}
+
+pub fn log_start(file: &[u8], state: &mut [u8; LOG_BYTES]) -> u64 {
+    unsafe { yolizadwa_log_start(file.as_ptr(), file.len(), state.as_mut_ptr(), state.len()) }
+}
+
+pub fn log_feed(file: &[u8], state: &mut [u8; LOG_BYTES], piece: &[u8]) -> u64 {
+    unsafe { yolizadwa_log_feed(file.as_ptr(), file.len(), state.as_mut_ptr(), state.len(), piece.as_ptr(), piece.len()) }
+}
+
+pub fn log_finish(file: &[u8], state: &mut [u8; LOG_BYTES]) -> u64 {
+    unsafe { yolizadwa_log_finish(file.as_ptr(), file.len(), state.as_mut_ptr(), state.len()) }
 }
 
 pub fn report_on(file: &[u8]) -> String {

@@ -20,6 +20,8 @@ struct chart {
     char rows[YOLIZADWA_TASKS][MOST_COLUMNS]; /* of each slot the instant before it, then the slot */
     struct job late[JOBS_SHOWN];
     unsigned long late_jobs;
+    uint8_t *log; /* NULL: none is kept */
+    size_t log_len;
 };
 
 static unsigned columns(void)
@@ -100,6 +102,24 @@ static void draw_slot(struct chart *chart, uint64_t instant, unsigned column)
     chart->done = says_done(chart, owner);
 }
 
+/* What a camera writes of the slot just drawn; the report behind it is what the next step is told. */
+static void log_slot(struct chart *chart)
+{
+    if (chart->log == NULL) {
+        return;
+    }
+    uint8_t *next = chart->log + chart->log_len;
+    int empty = chart->state.last == YOLIZADWA_TASKS;
+    *next++ = empty ? YOLIZADWA_LOG_EMPTY : YOLIZADWA_LOG_SLOT;
+    if (!empty) {
+        *next++ = (uint8_t)chart->state.last;
+    }
+    if (chart->done) {
+        *next++ = YOLIZADWA_LOG_DONE;
+    }
+    chart->log_len = (size_t)(next - chart->log);
+}
+
 static void print_ruler(unsigned long begin, unsigned long end)
 {
     printf("%-*s", LABEL_COLUMNS, "slot");
@@ -134,6 +154,7 @@ static void draw_block(struct chart *chart, unsigned long begin)
     unsigned slots = left < chart->wide ? (unsigned)left : chart->wide;
     for (unsigned slot = 0; slot < slots; slot++) {
         draw_slot(chart, begin + slot, 2 * slot);
+        log_slot(chart);
     }
     /* The instant after the last slot of all is shown too; what follows it is not. */
     if (left == slots) {
@@ -192,6 +213,24 @@ static void draw(struct chart *chart)
     print_accounts(chart);
 }
 
+/* Three bytes for each slot are enough, and one for the end. */
+static int begin_log(struct chart *chart, const char *name)
+{
+    chart->log = name == NULL ? NULL : malloc(3 * (size_t)chart->slots + 1);
+    return name != NULL && chart->log == NULL ? trouble("no memory for the log") : DONE;
+}
+
+static int end_log(struct chart *chart, const char *name)
+{
+    if (name == NULL) {
+        return DONE;
+    }
+    chart->log[chart->log_len++] = YOLIZADWA_LOG_END;
+    int status = write_log(name, chart->log, chart->log_len);
+    free(chart->log);
+    return status;
+}
+
 int run(const struct request *request)
 {
     static struct chart chart;
@@ -206,6 +245,11 @@ int run(const struct request *request)
     chart.wide = slots_of_a_block();
     chart.early = request->early;
     yolizadwa_start(table.file, table.len, (uint8_t *)&chart.state, sizeof chart.state);
+    status = begin_log(&chart, request->log);
+    if (status != DONE) {
+        return status;
+    }
     draw(&chart);
-    return chart.late_jobs > 0 ? LATE : DONE;
+    status = end_log(&chart, request->log);
+    return status != DONE ? status : chart.late_jobs > 0 ? LATE : DONE;
 }

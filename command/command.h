@@ -19,6 +19,7 @@ enum { MOST_INPUT = 1 << 24, MOST_SLOTS = 1000000, JOBS_SHOWN = 100 };
 /* What one call of the command asks for; its word says which of these count. */
 struct request {
     const char *files[2];
+    const char *log; /* of a run: where its log goes, or NULL */
     int all;
     int early;
     int plainly;
@@ -57,6 +58,7 @@ void keep_standard_files_apart(void);
 int trouble(const char *format, ...);
 int read_input(const char *name, struct input *input);
 int write_output(const char *name, const uint8_t *bytes, size_t len);
+int write_log(const char *name, const uint8_t *bytes, size_t len);
 
 /* Tables. */
 int is_table_file(const struct input *input);
@@ -102,6 +104,7 @@ int largest(const struct request *request);
 int make(const struct request *request);
 int show(const struct request *request);
 int run(const struct request *request);
+int judge_log(const struct request *request);
 
 /* Around what may take long: so many checks by the table's budget, and so many walks to an idle instant. */
 void begin_progress(const struct table *table, unsigned checks, unsigned walks, int plainly);

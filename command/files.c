@@ -80,7 +80,7 @@ int read_input(const char *name, struct input *input)
 
 static int is_terminal(const char *name)
 {
-    return trouble("%s is a terminal, and a table file is no text; name a file instead", name);
+    return trouble("%s is a terminal, and what is written is no text; name a file instead", name);
 }
 
 /* That it cannot be written is said at the end of the command. */
@@ -93,25 +93,39 @@ static int write_standard(const uint8_t *bytes, size_t len)
     return DONE;
 }
 
-/* Whether a text or something else of worth stands there. A pipe without a writer must not keep us waiting. */
-static int is_no_table_file(const char *name)
+/* Whether something stands there that does not begin so, and is of worth. A pipe without a writer must not keep us waiting. */
+static int begins_otherwise(const char *name, uint8_t low, uint8_t high)
 {
     uint8_t first;
     int number = open(name, O_RDONLY | O_NONBLOCK);
-    int found = number >= 0 && read(number, &first, 1) == 1 && first >= FIRST_OF_A_TEXT;
+    int found = number >= 0 && read(number, &first, 1) == 1 && (first < low || first > high);
     if (number >= 0) {
         close(number);
     }
     return found;
 }
 
-/* In place, so that links, modes and devices stay what they are, and in one piece, which is shorter than any disk's. */
+/* Tells whether all of it could be written. A long log may go out in several parts. */
+static int write_all(int number, const uint8_t *bytes, size_t len)
+{
+    while (len > 0) {
+        ssize_t wrote = write(number, bytes, len);
+        if (wrote <= 0) {
+            return 0;
+        }
+        bytes += wrote;
+        len -= (size_t)wrote;
+    }
+    return 1;
+}
+
+/* In place, so that links, modes and devices stay what they are. */
 static int write_over(int number, const char *name, const uint8_t *bytes, size_t len)
 {
     if (isatty(number)) {
         return is_terminal(name);
     }
-    if (write(number, bytes, len) != (ssize_t)len) {
+    if (!write_all(number, bytes, len)) {
         return cannot("write", name);
     }
     /* A device cannot be cut and need not be. */
@@ -131,14 +145,8 @@ static int write_new(int number, const char *name, const uint8_t *bytes, size_t 
     return status;
 }
 
-int write_output(const char *name, const uint8_t *bytes, size_t len)
+static int write_file(const char *name, const uint8_t *bytes, size_t len)
 {
-    if (strcmp(name, "-") == 0) {
-        return write_standard(bytes, len);
-    }
-    if (is_no_table_file(name)) {
-        return trouble("%s is there and is no table file; it is not written over", name);
-    }
     int number = open(name, O_WRONLY | O_CREAT | O_EXCL, 0666), fresh = number >= 0;
     if (!fresh && errno == EEXIST) {
         number = open(name, O_WRONLY);
@@ -148,4 +156,23 @@ int write_output(const char *name, const uint8_t *bytes, size_t len)
     }
     int status = fresh ? write_new(number, name, bytes, len) : write_over(number, name, bytes, len);
     return close(number) == 0 || status != DONE ? status : cannot("write", name);
+}
+
+int write_output(const char *name, const uint8_t *bytes, size_t len)
+{
+    if (strcmp(name, "-") == 0) {
+        return write_standard(bytes, len);
+    }
+    if (begins_otherwise(name, 0, FIRST_OF_A_TEXT - 1)) {
+        return trouble("%s is there and is no table file; it is not written over", name);
+    }
+    return write_file(name, bytes, len);
+}
+
+int write_log(const char *name, const uint8_t *bytes, size_t len)
+{
+    if (begins_otherwise(name, YOLIZADWA_LOG_SLOT, YOLIZADWA_LOG_END)) {
+        return trouble("%s is there and is no log; it is not written over", name);
+    }
+    return write_file(name, bytes, len);
 }

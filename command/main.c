@@ -21,19 +21,20 @@ struct word {
     const char *form;
     int files;
     int task; /* whether the number of a task may follow */
-    const char *options[2];
+    const char *options[3];
     int (*act)(const struct request *request);
 };
 
 static const struct word words[] = {
-    {"judge", "judge FILE [--all] [--plainly]", 1, 0, {"--all", "--plainly"}, judge},
-    {"quick", "quick FILE", 1, 0, {NULL, NULL}, quick},
-    {"distance", "distance FILE", 1, 0, {NULL, NULL}, distance},
-    {"eased", "eased OLD NEW", 2, 0, {NULL, NULL}, eased},
-    {"largest", "largest FILE [TASK]", 1, 1, {NULL, NULL}, largest},
-    {"run", "run FILE [--slots N] [--early]", 1, 0, {"--slots", "--early"}, run},
-    {"show", "show FILE", 1, 0, {NULL, NULL}, show},
-    {"make", "make TEXT FILE", 2, 0, {NULL, NULL}, make},
+    {"judge", "judge FILE [--all] [--plainly]", 1, 0, {"--all", "--plainly", NULL}, judge},
+    {"quick", "quick FILE", 1, 0, {NULL, NULL, NULL}, quick},
+    {"distance", "distance FILE", 1, 0, {NULL, NULL, NULL}, distance},
+    {"eased", "eased OLD NEW", 2, 0, {NULL, NULL, NULL}, eased},
+    {"largest", "largest FILE [TASK]", 1, 1, {NULL, NULL, NULL}, largest},
+    {"run", "run FILE [--slots N] [--early] [--log LOG]", 1, 0, {"--slots", "--early", "--log"}, run},
+    {"log", "log TABLE LOG", 2, 0, {NULL, NULL, NULL}, judge_log},
+    {"show", "show FILE", 1, 0, {NULL, NULL, NULL}, show},
+    {"make", "make TEXT FILE", 2, 0, {NULL, NULL, NULL}, make},
 };
 
 static const struct word *word_named(const char *name)
@@ -48,7 +49,7 @@ static const struct word *word_named(const char *name)
 
 static int takes(const struct word *word, const char *option)
 {
-    for (int at = 0; at < 2; at++) {
+    for (int at = 0; at < 3; at++) {
         if (word->options[at] != NULL && strcmp(word->options[at], option) == 0) {
             return 1;
         }
@@ -72,6 +73,17 @@ static int read_number(const char *digits, uint64_t least, uint64_t most, uint64
     return some && *digits == '\0' && *number >= least && *number <= most;
 }
 
+/* A file by its name: the chart has standard output. */
+static int take_log(const struct word *word, const char *name, struct request *request)
+{
+    if (name == NULL || strcmp(name, "-") == 0) {
+        misuse(word, "--log needs the name of a file", "");
+        return 0;
+    }
+    request->log = name;
+    return 2;
+}
+
 /* Tells how many arguments the option is, or 0 if it cannot be taken. */
 static int take_option(const struct word *word, char **arguments, struct request *request)
 {
@@ -80,6 +92,9 @@ static int take_option(const struct word *word, char **arguments, struct request
     if (!takes(word, option)) {
         misuse(word, "there is no such option here: ", option);
         return 0;
+    }
+    if (strcmp(option, "--log") == 0) {
+        return take_log(word, arguments[1], request);
     }
     if (strcmp(option, "--slots") != 0) {
         request->all |= strcmp(option, "--all") == 0;
@@ -132,7 +147,7 @@ static int take(const struct word *word, char **arguments, struct request *reque
 
 static int do_word(const struct word *word, char **arguments)
 {
-    struct request request = {{NULL, NULL}, 0, 0, 0, 0, 0, 0};
+    struct request request = {{NULL, NULL}, NULL, 0, 0, 0, 0, 0, 0};
     int files = 0;
     while (*arguments != NULL) {
         if (strcmp(*arguments, "--help") == 0) {
@@ -156,7 +171,7 @@ static int help(const char *word)
     if (print_page(stdout, word)) {
         return DONE;
     }
-    return trouble("no help for %s; there is help for judge, quick, distance, eased, largest, run, show, make and text", word);
+    return trouble("no help for %s; there is help for judge, quick, distance, eased, largest, run, log, show, make and text", word);
 }
 
 static int version(void)
@@ -187,7 +202,7 @@ static int obey(char **arguments)
     if (strcmp(first, "--version") == 0) {
         return arguments[1] != NULL ? too_many(arguments[1]) : version();
     }
-    return trouble("%s is none of judge, quick, distance, eased, largest, run, show, make, help; to judge a table: yolizadwa judge FILE", first);
+    return trouble("%s is none of judge, quick, distance, eased, largest, run, log, show, make, help; to judge a table: yolizadwa judge FILE", first);
 }
 
 int main(int argc, char **argv)

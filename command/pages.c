@@ -17,7 +17,9 @@ static const char usage[] =
     "                                             buttons, or none\n"
     "  yolizadwa eased OLD NEW                    whether NEW is OLD made easier\n"
     "  yolizadwa largest FILE [TASK]              how far a cost may grow\n"
-    "  yolizadwa run FILE [--slots N] [--early]   a chart of who has each slot\n"
+    "  yolizadwa run FILE [--slots N] [--early] [--log LOG]\n"
+    "                                             a chart of who has each slot\n"
+    "  yolizadwa log TABLE LOG                    whether a camera's log is the table's\n"
     "  yolizadwa show FILE                        the table as plain text\n"
     "  yolizadwa make TEXT FILE                   the table file of a text\n"
     "  yolizadwa help WORD                        about a word, or about text\n"
@@ -34,8 +36,8 @@ static const char usage[] =
     "A button is a line such as: button 3 10 40, which are its cost, its deadline and\n"
     "the least spacing of its presses; distance is the test for it.\n"
     "\n"
-    "Ends with 0: passes, or done; 1: cannot be done; 2: refused; 3: late or\n"
-    "overload; 4: undecided, no answer, or no easing.\n";
+    "Ends with 0: passes, good, or done; 1: cannot be done; 2: refused; 3: late,\n"
+    "overload, or another log; 4: undecided, no answer, no easing, or a faulty log.\n";
 
 static const char page_judge[] =
     "yolizadwa judge FILE [--all] [--plainly]\n"
@@ -116,7 +118,7 @@ static const char page_largest[] =
     "it is late or overloaded, 4 if it is undecided.\n";
 
 static const char page_run[] =
-    "yolizadwa run FILE [--slots N] [--early]\n"
+    "yolizadwa run FILE [--slots N] [--early] [--log LOG]\n"
     "\n"
     "Runs the table, whether it passes or not, and draws a row for each task. A\n"
     "slot goes to the waiting job that is due first; of jobs due together to that\n"
@@ -130,9 +132,31 @@ static const char page_run[] =
     "slots each task had, how many were empty, and which share that is. N is at\n"
     "most 1,000,000; without --slots it is the horizon, but at least 35 and at most\n"
     "120. With --early every job ends after half its cost, rounded up. The chart has\n"
-    "80 columns, or as many as COLUMNS says. A table with a button is refused.\n"
+    "80 columns, or as many as COLUMNS says. With --log the slots are also written\n"
+    "to the file LOG, as a camera's log, which log judges. A table with a button is\n"
+    "refused.\n"
     "\n"
     "Ends with 0 if no job was closed late, 3 if one was, 2 if the table is refused.\n";
+
+static const char page_log[] =
+    "yolizadwa log TABLE LOG\n"
+    "\n"
+    "Judges the log that a camera brings home: whether each slot went to the task\n"
+    "that the table gives it to, under the log's own done reports. A log is a row\n"
+    "of records, one byte of kind each, and of kind 16 one more:\n"
+    "\n"
+    "  16 TASK   the task had the slot      18   done, about the slot just before\n"
+    "  17        the slot was empty         19   the end\n"
+    "\n"
+    "log good: it is what a camera writes that runs the table, and if the table\n"
+    "passes, every job whose worst response ends within the log was in time. log\n"
+    "differs: the first slot that went elsewhere, with what the camera did and what\n"
+    "the table wanted. log fault: the log cannot be read from there on. A log may\n"
+    "have 4,294,967,295 bytes; one of the two files may be - for standard input. run\n"
+    "--log writes such a log. A table with a button is refused.\n"
+    "\n"
+    "Ends with 0 if the log is good, 2 if the table is refused, 3 if a slot differs,\n"
+    "4 if the log has a fault.\n";
 
 static const char page_show[] =
     "yolizadwa show FILE\n"
@@ -175,7 +199,7 @@ static const char page_text[] =
 
 static const struct page pages[] = {
     {"judge", page_judge}, {"quick", page_quick}, {"distance", page_distance}, {"eased", page_eased}, {"largest", page_largest},
-    {"run", page_run},     {"show", page_show},   {"make", page_make},         {"text", page_text},   {"help", usage},
+    {"run", page_run},     {"log", page_log},     {"show", page_show},   {"make", page_make},         {"text", page_text},   {"help", usage},
 };
 
 int print_page(FILE *to, const char *word)

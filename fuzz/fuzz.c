@@ -8,7 +8,7 @@
 
 #include "yolizadwa.h"
 
-enum { REPORT = YOLIZADWA_REPORT_BYTES, STATE = YOLIZADWA_STATE_BYTES, REFUSED = 65536, NONE = YOLIZADWA_TASKS };
+enum { REPORT = YOLIZADWA_REPORT_BYTES, STATE = YOLIZADWA_STATE_BYTES, LOG = YOLIZADWA_LOG_BYTES, REFUSED = 65536, NONE = YOLIZADWA_TASKS };
 
 // Where the words behind the waits and the slots left stand in a state.
 enum { LAST = 8 * NONE, LATE = LAST + 4, CLOSED = LAST + 8, LOWEST = LAST + 12, COUNTS = LAST + 16 };
@@ -154,6 +154,36 @@ static void try_buttons(const uint8_t *file, size_t len, uint64_t checked, uint6
     free(tasks);
 }
 
+// A log's calls: whole, cut once, and on any bytes as a state. All cuts say the same, and a refusal changes no byte.
+static void try_log(const uint8_t *file, size_t len, uint64_t checked, const uint8_t *more, size_t more_len) {
+    uint8_t *log = block(LOG, 0xee), *cut = block(LOG, 0), *piece = block(more_len, 0);
+    size_t first = more_len ? more[0] % (more_len + 1) : 0;
+    uint64_t r = yolizadwa_log_start(file, len, log, LOG), told;
+    // mostly kinds, so that records come up
+    for (size_t i = 0; i < more_len; i++) piece[i] = more[i] & 64 ? more[i] : 16 + (more[i] & 3);
+    HOLDS(r == (checked < REFUSED ? 0 : checked));
+    if (r != 0) {
+        HOLDS(all(log, 0, LOG, 0xee));
+        HOLDS(yolizadwa_log_feed(file, len, log, LOG, piece, more_len) == r && yolizadwa_log_finish(file, len, log, LOG) == r);
+        HOLDS(all(log, 0, LOG, 0xee));
+    } else {
+        memcpy(cut, log, LOG);
+        told = yolizadwa_log_feed(file, len, log, LOG, piece, more_len);
+        yolizadwa_log_feed(file, len, cut, LOG, piece, first);
+        HOLDS(yolizadwa_log_feed(file, len, cut, LOG, piece + first, more_len - first) == told);
+        HOLDS(memcmp(log, cut, LOG) == 0 && (told == 0 || yolizadwa_log_answered(told)));
+        r = yolizadwa_log_finish(file, len, log, LOG);
+        HOLDS(yolizadwa_log_answered(r) && yolizadwa_log_finish(file, len, log, LOG) == r && (told == 0 || told == r));
+    }
+    memcpy(log, more, more_len < LOG ? more_len : LOG);
+    memcpy(cut, log, LOG);
+    r = yolizadwa_log_feed(file, len, log, LOG, piece, more_len);
+    if (r != 0 && !yolizadwa_log_answered(r)) HOLDS(memcmp(log, cut, LOG) == 0);
+    free(piece);
+    free(cut);
+    free(log);
+}
+
 static void try_file(const uint8_t *bytes, size_t len, const uint8_t *more, size_t more_len) {
     if (!affordable(bytes, len)) return;
     uint8_t *file = block(len, 0);
@@ -215,6 +245,8 @@ static void try_file(const uint8_t *bytes, size_t len, const uint8_t *more, size
     // a task of the table or one behind it, and one that no table has
     try_largest(file, len, r, (char *)text, more_len ? more[0] % (len / 17 + 1) : 0, more_len > 1 ? more[1] : 0);
     try_largest(file, len, r, (char *)text, more_len > 3 ? NONE + word(more, 0) % 100000 : UINT32_MAX, 0);
+
+    try_log(file, len, r, more, more_len);
 
     size_t strange = more_len ? more[0] : STATE - 1;
     uint8_t *odd = block(strange, 0x5a);

@@ -1,7 +1,7 @@
 /*
  * Yolizadwa for C (from C99 on) and C++: judge a table of tasks, then give out time slot by slot.
  *
- * Eleven calls, in the static library that `rt staticlib yolizadwa` writes for x86-64:
+ * Fourteen calls, in the static library that `rt staticlib yolizadwa` writes for x86-64:
  *
  *   yolizadwa_write          writes a table file from the numbers of its tasks
  *   yolizadwa_from_text      writes the table file of a table in plain text
@@ -14,12 +14,16 @@
  *   yolizadwa_largest        tells how much the cost of one task may grow before the table no longer passes
  *   yolizadwa_start          makes the dispatcher's first state for a table file
  *   yolizadwa_step           gives out one slot and makes the next state
+ *   yolizadwa_log_start      begins to judge the log that a camera brings home
+ *   yolizadwa_log_feed       judges the next piece of it, cut anywhere
+ *   yolizadwa_log_finish     says what is found of the whole log
  *
- * What holds for all eleven:
+ * What holds for all fourteen:
  *   - They keep nothing between calls, allocate nothing, and may run in several threads at once on different buffers.
  *   - Of the C library they need memcpy and memset alone. The host tests hold the stack of each call to 16 KiB.
  *   - A result below 65,536 is an answer. Any other is a refusal: 65,536 x number + place. A refusal changes no byte.
- *     (yolizadwa_eased tells of two files, and has results of its own: yolizadwa_refused does not fit them.)
+ *     (yolizadwa_eased tells of two files, and has results of its own: yolizadwa_refused does not fit them. Of a log's calls
+ *     only a result below 2^32 goes to yolizadwa_refused: what is found stands from there on.)
  *   - No pointer may be NULL, not even with length 0.
  *   - What a call only reads (the const pointer: file, text or words) is read where it lies and never written, and must not
  *     overlap what the call writes. Words lie aligned, as a uint32_t does; nothing else needs to.
@@ -39,6 +43,7 @@ extern "C" {
 #define YOLIZADWA_TASKS 32          /* the most tasks and buttons a table may have; as a task number: none */
 #define YOLIZADWA_REPORT_BYTES 1024 /* the least length of a report buffer; no report is longer */
 #define YOLIZADWA_STATE_BYTES 536   /* the only length of a state buffer */
+#define YOLIZADWA_LOG_BYTES 568     /* the only length of a log's state buffer */
 #define YOLIZADWA_LONGEST_FILE 554  /* bytes of the longest file that is not refused */
 
 /*
@@ -66,9 +71,9 @@ enum yolizadwa_kind {
 
 /*
  * What a refusal's number says, and what its place is. If several hold, the first of this order is told: the length of a
- * report or state buffer (30, 50); the first fault of what is read (20 to 27 of a file, 51 then 52 of words, 60 to 66 or 27 of
- * a text); the number of tasks (1, 2); then task by task 3, 4, 5, 6; then 7; then a button where none is taken (11); then the state
- * (8, 9), the task that is asked for (12), or the budget that is written (27) and the length of the buffer for it (31).
+ * report or state buffer (30, 50, of a log too); the first fault of what is read (20 to 27 of a file, 51 then 52 of words, 60 to 66 or
+ * 27 of a text); the number of tasks (1, 2); then task by task 3, 4, 5, 6; then 7; then a button where none is taken (11); then the
+ * state (8, 9), the task that is asked for (12), or the budget that is written (27) and the length of the buffer for it (31).
  */
 enum yolizadwa_refusal {
     YOLIZADWA_NO_TASK = 1,          /* the table has no task; place 0 */
@@ -79,7 +84,8 @@ enum yolizadwa_refusal {
     YOLIZADWA_BAD_OFFSET = 6,       /* an offset above 60,000; place: the task, which is no button */
     YOLIZADWA_LONG_ROUND = 7,       /* the least common multiple of periods and spacings is above 1,000,000,000,000; place 0 */
     YOLIZADWA_STRANGE_STATE = 8,    /* the state does not fit the table; place: the first task that does not, 32: last,
-                                       33: it counts 2^64 slots or more */
+                                       33: it counts 2^64 slots or more, 34: a log's slots are not those that the
+                                       state counts, or are more than its bytes, or its bytes are 2^32 or more */
     YOLIZADWA_FULL_STATE = 9,       /* the state counts 2^64 - 1 slots, and no more can be counted; place 0 */
     YOLIZADWA_HAS_BUTTON = 11,      /* the table has a button, and this call takes none; place: the first button */
     YOLIZADWA_NO_SUCH_TASK = 12,    /* the table has no task of this number; place: the number, 65,535 if it is larger */
@@ -93,7 +99,7 @@ enum yolizadwa_refusal {
     YOLIZADWA_ZERO_BUDGET = 27,     /* the budget is 0; place 0, in a text its line */
     YOLIZADWA_SHORT_REPORT = 30,    /* the report buffer has fewer than 1,024 bytes; place: its length */
     YOLIZADWA_SHORT_BUFFER = 31,    /* the buffer is shorter than what is to be written; place: its length */
-    YOLIZADWA_STATE_LENGTH = 50,    /* the state buffer has not 536 bytes; place: its length, 65,535 if it is longer */
+    YOLIZADWA_STATE_LENGTH = 50,    /* the state buffer has not 536 bytes, a log's not 568; place: its length, at most 65,535 */
     YOLIZADWA_BROKEN_ROWS = 51,     /* the words of a table are no whole rows; place: their number, at most 65,535 */
     YOLIZADWA_STRANGE_ROW = 52,     /* a row of a table is no task and no button, or a button with an offset, which is any second
                                        word but 0; place: the first such row, at most 65,535 */
@@ -110,7 +116,7 @@ enum yolizadwa_refusal {
 
 /*
  * Whether a result is a refusal, and then its number and its place. Of every call but yolizadwa_eased, whose result goes
- * through yolizadwa_eased_case and yolizadwa_eased_value first.
+ * through yolizadwa_eased_case and yolizadwa_eased_value first, and a log's, of which yolizadwa_log_answered is asked first.
  */
 static inline int yolizadwa_refused(uint64_t result) { return result >= 65536; }
 static inline uint32_t yolizadwa_number(uint64_t result) { return (uint32_t)(result / 65536); }
@@ -350,6 +356,85 @@ uint64_t yolizadwa_start(const uint8_t *file, size_t file_len, uint8_t *state, s
  * counts that add up to 2^64 - 1. So from a start 2^64 - 1 steps are taken, and none of them is refused.
  */
 uint64_t yolizadwa_step(const uint8_t *file, size_t file_len, uint8_t *state, size_t state_len, uint32_t done);
+
+/*
+ * The log that a camera brings home is a row of records: a kind, and of kind 16 one byte more.
+ *
+ *   kind 16, slot    1 byte: the task that had the slot
+ *   kind 17, empty   0 bytes: a slot that no task had
+ *   kind 18, done    0 bytes: what ran in the slot just before said that it was done. At most once for a slot; after an empty slot it
+ *                    means nothing
+ *   kind 19, end     0 bytes. Nothing comes after it.
+ *
+ * A camera that steps with yolizadwa_step writes for each slot what the step returned, and 18 behind it if the next step is told done.
+ *
+ * The log is judged in pieces cut anywhere, of any length, empty ones too: start, feed, feed, .., finish, all with the same file and the
+ * same state buffer. However it is cut, the answer is the same. Each call returns
+ *
+ *   0                      nothing is found yet (never by a finish)
+ *   below 2^32             a refusal, as by the other calls; it changes no byte
+ *   2^32 x number + place  what is found: yolizadwa_log_answered, yolizadwa_log_number, yolizadwa_log_place
+ *
+ * What is found stands in the state buffer too. Good is said for certain only by the finish: until then a byte behind the end makes it
+ * 42. Any other answer stays, whatever follows: no byte behind it is looked at or counted.
+ *
+ * Good, of a table that a check passes: every job whose reported worst response ends within the logged slots had its whole cost, or was
+ * said to be done, by then; an 18 behind the last slot counts. A slot differs: it is the first whose task is not the one that
+ * yolizadwa_step gives it, under the log's own done reports before it. A task that the table does not have is such a slot.
+ */
+enum yolizadwa_log_kind {
+    YOLIZADWA_LOG_SLOT = 16,
+    YOLIZADWA_LOG_EMPTY = 17,
+    YOLIZADWA_LOG_DONE = 18,
+    YOLIZADWA_LOG_END = 19
+};
+
+enum yolizadwa_log_answer {
+    YOLIZADWA_LOG_GOOD = 1,          /* the log is what a camera writes that runs this table; place 0 */
+    YOLIZADWA_LOG_DIFFERS = 2,       /* place: the first slot that differs, counted from 0 */
+    YOLIZADWA_LOG_UNKNOWN_KIND = 40, /* a record of no known kind; place: its byte, counted from 0, as of those below */
+    YOLIZADWA_LOG_BAD_DONE = 41,     /* a done report with no slot before it, or a second one for a slot; place: its byte */
+    YOLIZADWA_LOG_AFTER_END = 42,    /* a byte after the end; place: that byte */
+    YOLIZADWA_LOG_NO_END = 43,       /* the log is finished and has no end; place: its length */
+    YOLIZADWA_LOG_TOO_LONG = 44      /* the log has more than 2^32 - 1 bytes; place: 2^32 - 1 */
+};
+static inline int yolizadwa_log_answered(uint64_t result) { return result >> 32 != 0; }
+static inline uint32_t yolizadwa_log_number(uint64_t result) { return (uint32_t)(result >> 32); }
+static inline uint32_t yolizadwa_log_place(uint64_t result) { return (uint32_t)result; }
+
+/*
+ * The state of a log: 568 bytes, little-endian; on x86-64 this struct is that layout. It needs no alignment. Its front is a dispatcher's
+ * state, with late, closed and lowest as after a start. A piece may be judged by another process than the one before: the 568 bytes are
+ * all that is kept.
+ */
+struct yolizadwa_log {
+    struct yolizadwa_state state; /* after the slots that were read; given and empty say where they went */
+    uint32_t opened;              /* 0, or 16 was read and its task is still to come */
+    uint32_t done;                /* 0, or a done report waits for the next slot */
+    uint32_t number;              /* what is found: 0 for nothing, or an enum yolizadwa_log_answer; any other is kept and told as it is */
+    uint32_t place;               /* and its place */
+    uint64_t slots;               /* the slots that were read */
+    uint64_t bytes;               /* the bytes that were read */
+};
+
+/*
+ * Begins a log: the dispatcher's first state, and nothing read. Any table that is not refused will do; the budget plays no part.
+ * The result is 0. Refusals: 50; 20 to 27; 1, 3 to 7 and 11.
+ */
+uint64_t yolizadwa_log_start(const uint8_t *file, size_t file_len, uint8_t *state, size_t state_len);
+
+/*
+ * Judges the next bytes of a log. The table is judged once a call, so that longer pieces cost less a byte. Hand over the file that the
+ * log was started with. Refusals: 50; 20 to 27; 1, 3 to 7 and 11; 8, of the dispatcher's state as by a step, and then at 34. The piece is only
+ * read, and must not overlap the state.
+ */
+uint64_t yolizadwa_log_feed(const uint8_t *file, size_t file_len, uint8_t *state, size_t state_len, const uint8_t *piece,
+                            size_t piece_len);
+
+/*
+ * Finishes a log: the result is the answer. It stays in the state, so that a second finish says the same. Refusals: as by a feed.
+ */
+uint64_t yolizadwa_log_finish(const uint8_t *file, size_t file_len, uint8_t *state, size_t state_len);
 
 #ifdef __cplusplus
 }

@@ -2,6 +2,7 @@
 //!
 //! Either way stack.c makes them, which is compiled against include/yolizadwa.h.
 
+use crate::logbook::LOG_BYTES;
 use crate::plain::LONGEST_TEXT;
 use crate::reference::{LONGEST_FILE, REPORT_BYTES, STATE_BYTES};
 
@@ -19,9 +20,12 @@ pub enum Call {
     CheckPlainly,
     Eased,
     Largest,
+    LogStart,
+    LogFeed,
+    LogFinish,
 }
 
-pub const CALLS: [(Call, &str); 11] = [
+pub const CALLS: [(Call, &str); 14] = [
     (Call::Check, "check"),
     (Call::Start, "start"),
     (Call::Step, "step"),
@@ -33,16 +37,19 @@ pub const CALLS: [(Call, &str); 11] = [
     (Call::CheckPlainly, "check plainly"),
     (Call::Eased, "eased"),
     (Call::Largest, "largest"),
+    (Call::LogStart, "log start"),
+    (Call::LogFeed, "log feed"),
+    (Call::LogFinish, "log finish"),
 ];
 
 #[derive(Clone, Debug)]
 pub struct Request {
     pub call: Call,
-    /// What is read: a file, a text, or to write the bytes of the words.
+    /// What is read: a file, a text, to write the bytes of the words, or a file and behind it the piece of a log.
     pub file: Vec<u8>,
     /// What is written, or the second file that is read, and then must stay.
     pub buffer: Vec<u8>,
-    /// A step's done, the budget to write, the task that is asked for.
+    /// A step's done, the budget to write, the task that is asked for, where the file ends before the piece of a log.
     pub number: u64,
 }
 
@@ -91,6 +98,18 @@ impl Request {
 
     pub fn largest(file: Vec<u8>, task: u32) -> Request {
         Request { call: Call::Largest, file, buffer: Vec::new(), number: u64::from(task) }
+    }
+
+    pub fn log_start(file: Vec<u8>) -> Request {
+        Request { call: Call::LogStart, file, buffer: vec![0xE7; LOG_BYTES], number: 0 }
+    }
+
+    pub fn log_feed(file: &[u8], log: Vec<u8>, piece: &[u8]) -> Request {
+        Request { call: Call::LogFeed, file: [file, piece].concat(), buffer: log, number: file.len() as u64 }
+    }
+
+    pub fn log_finish(file: Vec<u8>, log: Vec<u8>) -> Request {
+        Request { call: Call::LogFinish, file, buffer: log, number: 0 }
     }
 }
 

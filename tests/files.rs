@@ -4,6 +4,7 @@ use crate::bench::Bench;
 use crate::calls::{Call, Request};
 use crate::document::{B, J, TOO_LONG};
 use crate::inputs::*;
+use crate::logbook::Log;
 use crate::reference::{self, button, periodic, Task, TASKS};
 
 /// What was read from a file, written: the same bytes, if the table is not refused.
@@ -37,8 +38,17 @@ pub fn ask_all(bench: &mut Bench, file: &[u8]) {
     }
     bench.ask(Request::start(file.to_vec()));
     bench.ask(Request::step(file.to_vec(), reference::start(&tasks).to_bytes(), 1));
+    ask_log(bench, file, &tasks);
     ask_rewritten(bench, file);
     bench.ask(Request::to_text(file.to_vec()));
+}
+
+/// A log's calls, from the table's start where it has one.
+fn ask_log(bench: &mut Bench, file: &[u8], tasks: &[Task]) {
+    let log = Log::start(tasks).to_bytes();
+    bench.ask(Request::log_start(file.to_vec()));
+    bench.ask(Request::log_feed(file, log.clone(), &[17, 18, 16, 0, 19]));
+    bench.ask(Request::log_finish(file.to_vec(), log));
 }
 
 fn most(rng: &mut Rng) -> Vec<Task> {
@@ -162,7 +172,7 @@ pub fn buffers(bench: &mut Bench, rng: &mut Rng) {
     let files = [b.clone(), b[..20].to_vec(), Vec::new(), none, long, file_of(9, &with_a_button()[1])];
     let lengths = (0..=1_100).chain([4_096, 65_534, 65_535, 65_536, 65_537, 65_680, 70_000, 131_072]);
     for length in lengths {
-        for call in [Call::Check, Call::Start, Call::Step] {
+        for call in [Call::Check, Call::Start, Call::Step, Call::LogStart, Call::LogFinish] {
             let file = rng.pick(&[0, 0, 1, 2, 3, 4, 5]);
             let buffer = (0..length).map(|_| rng.below(3) as u8).collect();
             bench.ask(Request { call, file: files[file as usize].clone(), buffer, number: 0 });

@@ -13,6 +13,8 @@ mod files;
 mod inputs;
 mod judge;
 mod largest;
+mod logbook;
+mod logs;
 mod papers;
 mod plain;
 mod randoms;
@@ -77,6 +79,15 @@ fn judging(bench: &mut Bench, rng: &mut Rng, count: u64) {
     runs::runs(bench, rng, count);
 }
 
+fn logs_judged(bench: &mut Bench, rng: &mut Rng, count: u64) {
+    logs::by_hand(bench);
+    logs::short_ones(bench);
+    logs::at_the_limit(bench);
+    logs::at_random(bench, rng, count / 20);
+    logs::from_any_state(bench, rng, count / 2);
+    logs::good_is_in_time(bench, rng, count / 40);
+}
+
 fn writing(bench: &mut Bench, rng: &mut Rng, count: u64) {
     document::written(bench);
     writer::rows(bench, rng);
@@ -113,6 +124,7 @@ fn main() -> ExitCode {
     let (mut bench, mut rng) = (Bench::new(), Rng(seed));
     judging(&mut bench, &mut rng, count);
     writing(&mut bench, &mut rng, count);
+    logs_judged(&mut bench, &mut rng, count);
     what_is_shipped(&mut bench, &mut rng);
     ExitCode::from(!bench.end() as u8)
 }

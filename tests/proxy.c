@@ -144,6 +144,32 @@ uint64_t yolizadwa_largest(const uint8_t *file, size_t file_len, uint32_t task)
     return forward(LARGEST, file, file_len, &nothing, 0, task);
 }
 
+uint64_t yolizadwa_log_start(const uint8_t *file, size_t file_len, uint8_t *state, size_t state_len)
+{
+    return forward(LOG_START, file, file_len, state, state_len, 0);
+}
+
+/* The table's file and the piece as one. */
+uint64_t yolizadwa_log_feed(const uint8_t *file, size_t file_len, uint8_t *state, size_t state_len, const uint8_t *piece,
+                            size_t piece_len)
+{
+    uint8_t *both = malloc(file_len + piece_len + 1);
+    uint64_t result;
+    if (both == NULL) {
+        fail("no memory");
+    }
+    memcpy(both, file, file_len);
+    memcpy(both + file_len, piece, piece_len);
+    result = forward(LOG_FEED, both, file_len + piece_len, state, state_len, file_len);
+    free(both);
+    return result;
+}
+
+uint64_t yolizadwa_log_finish(const uint8_t *file, size_t file_len, uint8_t *state, size_t state_len)
+{
+    return forward(LOG_FINISH, file, file_len, state, state_len, 0);
+}
+
 /* From a copy, since the bridge hands every buffer back. */
 uint64_t yolizadwa_eased(const uint8_t *before, size_t before_len, const uint8_t *after, size_t after_len)
 {

@@ -2,6 +2,7 @@
 
 use crate::calls::{Call, Request};
 use crate::inputs::file_of;
+use crate::logbook::{Log, LOG_BYTES};
 use crate::plain;
 
 pub const TASKS: usize = 32;
@@ -52,11 +53,11 @@ pub fn refuse<T>(number: u64, place: usize) -> Result<T, Refusal> {
 
 // The table file.
 
-fn word(bytes: &[u8], index: usize) -> u32 {
+pub fn word(bytes: &[u8], index: usize) -> u32 {
     u32::from_le_bytes(bytes[4 * index..4 * index + 4].try_into().unwrap())
 }
 
-fn long(bytes: &[u8], at: usize) -> u64 {
+pub fn long(bytes: &[u8], at: usize) -> u64 {
     u64::from_le_bytes(bytes[at..at + 8].try_into().unwrap())
 }
 
@@ -669,7 +670,7 @@ impl State {
     }
 
     /// The slots given to the table's tasks, and the empty ones.
-    fn counted(&self, tasks: &[Task]) -> u128 {
+    pub fn counted(&self, tasks: &[Task]) -> u128 {
         self.given[..tasks.len()].iter().chain(&[self.empty]).map(|&slots| u128::from(slots)).sum()
     }
 }
@@ -689,7 +690,7 @@ fn strange(task: &Task, wait: u32, left: u32) -> bool {
         || open && (wait < task.period - task.deadline || wait > task.period - 1)
 }
 
-fn belongs(tasks: &[Task], state: &State) -> Result<(), Refusal> {
+pub fn belongs(tasks: &[Task], state: &State) -> Result<(), Refusal> {
     for (number, task) in tasks.iter().enumerate() {
         if strange(task, state.wait[number], state.left[number]) {
             return refuse(8, number);
@@ -771,18 +772,27 @@ fn check_buffer(request: &Request) -> Result<(), Refusal> {
     match request.call {
         Call::Check | Call::CheckPlainly if length < REPORT_BYTES => refuse(30, length),
         Call::Start | Call::Step if length != STATE_BYTES => refuse(50, length.min(LARGEST_PLACE)),
+        Call::LogStart | Call::LogFeed | Call::LogFinish if length != LOG_BYTES => refuse(50, length.min(LARGEST_PLACE)),
         _ => Ok(()),
     }
 }
 
 fn read_table(request: &Request) -> Result<(u64, Vec<Task>), Refusal> {
     check_buffer(request)?;
-    let (budget, tasks) = read_file(&request.file)?;
+    let (budget, tasks) = read_file(file_in(request))?;
     match request.call {
         Call::ToText | Call::Distance => judge(&tasks)?,
         _ => judge_periodic(&tasks)?,
     }
     Ok((budget, tasks))
+}
+
+/// The table's file, without the piece of a log that may stand behind it.
+fn file_in(request: &Request) -> &[u8] {
+    match request.call {
+        Call::LogFeed => &request.file[..request.number as usize],
+        _ => &request.file,
+    }
 }
 
 /// A row of words: its kind, then a task's numbers, or a 0 and a button's.
@@ -855,6 +865,17 @@ fn answered(request: &Request) -> Result<(u64, Vec<u8>), Refusal> {
         Call::Largest => {
             let (budget, tasks) = read_table(request)?;
             Ok((largest(&tasks, asked_task(request, &tasks)?, budget), Vec::new()))
+        }
+        Call::LogStart => Ok((0, Log::start(&read_table(request)?.1).to_bytes())),
+        Call::LogFeed | Call::LogFinish => {
+            let (_, tasks) = read_table(request)?;
+            let mut log = Log::from_bytes(&request.buffer);
+            log.belongs(&tasks)?;
+            match request.call {
+                Call::LogFeed => request.file[request.number as usize..].iter().for_each(|&byte| log.read(&tasks, byte)),
+                _ => log.finish(),
+            }
+            Ok((log.told(), log.to_bytes()))
         }
     }
 }

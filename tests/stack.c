@@ -14,6 +14,8 @@ _Static_assert(YOLIZADWA_KIND_BUTTON == 4 && YOLIZADWA_HAS_BUTTON == 11, "as doc
 _Static_assert(YOLIZADWA_NO_SUCH_TASK == 12 && YOLIZADWA_LARGEST_OVERLOAD == 60001 && YOLIZADWA_LARGEST_UNDECIDED == 60002 && YOLIZADWA_LARGEST_LATE == 60003, "as the tests have it");
 _Static_assert(sizeof(struct yolizadwa_state) == YOLIZADWA_STATE_BYTES && offsetof(struct yolizadwa_state, given) == 272, "as the library lays a state out");
 
+_Static_assert(sizeof(struct yolizadwa_log) == YOLIZADWA_LOG_BYTES && offsetof(struct yolizadwa_log, opened) == YOLIZADWA_STATE_BYTES && offsetof(struct yolizadwa_log, slots) == 552, "as the library lays a log out");
+
 enum { ROOM = 1 << 18, MOST_WORDS = 400000 };
 
 static _Alignas(16) uint8_t room[ROOM];
@@ -54,6 +56,9 @@ uint64_t plain_call(uint32_t call, const uint8_t *file, size_t file_len, uint8_t
     case DISTANCE: return yolizadwa_distance(file, file_len);
     case EASED: return yolizadwa_eased(file, file_len, buffer, buffer_len);
     case LARGEST: return yolizadwa_largest(file, file_len, (uint32_t)number);
+    case LOG_START: return yolizadwa_log_start(file, file_len, buffer, buffer_len);
+    case LOG_FEED: return yolizadwa_log_feed(file, (size_t)number, buffer, buffer_len, file + number, file_len - (size_t)number);
+    case LOG_FINISH: return yolizadwa_log_finish(file, file_len, buffer, buffer_len);
     default: return yolizadwa_check_plainly(file, file_len, buffer, buffer_len);
     }
 }

@@ -3,6 +3,7 @@
 use crate::bench::Bench;
 use crate::calls::Request;
 use crate::inputs::{file_of, rows_of};
+use crate::logbook::{camera_log, Log};
 use crate::plain;
 use crate::program;
 use crate::reference::{self, button, periodic, Task, LONGEST_FILE, TASKS};
@@ -87,6 +88,9 @@ pub fn stack(bench: &mut Bench) {
     deepest_largest(bench, &files);
     deepest(bench, "start", &starts);
     deepest(bench, "step", &steps);
+    deepest(bench, "log start", &files.iter().cloned().map(Request::log_start).collect::<Vec<_>>());
+    deepest(bench, "log feed", &files.iter().flat_map(|file| hard_logs(file)).collect::<Vec<_>>());
+    deepest(bench, "log finish", &files.iter().flat_map(|file| hard_finishes(file)).collect::<Vec<_>>());
     deepest(bench, "write", &writes);
     deepest(bench, "from text", &hard_texts());
     deepest(bench, "to text", &files.into_iter().map(Request::to_text).collect::<Vec<_>>());
@@ -127,6 +131,31 @@ fn hard_steps(file: Vec<u8>) -> Vec<Request> {
     }
     strange.last = 99;
     [first, due, strange].iter().map(|state| Request::step(file.clone(), state.to_bytes(), 1)).collect()
+}
+
+/// States of logs: at the start, with every job at its deadline and a task's number to come, and one that is refused.
+fn hard_states(file: &[u8]) -> Vec<Vec<u8>> {
+    let tasks = reference::read_file(file).map_or(Vec::new(), |(_, tasks)| tasks);
+    let first = Log::start(&tasks);
+    let (mut due, mut strange) = (Log { opened: true, done: true, bytes: 1, ..first }, first);
+    for (number, task) in tasks.iter().enumerate() {
+        due.state.left[number] = task.cost;
+        due.state.wait[number] = task.period - task.deadline.min(task.period);
+    }
+    strange.slots = 1;
+    [first, due, strange].iter().map(|log| log.to_bytes()).collect()
+}
+
+/// Each of them with a piece that goes on for some slots.
+fn hard_logs(file: &[u8]) -> Vec<Request> {
+    let tasks = reference::read_file(file).map_or(Vec::new(), |(_, tasks)| tasks);
+    let good = reference::judge(&tasks).is_ok();
+    let piece = if good { camera_log(&tasks, &[true; 50]) } else { vec![17; 50] };
+    hard_states(file).into_iter().flat_map(|log| [Request::log_feed(file, log.clone(), &piece), Request::log_feed(file, log, &[0, 19])]).collect()
+}
+
+fn hard_finishes(file: &[u8]) -> Vec<Request> {
+    hard_states(file).into_iter().map(|log| Request::log_finish(file.to_vec(), log)).collect()
 }
 
 /// Whole, into a short buffer, without the last word, with a last row of another kind, and with a task more.
