@@ -19,7 +19,7 @@ use Rattle.model.specs.Limits.{taskLimit, slotCountLimit}
 use Rattle.model.specs.Values.{refusal}
 use Rattle.model.specs.Notation.{sum, largest, count, first}
 use Rattle.model.specs.Tasks.{taskFault, firstFaulty, firstButton, round, load, horizon, judgedMixed, judged}
-use Rattle.model.specs.TableFile.{eight, readFrom, formOf, loadedFrom, periodicFrom}
+use Rattle.model.specs.TableFile.{eight, readFrom, formOf, periodicFrom}
 use Rattle.model.specs.Dispatcher.{admitted, turn, started, stepped}
 use Rattle.model.specs.Report.{Exported, refused}
 use Rattle.model.specs.Examples.{table-g, file-g}

@@ -14,7 +14,7 @@ use Rattle.values.specs.declared.Task.{Task}
 use Rattle.values.specs.declared.Admission.{Admission}
 use Rattle.values.specs.declared.Loaded.{Loaded}
 use Rattle.model.specs.Limits.{taskLimit, wordLimit, budgetLimit, budgetBytes, taskBytes, buttonBytes}
-use Rattle.model.specs.Tasks.{noTask, buttonSort, isButton, sortOffset, offset}
+use Rattle.model.specs.Tasks.{noTask, buttonSort, isButton, offset}
 use Rattle.model.specs.TableFile.{budgetKind, taskKind, endKind, buttonKind, four, eight, taskIn, buttonIn, refuseFile, admit, whole, readRecord, readFrom, formOf, bytesOf, taskRecord, taskRecords, fileOf}
 use Rattle.tablefile.specs.Reading.{recordSize, recordBytes, bodyIn, record-size}
 use Rattle.tablefile.specs.Part.{task-part}

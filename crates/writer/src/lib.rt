@@ -1,7 +1,7 @@
 // The table file of a table and a budget, written into a lent buffer.
 ghost use mathlib.Core.Path.{_≡_};
 ghost use mathlib.Core.List.{[], _∷_};
-ghost use Prim.Native.Nat.{_+_, _*_, _≤_, _<_};
+ghost use Prim.Native.Nat.{_+_, _≤_, _<_};
 ghost use lib.ListN.{length};
 ghost use Rattle.model.specs.Limits.{taskLimit, budgetBytes};
 ghost use Rattle.model.specs.TableFile.{budgetRecord, sortBytes, taskRecord, taskRecords, fileOf};

@@ -1,6 +1,5 @@
 -- With a periodic task their patterns decide, and else the quick test.
 use mathlib.Core.Path.{sym, _∙_}
-use borrow.Author.Needs.{needs}
 use Rattle.wellformed.specs.WellFormed.{well-mixed}
 use Rattle.distance.specs.Passing.{quick-decides}
 use Rattle.distance.proofs.all_calm.Statement.{statement}

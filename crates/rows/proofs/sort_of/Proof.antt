@@ -1,4 +1,3 @@
-use borrow.Author.Needs.{needs}
 use borrow.Author.Tests.{eq-eqb, ne-eqb}
 use Rattle.rows.proofs.sort_of.Statement.{statement}
 use Rattle.rows.proofs.sort_of.Tie as tie

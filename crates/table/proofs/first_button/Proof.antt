@@ -1,9 +1,8 @@
 -- None of the tasks read is a button.
-use mathlib.Core.Path.{sym, subst}
+use mathlib.Core.Path.{sym}
 use mathlib.Core.Bool.{Bool}
 use Prim.Native.Nat.{ℕ, _-_, _≤_}
 use native.Mathlib.Omega.{arith}
-use lib.Dec.{T}
 use borrow.Author.Needs.{needs}
 use Rattle.values.specs.declared.Table.{Table}
 use Rattle.model.specs.Tasks.{task, isButton, firstButton}

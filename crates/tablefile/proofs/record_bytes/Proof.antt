@@ -1,8 +1,6 @@
-use mathlib.Core.Path.{ap}
-use mathlib.Core.Bool.{Bool}
 use native.Mathlib.Omega.{arith}
 use borrow.Author.Needs.{needs}
-use Rattle.tablefile.specs.Reading.{recordSize, record-size}
+use Rattle.tablefile.specs.Reading.{record-size}
 use Rattle.tablefile.proofs.record_bytes.Statement.{statement}
 use Rattle.tablefile.proofs.record_bytes.Tie as tie
 

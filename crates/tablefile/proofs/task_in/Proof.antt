@@ -1,5 +1,4 @@
 use native.Mathlib.Omega.{arith}
-use borrow.Author.Needs.{needs}
 use Rattle.tablefile.proofs.task_in.Statement.{statement}
 use Rattle.tablefile.proofs.task_in.Tie as tie
 
