@@ -1,5 +1,5 @@
 // How long the distance test takes beside the exact one where the round is long, and how many of the tables that pass it
-// passes, as source 000 counts them in its figures 8 to 12. Built and run by bench/distance.
+// passes, as Pellizzoni and Lipari count them in their figures 8 to 12. Built and run by bench/distance.
 use std::hint::black_box;
 
 mod calls;
@@ -72,7 +72,7 @@ struct Setting {
     deadlines: (f64, f64),
 }
 
-// As source 000 draws them: periods of 10 to 200 with a common divisor, costs by the shares, offsets below the period. What
+// As Pellizzoni and Lipari draw them: periods of 10 to 200 with a common divisor, costs by the shares, offsets below the period. What
 // no table can be, or has too long a round, is drawn again.
 fn drawn(rng: &mut Rng, setting: &Setting, load: f64) -> Vec<Task> {
     loop {

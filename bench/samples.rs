@@ -78,7 +78,7 @@ pub fn long_round() -> Vec<Task> {
     vec![task(60000, 20000, 50000, 60000), task(0, 20000, 55000, 59996)]
 }
 
-// Of document 01 those that pass within some slots: a, e, g, j and b.
+// Of the specification's tables those that pass within some slots: a, e, g, j and b.
 pub fn tiny_tables() -> Vec<(&'static str, Vec<Task>)> {
     vec![
         ("1 task, period 1", vec![task(0, 1, 1, 1)]),

@@ -226,13 +226,13 @@ pub fn calls(bench: &mut Bench, rng: &mut Rng, count: u64) {
     bench.end_group("every call on tables with buttons");
 }
 
-/// Without a button the answer is T-05's, and where it is pass the table passes.
+/// Without a button the answer is that of periodic tasks alone, and where it is pass the table passes.
 pub fn without_buttons(bench: &mut Bench, rng: &mut Rng, count: u64) {
     let tables: Vec<Vec<Task>> = (0..count).map(|_| near_border(rng)).collect();
     for batch in tables.chunks(BATCH) {
         for (tasks, answer) in batch.iter().zip(answers(bench, batch)) {
             let known = reference::by_periodic_distance(tasks);
-            bench.count(answer == known, || format!("distance of {tasks:?}: {answer}, and by T-05 {known}"));
+            bench.count(answer == known, || format!("distance of {tasks:?}: {answer}, and without buttons {known}"));
             if answer == PASS {
                 bench.count(!some_run_is_late(rng, tasks), || format!("pass of {tasks:?}, and its run is late"));
             }

@@ -1,4 +1,4 @@
-//! What document 01, and document 02 where it has changed it, give by the letter: tables and reports, dispatcher runs, refusals with their places.
+//! What the specification gives by the letter: tables and reports, dispatcher runs, refusals with their places.
 
 use crate::bench::Bench;
 use crate::calls::Request;
@@ -20,7 +20,7 @@ pub const G: Rows = &[(0, 2, 4, 4), (0, 2, 4, 4)];
 const H: Rows = &[(4, 1, 1, 2), (0, 2, 3, 4)];
 const I: Rows = &[(0, 3, 5, 5), (2, 3, 5, 5)];
 pub const J: Rows = &[(4, 1, 1, 2)];
-/// Document 02's of the lamp, where equal deadlines go to the shorter period.
+/// The lamp's, where equal deadlines go to the shorter period.
 const LAMP: Rows = &[(0, 4, 6, 6), (3, 1, 3, 3)];
 const LONG: Rows = &[(0, 1, 31_623, 31_623), (0, 1, 31_624, 31_624)];
 const LONGER: Rows = &[(0, 1, 281, 281), (0, 1, 59_641, 59_641), (0, 1, 59_669, 59_669)];
@@ -62,13 +62,13 @@ const REPORTS: &[(Rows, u64, &str)] = &[
     ),
 ];
 
-/// Source 000, after theorem 2: it passes, but not by its distances.
+/// A published one: it passes, but not by its distances.
 const NOT_BY_DISTANCE: Rows = &[(0, 1, 2, 5), (1, 1, 2, 4), (2, 1, 2, 6)];
 
 /// It passes; of its patterns one misses a deadline, though none by what is asked for from 0 on.
 const NOT_FROM_0: Rows = &[(2, 1, 1, 6), (1, 2, 4, 4), (0, 1, 1, 6)];
 
-/// The offsets and periods of request T-05.
+/// The offsets and periods of section 3.8.
 const REQUESTED: Rows = &[(0, 1, 1, 3), (1, 1, 1, 4), (2, 1, 1, 6)];
 
 /// Tables, whether the quick test passes them, and what the distance test says: 2 for overload, 1 for pass, 0 for none.
@@ -90,7 +90,7 @@ const ANSWERS: &[(Rows, u64, u64)] = &[
     (NOT_BY_DISTANCE, 0, 0),
 ];
 
-/// T-12: tables with a budget and a task, and its largest cost, or what is said where there is none.
+/// Section 3.11: tables with a budget and a task, and its largest cost, or what is said where there is none.
 const LARGEST_COSTS: &[(Rows, u64, u32, u64)] = &[
     (A, 1_000, 0, 1),
     (B, 1_000, 0, 5),
@@ -118,7 +118,7 @@ const LARGEST_COSTS: &[(Rows, u64, u32, u64)] = &[
     (&[(0, 1, 59_999, 60_000), (0, 1, 60_000, 60_000)], 120_000, 1, 59_999),
 ];
 
-/// T-13: tables with buttons, and what the distance test says of them, as above.
+/// Section 3.8: tables with buttons, and what the distance test says of them, as above.
 fn with_buttons() -> Vec<(Vec<Task>, u64)> {
     let (b, e, g) = (table_of(B), table_of(E), table_of(G));
     vec![
@@ -173,7 +173,7 @@ pub fn buttons(bench: &mut Bench) {
         has_a_button(bench, &file_of(1, &tasks), place as u64);
         ask_all(bench, &file_of(1, &tasks));
     }
-    bench.end_group("document 02's buttons");
+    bench.end_group("the specification's buttons");
 }
 
 /// A task that the table has not is told behind the table's refusals and before any verdict.
@@ -202,7 +202,7 @@ pub fn largest_costs(bench: &mut Bench) {
             refused_with(bench, Request::largest(file.clone(), task), number, place);
         }
     }
-    bench.end_group("document 02's largest costs");
+    bench.end_group("the specification's largest costs");
 }
 
 fn report_is(bench: &mut Bench, rows: Rows, budget: u64, report: &str) {
@@ -234,7 +234,7 @@ pub fn tables(bench: &mut Bench) {
         let counted = reference::distance(&tasks[first], &tasks[second]);
         bench.count(counted == distance, || format!("distance of {second} from {first}: {counted}, not {distance}"));
     }
-    bench.end_group("the documents' tables");
+    bench.end_group("the specification's tables");
 }
 
 /// A row of steps from the start, each with its done report and what it must give: owner; late, closed, lowest.
@@ -259,7 +259,7 @@ pub fn steps(bench: &mut Bench) {
     steps_are(bench, G, &[(0, 0, none), (1, 1, none), (0, 1, none), (0, NONE, none), (0, 0, none)]);
     steps_are(bench, F, &[(0, 0, none), (0, NONE, [2, 1, 1])]);
     steps_are(bench, LAMP, &[(0, 0, none), (0, 0, none), (0, 0, none), (0, 1, none), (0, 0, none), (0, NONE, none)]);
-    bench.end_group("the documents' dispatcher");
+    bench.end_group("the specification's dispatcher");
 }
 
 /// Files that are refused, with number and place.
@@ -297,7 +297,7 @@ fn refused_files() -> Vec<(Vec<u8>, u64, u64)> {
     ]
 }
 
-/// T-13: files with buttons that are refused by every call, with number and place.
+/// Files with buttons that are refused by every call, with number and place.
 fn refused_buttons() -> Vec<(Vec<u8>, u64, u64)> {
     let (b, press) = (file_of(38, &table_of(B)), task_record(&button(1, 9, 20)));
     let beside = |cost, deadline, spacing| file_of(9, &[periodic(0, 1, 2, 3), button(cost, deadline, spacing)]);
@@ -328,7 +328,7 @@ fn refused_buttons() -> Vec<(Vec<u8>, u64, u64)> {
     files
 }
 
-/// T-10: a whole budget of 0 before anything behind it, cut short, and as a second one.
+/// Section 4.2: a whole budget of 0 before anything behind it, cut short, and as a second one.
 fn files_of_nothing() -> Vec<(Vec<u8>, u64, u64)> {
     let (nothing, b) = (budget_record(0), file_of(38, &table_of(B)));
     let behind: [&[u8]; 7] = [&[], &[9], &[1], &[2], &[3], &[3, 3], &b[9..]];
@@ -362,7 +362,7 @@ fn strange_states() -> Vec<(State, u64)> {
     changes.iter().map(|(change, place)| (changed(change), *place)).collect()
 }
 
-/// Request T-09 on table b, with counts of task 0, of task 1, behind the last task, and of the empty slots: what is refused, and by which
+/// Section 5.2 on table b, with counts of task 0, of task 1, behind the last task, and of the empty slots: what is refused, and by which
 /// number and place; else the state is stepped, and the counts behind the last task stay.
 /// With as many tasks as there can be, about the last slot that can be counted, had by the last task or by none.
 fn full_tables(bench: &mut Bench) {
@@ -445,7 +445,7 @@ pub fn accounts(bench: &mut Bench) {
         }
     }
     full_tables(bench);
-    bench.end_group("document 02's counts of slots");
+    bench.end_group("the specification's counts of slots");
 }
 
 pub fn refusals(bench: &mut Bench) {
@@ -504,7 +504,7 @@ fn refused_rows() -> Vec<(Vec<u32>, u64, u64)> {
     ]
 }
 
-/// The tables of document 01 as their files lie in tables/, and what is refused, into a buffer that is too short too.
+/// The specification's tables as their files lie in tables/, and what is refused, into a buffer that is too short too.
 pub fn written(bench: &mut Bench) {
     for (rows, name) in [A, B, C, D, E, F, G, H, I, J].into_iter().zip('a'..='j') {
         let file = std::fs::read(format!("tables/{name}.table")).expect("tables/ is there");
@@ -522,5 +522,5 @@ pub fn written(bench: &mut Bench) {
         refused_with(bench, Request::write(&words, 0), number, place);
         refused_with(bench, Request { buffer: Vec::new(), ..Request::write(&words, 1_000) }, number, place);
     }
-    bench.end_group("document 01's tables, written");
+    bench.end_group("the specification's tables, written");
 }

@@ -85,7 +85,7 @@ fn request(rng: &mut Rng, (old, new): &(Vec<Task>, Vec<Task>)) -> Request {
     Request::eased(file_of(any_budget(rng), old), file_of(any_budget(rng), new))
 }
 
-/// Document 02's tables, and each answer once.
+/// The specification's tables, and each answer once.
 pub fn by_hand(bench: &mut Bench) {
     let (b, e) = (table_of(B), table_of(E));
     let file = |rows: &[(u32, u32, u32, u32)]| file_of(7, &table_of(rows));

@@ -1,4 +1,4 @@
-//! The judge of a camera's log once more, written from request T-14 of document 02 alone: byte by byte from any state, and by whole
+//! The judge of a camera's log once more, written from section 6 of the specification alone: byte by byte from any state, and by whole
 //! records from the start.
 
 use crate::reference::{self, long, refuse, word, Refusal, State, Task, NONE, STATE_BYTES, TASKS};

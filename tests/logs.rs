@@ -10,7 +10,7 @@ use crate::reference::{self, Task, Verdict, NONE};
 
 type Rows = &'static [(u32, u32, u32, u32)];
 
-/// A table, a log, and document 02's answer.
+/// A table, a log, and the specification's answer.
 const BY_HAND: &[(Rows, &[u8], Found)] = &[
     (G, &[16, 0, 18, 16, 1, 16, 1, 17, 16, 0, 19], (GOOD, 0)),
     (G, &[19], (GOOD, 0)),
@@ -69,7 +69,7 @@ pub fn by_hand(bench: &mut Bench) {
     for &(rows, log, answer) in BY_HAND {
         ask_all_cuts(bench, &table_of(rows), log, answer);
     }
-    bench.end_group("document 02's logs");
+    bench.end_group("the specification's logs");
 }
 
 /// Every log of up to four bytes of these, on two tables: first by whole records, then by the library at every cut.

@@ -1,4 +1,4 @@
-//! Host tests: the exported calls, the program judge and the command against an independent implementation of document 01,
+//! Host tests: the exported calls, the program judge and the command against an independent implementation of the specification,
 //! and what docs/PROMISES.md names against the tree.
 //!
 //! Run by tests/run from the repository's root, with an optional seed and count of inputs for each call.

@@ -1,4 +1,4 @@
-//! Documents 01 and 02 once more, written from their text alone: lists of jobs and counted demand.
+//! The specification once more, written from its text alone: lists of jobs and counted demand.
 
 use crate::calls::{Call, Request};
 use crate::inputs::file_of;
@@ -171,7 +171,7 @@ pub fn has_button(tasks: &[Task]) -> bool {
     tasks.iter().any(|task| task.button)
 }
 
-/// What the exact test, its report, the quick test, T-11, T-12 and the dispatcher take: periodic tasks alone.
+/// What the exact test, its report, the quick test, easing, the largest cost and the dispatcher take: periodic tasks alone.
 pub fn judge_periodic(tasks: &[Task]) -> Result<(), Refusal> {
     judge(tasks)?;
     tasks.iter().position(|task| task.button).map_or(Ok(()), |first| refuse(11, first))
@@ -420,13 +420,13 @@ pub fn distance_by_releases(one: &Task, other: &Task) -> u32 {
     releases(one).into_iter().filter_map(after).min().unwrap()
 }
 
-/// T-05, of periodic tasks: for each task as first, it at 0, and every other at its distance.
+/// Of periodic tasks alone: for each task as first, it at 0, and every other at its distance.
 fn patterns(tasks: &[Task]) -> Vec<Vec<Task>> {
     let from = |first: &Task| tasks.iter().map(|task| Task { offset: distance(first, task), ..*task }).collect();
     tasks.iter().map(from).collect()
 }
 
-/// T-13: for each periodic task as first, it at 0, every other one at its distance, and every button at 0; with none, all at 0. A
+/// For each periodic task as first, it at 0, every other one at its distance, and every button at 0; with none, all at 0. A
 /// button comes as soon as it may again, so each pattern is one of periodic tasks.
 fn mixed_patterns(tasks: &[Task]) -> Vec<Vec<Task>> {
     let start = |first: &Task, task: &Task| if task.button { 0 } else { distance(first, task) };
@@ -458,7 +458,7 @@ pub fn by_distance_within(tasks: &[Task], slots: u64) -> Option<u64> {
     calm_patterns_within(tasks, &mixed_patterns(tasks), slots)
 }
 
-/// T-05's test, which knows no buttons.
+/// The distance test as it is without buttons.
 pub fn by_periodic_distance(tasks: &[Task]) -> u64 {
     calm_patterns_within(tasks, &patterns(tasks), u64::MAX).expect("each run is caught up within a round")
 }

@@ -1,4 +1,4 @@
--- NO THEOREM OF THIS CRATE IS EMPTY: what they ask for is met by tables of document 01.
+-- NO THEOREM OF THIS CRATE IS EMPTY: what they ask for is met by tables of the specification.
 use mathlib.Core.Path.{_≡_, refl, ap}
 use mathlib.Core.Logic.{inr, _⊎_, _↔_}
 use mathlib.Core.List.{[], _∷_}

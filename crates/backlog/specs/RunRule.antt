@@ -1,4 +1,4 @@
--- THE RUN'S RULE (`run-rule`), in document 01's words: the slot goes to the waiting job with the earliest deadline, ties by the order; to none only if none waits.
+-- THE RUN'S RULE (`run-rule`), in the specification's words: the slot goes to the waiting job with the earliest deadline, ties by the order; to none only if none waits.
 use mathlib.Core.Path.{_≡_, refl, ap}
 use mathlib.Core.Logic.{_⊎_, inl, inr}
 use Prim.Native.Nat.{ℕ, suc, _*_, _≤_, _<_}

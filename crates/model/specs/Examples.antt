@@ -1,4 +1,4 @@
--- Document 01's tables and worked numbers, by computing. Each row of "Slips that look right" has one that would catch it.
+-- The specification's tables and worked numbers (section 10), by computing. Each row of "Slips that look right" has one that would catch it.
 use mathlib.Core.Path.{_≡_, refl}
 use mathlib.Core.List.{List, [], _∷_, _++_, map}
 use mathlib.Core.Logic.{inl, inr}
@@ -39,7 +39,7 @@ count-limits = refl
 abbrev pub padded : ℕ → List ℕ → List ℕ
 padded x w = w ++ replicate (taskLimit - length w) x
 
--- A task as document 01 writes it, and its tables.
+-- A task as the specification writes it, and its tables.
 abbrev pub of : ℕ → ℕ → ℕ → ℕ → Task
 of o c d t = record { sort = Sort.Periodic o; cost = c; deadline = d; period = t }
 
@@ -103,7 +103,7 @@ unfolding judged judgedMixed firstButton firstFaulty taskFault first
 task-by-task = (refl, refl)
 
 -- Number 7 and its place. The search for an H so large is too long to compute, so it is given, and `wellformed/specs/AtLimit.antt` proves
--- it: document 02's periods, whose H was too large in document 01; the tables whose H is nearest to the limit, below and above; the
+-- it: two periods of the specification, whose H is above 10^9; the tables whose H is nearest to the limit, below and above; the
 -- limit itself, which no table has, and one more; and what is wrong with a task comes first.
 abbrev once : ℕ → Task
 once p = of 0 1 p p
@@ -168,7 +168,7 @@ offsets-count : map (λ t. demand t 0 7) (table-b ∷ table-d ∷ []) ≡ 4 ∷ 
 unfolding demand arrivedIn sum count
 offsets-count = refl
 
--- The closed formula of the source documents would name 0 to 3 on h: it invents two jobs of task 0 before its first release at 4.
+-- The published closed formula would name 0 to 3 on h: it invents two jobs of task 0 before its first release at 4.
 no-job-before-the-first : (jobsIn (of 4 1 1 2) 0 3 ≡ 0) × (asksTooMuch table-h 0 3 ≡ false)
 unfolding demand arrivedIn sum count
 no-job-before-the-first = (refl, refl)
@@ -259,7 +259,7 @@ ties :
 unfolding owner ownerOf served choose
 ties = (refl, refl)
 
--- The lamp's table of document 02: at 3 and at 9 both tasks have a job due by the end of the round, and the slot goes to task 1, whose
+-- The specification's table of the lamp: at 3 and at 9 both tasks have a job due by the end of the round, and the slot goes to task 1, whose
 -- period is shorter, though its number is higher. So the jobs of task 0 end at 5 and at 12; by the numbers it would be 4 and 11.
 abbrev pub table-lamp : Table
 table-lamp = tableOf (of 0 4 6 6 ∷ of 3 1 3 3 ∷ [])
@@ -322,7 +322,7 @@ unfolding distancePass distance commonDivisor calm startingAt fill firstIdle idl
 by-distance = refl
 
 -- A pattern misses a deadline by whatever interval, as one of the first table here does, where from 0 on no interval asks too much. The
--- second is source 000's, after theorem 2. Both pass.
+-- second is a published one. Both pass.
 not-by-distance : map distancePass (tableOf (of 2 1 1 6 ∷ of 1 2 4 4 ∷ of 0 1 1 6 ∷ []) ∷ tableOf (of 0 1 2 5 ∷ of 1 1 2 4 ∷ of 2 1 2 6 ∷ []) ∷ []) ≡ false ∷ false ∷ []
 unfolding distancePass distance commonDivisor calm startingAt fill firstIdle idleAt missedAt first last round load sum count served ownerOf choose
 not-by-distance = refl

@@ -1,4 +1,4 @@
--- What must be believed, in document 01's order.
+-- What must be believed, in the specification's order.
 pub mod Notation
 pub mod Limits
 pub mod Values

@@ -1,4 +1,4 @@
--- The limits of document 01 as request T-08 of document 02 raised them, each once.
+-- The limits of the specification (sections 2.3, 4.1, 5.2, 6.1 and 7.1), each once.
 use Rattle.model.specs.Notation.{ℕ, _+_, _*_}
 
 -- Tasks in a table. The same number stands for no task.

@@ -1,4 +1,4 @@
--- Logs of document 01's tables, by computing: each answer of request T-14, with its place.
+-- Logs of the specification's tables, by computing: each answer of its section 7.3, with its place.
 use mathlib.Core.Path.{_≡_, refl}
 use mathlib.Core.List.{List, [], _∷_, _++_, map}
 use mathlib.Core.Bool.{false}

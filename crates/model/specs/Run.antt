@@ -9,7 +9,7 @@ use Rattle.model.specs.Schedule.{none, job, Schedule, given}
 abbrev pub Order : Type 0
 Order = ℕ → ℕ
 
--- The order by which ties go: the shorter period (document 02, T-06), and so of one period the lower number.
+-- The order by which ties go: the shorter period, and so of one period the lower number.
 abbrev pub tieOrder : Table → Order
 tieOrder t i = task t i .period
 

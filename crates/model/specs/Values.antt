@@ -1,4 +1,4 @@
--- The values of crate `values` by their names, and each case of an answer as a list: document 01's number first (0, ours, where nothing is refused), then its values.
+-- The values of crate `values` by their names, and each case of an answer as a list: the specification's number first (0 where nothing is refused), then its values.
 use Rattle.model.specs.Notation.{List, [], _∷_, ℕ}
 pub use Rattle.values.specs.declared.Sort.{Sort}
 pub use Rattle.values.specs.declared.Task.{Task}
@@ -21,7 +21,7 @@ pub use Rattle.values.specs.declared.Turn.{Turn}
 pub use Rattle.values.specs.declared.Given.{Given}
 pub use Rattle.values.specs.declared.Finding.{Finding}
 
--- A verdict: its number in document 01's order, and the interval and demand of a late one.
+-- A verdict: its number in the order in which they are said, and the interval and demand of a late one.
 abbrev pub verdictSaid : Verdict → List ℕ
 verdictSaid Verdict.Overload = 1 ∷ []
 verdictSaid Verdict.Undecided = 2 ∷ []

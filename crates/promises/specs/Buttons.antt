@@ -1,4 +1,4 @@
--- TASKS THAT COME WHEN THEY LIKE, T-13 of document 02: pass is said only of tables that have a good schedule for all arrivals that respect them.
+-- TASKS THAT COME WHEN THEY LIKE (section 3.9 of the specification): pass is said only of tables that have a good schedule for all arrivals that respect them.
 use mathlib.Core.Path.{_≡_, refl}
 use mathlib.Core.Logic.{_↔_}
 use mathlib.Core.List.{List}
@@ -70,7 +70,7 @@ pub demand-of-releases : (t : Table) (from to : ℕ) → demand t from to ≡ de
 unfolding demand
 demand-of-releases t from to = refl
 
--- Without a button the test is T-05's, and nothing but the releases respects the table.
+-- Without a button the test is that of periodic tasks alone, and nothing but the releases respects the table.
 module _ (t : Table) (m : Measure) (well : judged t ≡ Judgement.WellFormed m) where
   pub periodic-pass : distancePass t ≡ (light t && every (λ i. calm (pattern t i)) (t .count))
   periodic-pass = no-button t (well-formed t m well .ranged .some) (periodic-iff t m .0 well .1)

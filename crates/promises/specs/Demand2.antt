@@ -107,7 +107,7 @@ late-said t budget to light (l, before) h b =
     let e : needed t ≡ to = needed-is t to h before (λ x. l) in
     is-late t budget light (omega arith) (rw e l) .0 ∙ rw e
 
--- The answer says the verdict, the settled count and the measures, in document 01's numbers too.
+-- The answer says the verdict, the settled count and the measures, in the specification's numbers too.
 pub record Says (t : Table) (budget : ℕ) (m : Measure) (a : Answer) : Type 0 where
   pub outcome : a .outcome ≡ Outcome.Tested (verdict t budget)
   pub said : outcomeSaid (a .outcome) ≡ verdictSaid (verdict t budget)
@@ -171,7 +171,7 @@ pub longer-same-answer : (t : Table) (budget more : ℕ) (a b : Answer) → budg
 unfolding Permitted
 longer-same-answer t budget more a b l u p = permitted-unique t more a b (longer-judged t budget more a (judged t) l u p)
 
--- The run that the responses are taken from is document 01's, as T-06 amends it: each slot goes to the released, unfinished job with
+-- The run that the responses are taken from is that of section 3.3 of the specification: each slot goes to the released, unfinished job with
 -- the earliest deadline, ties to the shorter period and then to the lower task number, and to none only if no such job is there.
 abbrev Waits : Table → ℕ → ℕ → ℕ → Type 0
 Waits t u i j = (i < t .count) × (release (task t i) j ≤ u) × (given (run t (tieOrder t)) i j 0 u < task t i .cost)

@@ -1,4 +1,4 @@
--- THE DISTANCE TEST, T-05 of document 02: quick pass is distance pass, and that is said of a table without buttons only if the exact test passes it.
+-- THE DISTANCE TEST (section 3.8 of the specification): quick pass is distance pass, and that is said of a table without buttons only if the exact test passes it.
 -- What it means of tables with buttons stands in `Buttons`.
 use mathlib.Core.Path.{_≡_, refl, sym, _∙_}
 use mathlib.Core.Logic.{inl, inr, _↔_}

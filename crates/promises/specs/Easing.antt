@@ -1,4 +1,4 @@
--- WHAT MAY BE EASED SAFELY, T-11 of document 02: a table that passes still passes with lower costs, longer deadlines up to the period and
+-- WHAT MAY BE EASED SAFELY (section 3.10 of the specification): a table that passes still passes with lower costs, longer deadlines up to the period and
 -- fewer tasks, all of that together too, given a budget that reaches the new horizon; with costs alone lowered no worst response grows.
 use mathlib.Core.Path.{_≡_, refl, sym, ap, subst, _∙_}
 use mathlib.Core.Logic.{_⊎_, inl, inr, _↔_}
@@ -68,7 +68,7 @@ module _ (before after : Table) (m n : Measure) (well : judged before ≡ Judgem
       let (v', w', u') = passed-exactly after budget' a' p' o' in
       lowering-slows-none e i (getD (a .worst) i 0) (getD (a' .worst) i 0) l (w .worst i l) (w' .worst i (omega (arith, e .same-count)))
 
--- A longer period is no easing: document 02's table passes, and with the second period 3 it is late at 4.
+-- A longer period is no easing: table e passes, and with the second period 3 it is late at 4.
 pub longer-period-late :
     (verdict table-e 1000 ≡ Verdict.Passes) × (verdict (tableOf (of 1 1 1 2 ∷ of 0 1 1 3 ∷ [])) 1000 ≡ Verdict.Late 3 4 2)
 unfolding verdict needed lateStart lateAt first last round load horizon largest sum count demand arrivedIn

@@ -1,4 +1,4 @@
--- TWO ENGINES, ONE ANSWER (T-07): `jump::test` leaps from one release or finish to the next, `exact::test` walks slot by slot. Each has
+-- TWO ENGINES, ONE ANSWER (section 3.6): `jump::test` leaps from one release or finish to the next, `exact::test` walks slot by slot. Each has
 -- the contract `Permitted`, and so has each of the two exported checks the contract `Checked`; each permits one result.
 use mathlib.Core.Path.{_≡_, ap}
 use mathlib.Core.List.{List}
@@ -10,7 +10,7 @@ use Rattle.model.specs.Verdict.{Permitted}
 use Rattle.model.specs.Report.{Exported, Checked}
 use Rattle.promises.specs.Demand1.{one-answer, one-export}
 
--- For every table and budget they give equal verdicts and intervals, as values and in document 01's numbers, equal worst responses,
+-- For every table and budget they give equal verdicts and intervals, as values and in the specification's numbers, equal worst responses,
 -- settled counts and idle instants, and measure the same.
 pub engines-agree : (t : Table) (budget : ℕ) (leaping plain : Answer) → Permitted t budget leaping → Permitted t budget plain
     → (leaping .outcome ≡ plain .outcome) × (outcomeSaid (leaping .outcome) ≡ outcomeSaid (plain .outcome)) × (leaping .worst ≡ plain .worst) × (leaping .settled ≡ plain .settled) × (leaping .idle ≡ plain .idle) × (leaping .measure ≡ plain .measure)

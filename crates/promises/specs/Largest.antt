@@ -1,4 +1,4 @@
--- HOW MUCH COST A TASK CAN TAKE, T-12 of document 02: the number told passes, and no larger one within the deadline does; where there is none to tell, why.
+-- HOW MUCH COST A TASK CAN TAKE (section 3.11 of the specification): the number told passes, and no larger one within the deadline does; where there is none to tell, why.
 use mathlib.Core.Path.{_≡_, refl, sym, subst, _∙_}
 use mathlib.Core.Logic.{_⊎_, inl, inr}
 use mathlib.Core.List.{List}

@@ -1,4 +1,4 @@
--- THE QUICK TEST, T-03 of document 02: pass is said only of tables that the exact test passes.
+-- THE QUICK TEST (section 3.7 of the specification): pass is said only of tables that the exact test passes.
 use mathlib.Core.Path.{_≡_, refl, sym, ap, _∙_}
 use mathlib.Core.Logic.{_⊎_, inl, inr, _↔_}
 use mathlib.Core.List.{List, [], _∷_}

@@ -1,4 +1,4 @@
--- Document 01's tables a to j, the budgets that it names, and document 02's table of the lamp: one statement over a list of them, by one computed test and a law.
+-- The specification's tables a to j, the budgets that it names, and the lamp (section 10): one statement over a list of them, by one computed test and a law.
 use mathlib.Core.Path.{_≡_, refl, subst}
 use mathlib.Core.List.{List, [], _∷_, map}
 use Prim.Native.Nat.{ℕ}
@@ -20,7 +20,7 @@ use Rattle.model.specs.Examples.{padded, table-a, table-b, table-c, table-d, ta
 use Rattle.backlog.specs.WalkWorst.{worstBy}
 use Rattle.backlog.specs.Computed.{answerOf, computed}
 
--- A table, a budget, and the answer that the documents give.
+-- A table, a budget, and the answer that the specification gives.
 pub record Row : Type 0 where
   pub table : Table
   pub budget : ℕ
@@ -78,7 +78,7 @@ rows-computed = refl
 pub tables-answered : AllPermitted rows
 tables-answered = all-permitted rows rows-computed
 
--- In document 01's numbers: 4 passes, 3 late with its interval and demand, 2 undecided, 1 overload.
+-- In the specification's numbers: 4 passes, 3 late with its interval and demand, 2 undecided, 1 overload.
 pub tables-said :
     map (λ r. outcomeSaid (r .answer .outcome)) rows
     ≡ (4 ∷ []) ∷ (4 ∷ []) ∷ (3 ∷ 8 ∷ 15 ∷ 8 ∷ []) ∷ (3 ∷ 0 ∷ 7 ∷ 9 ∷ []) ∷ (4 ∷ []) ∷ (3 ∷ 0 ∷ 1 ∷ 2 ∷ []) ∷ (4 ∷ []) ∷ (3 ∷ 4 ∷ 7 ∷ 4 ∷ []) ∷ (1 ∷ []) ∷ (4 ∷ [])

@@ -1,4 +1,4 @@
--- TIES, T-06 of document 02: how they go alters the run, the worst responses and the dispatcher, and nothing else. `verdict` with its
+-- TIES (section 3.3 of the specification): how they go alters the run, the worst responses and the dispatcher, and nothing else. `verdict` with its
 -- interval, `settledBy` and the measures take no order of the tasks at all; of what else is told of a run, any two orders say the same.
 use mathlib.Core.Path.{_≡_, ap}
 use mathlib.Core.Logic.{_↔_}

@@ -1,4 +1,4 @@
-// Judges any table: document 01's refusals 1 to 7, and 11 where only periodic tasks are allowed, or what a well-formed table measures.
+// Judges any table: refusals 1 to 7, and 11 where only periodic tasks are allowed, or what a well-formed table measures.
 ghost use mathlib.Core.Path.{_≡_};
 ghost use Prim.Native.Nat.{_≤_};
 ghost use Rattle.values.specs.declared.Judgement.{Judgement};

@@ -1,4 +1,4 @@
--- Document 01's numbers for a record, and that a record which is read has the numbers that stand in the file.
+-- The specification's numbers for a record, and that a record which is read has the numbers that stand in the file.
 use mathlib.Core.Path.{_≡_, ap}
 use mathlib.Core.List.{List, [], _∷_, _++_}
 use mathlib.Core.Bool.{true, false}

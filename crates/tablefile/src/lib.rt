@@ -156,7 +156,7 @@ fn end_reading(rest: &[u8], at: usize) -> Reading
     Reading::Whole(Record::End)
 }
 
-// Document 01's order is kind known, kind allowed here, body whole: the reader of each kind keeps the last two.
+// The specification's order is kind known, kind allowed here, body whole: the reader of each kind keeps the last two.
 fn reading_at(file: &[u8], at: usize, count: usize) -> Reading
     requires { ⌜ at < longestFile ⌝ }
     ensures { λ r. ⌜ r ≡ readingAt (now (file .entry)) at count ⌝ }

@@ -1,4 +1,4 @@
-// Runs document 01's tables and states through judge, test and dispatcher, a line for each; `stdout` says what it demands of them.
+// Runs the specification's tables and states through judge, test and dispatcher, a line for each; `stdout` says what it demands of them.
 mod dispatching;
 mod judging;
 mod say;

@@ -1,4 +1,4 @@
-// Document 01's tables, and the means to write others.
+// The specification's tables, and the means to write others.
 use std::num::wrapping_add_u32;
 use values::Sort;
 use values::TASK_LIMIT;

@@ -39,7 +39,7 @@ pub struct Table {
     pub tasks: [Task; TASK_LIMIT],
 }
 
-// A refusal: document 01's number and place.
+// A refusal: the number and place of section 7.1 of the specification.
 pub struct Refusal {
     pub number: u32,
     pub place: u32,
@@ -155,7 +155,7 @@ pub enum Given {
 }
 
 // What is found of a camera's log: nothing yet; its end, with nothing wrong before it; the first slot that differs from the
-// dispatcher's; a fault, by document 02's number and the place of its byte.
+// dispatcher's; a fault, by its number (section 7.3 of the specification) and the place of its byte.
 pub enum Finding {
     Nothing,
     Good,

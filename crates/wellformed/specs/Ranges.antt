@@ -1,4 +1,4 @@
--- The ranges of document 01, and the tables whose tasks keep them.
+-- The ranges of the specification (section 2.3), and the tables whose tasks keep them.
 use mathlib.Core.Path.{_≡_, refl}
 use mathlib.Core.Logic.{_↔_, _≢_}
 use mathlib.Core.Bool.{Bool, true, false, cond, not}
