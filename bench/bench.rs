@@ -1,4 +1,4 @@
-// The proved exact test slot by slot and a plain Rust walk over the same tables, turn about in one run, and what else
+// The proved exact test slot by slot and a plain Rust walk over the same tables, in turn, in one run, and what else
 // docs/PERFORMANCE.md has figures of. Built and run by bench/run. The test by leaps is timed by bench/leaps.
 use std::hint::black_box;
 

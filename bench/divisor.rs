@@ -1,12 +1,12 @@
 // The greatest common divisor by repeated remainder and by halving and subtracting, as crate `divisor` finds it: the same numbers,
-// turn about in one run; see docs/PERFORMANCE.md. Built and run by bench/divisor. All of it is Rust: no proved code is called.
+// in turn, in one run; see docs/PERFORMANCE.md. Built and run by bench/divisor. All of it is Rust: no proved code is called.
 use std::hint::black_box;
 
 extern "C" {
     fn clock_gettime(clock: i32, time: *mut [i64; 2]) -> i32;
 }
 
-// How often each way is timed, turn about. The best time of each counts.
+// How often each way is timed; the ways take turns. The best time of each counts.
 const TURNS: usize = 101;
 
 const PAIRS: usize = 200_000;

@@ -1,9 +1,9 @@
-// Times of calls that are made turn about. No program uses all of it.
+// Times of calls that are made in turn. No program uses all of it.
 #![allow(dead_code)]
 
 use crate::calls::timed;
 
-// How often each thing is timed, turn about. The best time of each counts.
+// How often each thing is timed; they take turns. The best time of each counts.
 pub const TURNS: usize = 25;
 
 // A call is repeated until one timing takes so long, in nanoseconds.
@@ -17,7 +17,7 @@ fn calls_that_last(call: &mut dyn FnMut()) -> u64 {
     calls
 }
 
-// Each call's times, turn about.
+// Each call's times; the calls take turns.
 pub fn turn_about(calls: &mut [&mut dyn FnMut()]) -> Vec<Best> {
     let often: Vec<u64> = calls.iter_mut().map(|call| calls_that_last(call)).collect();
     let mut all: Vec<Best> = often.iter().map(|_| Best::new()).collect();

@@ -43,7 +43,7 @@ struct table {
     int was_text;
 };
 
-/* Of a button the period is its least spacing, and the offset, which it has not, 0. */
+/* Of a button the period is its least spacing, and the offset 0, since it has none. */
 struct task {
     int button;
     uint64_t offset, cost, deadline, period;

@@ -115,7 +115,7 @@ static int take_task(const struct word *word, const char *argument, struct reque
 {
     uint64_t task;
     if (!read_number(argument, 0, UINT32_MAX, &task)) {
-        misuse(word, "a TASK is a number from 0 to 4294967295, and this is none: ", argument);
+        misuse(word, "a TASK is a number from 0 to 4294967295, and this is not one: ", argument);
         return 0;
     }
     request->task = (uint32_t)task;

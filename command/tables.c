@@ -107,7 +107,7 @@ static size_t record_at(const struct table *table, unsigned number)
     return at;
 }
 
-/* Where a number of a task stands: offset, which a button has not, cost, deadline, period. */
+/* Where a number of a task stands: offset, which a button does not have, cost, deadline, period. */
 static uint8_t *number_of(struct table *table, unsigned task, unsigned which)
 {
     uint8_t *record = table->file + record_at(table, task);

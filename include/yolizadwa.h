@@ -99,10 +99,10 @@ enum yolizadwa_refusal {
     YOLIZADWA_ZERO_BUDGET = 27,     /* the budget is 0; place 0, in a text its line */
     YOLIZADWA_SHORT_REPORT = 30,    /* the report buffer has fewer than 1,024 bytes; place: its length */
     YOLIZADWA_SHORT_BUFFER = 31,    /* the buffer is shorter than what is to be written; place: its length */
-    YOLIZADWA_STATE_LENGTH = 50,    /* the state buffer has not 536 bytes, a log's not 568; place: its length, at most 65,535 */
-    YOLIZADWA_BROKEN_ROWS = 51,     /* the words of a table are no whole rows; place: their number, at most 65,535 */
-    YOLIZADWA_STRANGE_ROW = 52,     /* a row of a table is no task and no button, or a button with an offset, which is any second
-                                       word but 0; place: the first such row, at most 65,535 */
+    YOLIZADWA_STATE_LENGTH = 50,    /* the state buffer is not 536 bytes long, or a log's not 568; place: its length, at most 65,535 */
+    YOLIZADWA_BROKEN_ROWS = 51,     /* the words of a table are not a whole number of rows; place: how many words, at most 65,535 */
+    YOLIZADWA_STRANGE_ROW = 52,     /* a row of a table is neither a task nor a button, or is a button with an offset, which is any
+                                       second word but 0; place: the first such row, at most 65,535 */
     /* Of a text; place: the line, counted from 1, at most 65,535. */
     YOLIZADWA_UNKNOWN_WORD = 60,    /* a line's first word is none of `budget`, `task` and `button` */
     YOLIZADWA_NO_NUMBER = 61,       /* a word that should be a number has a byte that is no digit */

@@ -398,7 +398,7 @@ fn no_task_text(tasks: usize, asked: usize) -> String {
     format!("refused 12 at {asked}: the table has no task {asked}; {all}\n")
 }
 
-/// Of every task, of one, or of one that the table has not.
+/// Of every task, of one, or of one that the table does not have.
 fn lens_taken(bench: &mut Bench, rng: &mut Rng, tasks: &[Task], budget: u64, input: &[u8]) {
     let one = if rng.chance(50) { Some(rng.below(tasks.len() as u64 + 1) as usize) } else { None };
     let rows = one.map_or(0..tasks.len(), |task| task..task + 1);

@@ -176,7 +176,7 @@ pub fn buttons(bench: &mut Bench) {
     bench.end_group("the specification's buttons");
 }
 
-/// A task that the table has not is told behind the table's refusals and before any verdict.
+/// A task that the table does not have is told behind the table's refusals and before any verdict.
 fn no_such_tasks(bench: &mut Bench) {
     for rows in [B, C, I] {
         for budget in [1, 1_000] {

@@ -18,7 +18,7 @@ pub fn ask_rewritten(bench: &mut Bench, file: &[u8]) {
     }
 }
 
-/// Of a task that the bytes choose, as often as not one that the table has not.
+/// Of a task that the bytes choose, about half the time one that the table does not have.
 fn ask_largest(bench: &mut Bench, file: &[u8]) {
     let (budget, tasks) = reference::read_file(file).unwrap_or_default();
     let task = file.iter().map(|&byte| usize::from(byte)).sum::<usize>() % (2 * tasks.len() + 1);

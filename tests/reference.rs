@@ -17,7 +17,7 @@ pub const LARGEST_PLACE: usize = 65_535;
 const LONGEST: u32 = 60_000;
 const LARGEST_ROUND: u64 = 1_000_000_000_000;
 
-/// A task, or a button: of that the period is the least spacing, and the offset, which it has not, is 0.
+/// A task, or a button: of that the period is the least spacing, and the offset is 0, since it has none.
 #[derive(Clone, Copy, PartialEq, Eq, Debug)]
 pub struct Task {
     pub button: bool,

@@ -97,7 +97,7 @@ pub fn stack(bench: &mut Bench) {
     bench.end_group("stack of each call, on the hardest inputs");
 }
 
-/// The first and the last task of each hard table, and one that it has not. The tables that pass have costs that are known, as the
+/// The first and the last task of each hard table, and one that it does not have. The tables that pass have costs that are known, as the
 /// reference would try too many: a full one, and one whose deadlines leave a slot less than there is.
 fn deepest_largest(bench: &mut Bench, files: &[Vec<u8>]) {
     let light = periodic(60_000, 1, 59_999, 60_000);

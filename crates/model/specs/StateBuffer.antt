@@ -54,7 +54,7 @@ abbrev pub stepWritten : List ℕ → State → Given → Exported
 stepWritten buffer d (Given.Refused r) = refused r buffer
 stepWritten buffer d (Given.Slot u) = record { number = u .owner; buffer = bufferOf d u }
 
--- The order of the refusals: 50 for a buffer that has not this many bytes, at its length or the largest place; the file's form; the table; the
+-- The order of the refusals: 50 for a buffer that is not this long, at its length or the largest place; the file's form; the table; the
 -- state.
 abbrev pub onFile : ℕ → List ℕ → List ℕ → (Table → Exported) → Exported
 onFile bytes file buffer go =

@@ -68,7 +68,7 @@ abbrev pub fillTold : List ℕ → Writing → Exported
 fillTold buffer (Writing.Refused r) = refused r buffer
 fillTold buffer (Writing.Bytes n) = record { number = n; buffer = buffer }
 
--- The one permitted result of the exported call. The form of the words comes before the table: 51 where they are no whole rows, at their
+-- The one permitted result of the exported call. The form of the words comes before the table: 51 where they do not make whole rows, at their
 -- number, then 52 at the first row that is no task; a place is at most 65,535.
 abbrev pub writeExported : List ℕ → ℕ → List ℕ → Exported
 writeExported words budget buffer =

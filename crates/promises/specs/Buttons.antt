@@ -57,7 +57,7 @@ module _ (t : Table) (m : Measure) (well : judgedMixed t ≡ Judgement.WellForme
   pub releases-are-arrivals : Respects t (releases t) × ((σ : Schedule) → GoodFor t (releases t) σ ↔ Good t σ)
   releases-are-arrivals = let r = well-mixed t m well .ranged in (releases-respect t r, good-released t r)
 
-  -- And so do whatever presses of its buttons keep to their spacings, with the releases of its periodic tasks: none, one at any time, or ever more.
+  -- So does any pattern of presses that keeps to the spacings, with the releases of the periodic tasks: no press, one at any time, or one after another.
   pub presses-are-arrivals : (a : Arrivals) → ((i u v : ℕ) → i < t .count → T (a i u) → T (a i v) → u < v → u + task t i .period ≤ v)
       → Respects t (λ i u. cond (isButton (task t i)) (a i u) (released (task t i) u))
   presses-are-arrivals = presses-respect t (well-mixed t m well .ranged)

@@ -99,7 +99,7 @@ well-formed-exactly t m = (fwd, λ (keeps, h, same). mixed-iff t m .1 (ranged-of
         let (r, h, same) = mixed-iff t m .0 e in
         ((r .some, r .few, λ i l. let k = r .each i l in (k .period-pos, k .period-le, k .deadline-pos, k .deadline-le, k .cost-pos, k .cost-le, k .offset-le)), h, same)
 
--- Where only periodic tasks are allowed it has no button besides.
+-- Where only periodic tasks are allowed, it must also have no button.
 pub periodic-exactly : (t : Table) (m : Measure) → (judged t ≡ Judgement.WellFormed m) ↔ ((judgedMixed t ≡ Judgement.WellFormed m) × ((i : ℕ) → i < t .count → isButton (task t i) ≡ false))
 periodic-exactly = periodic-iff
 
@@ -121,7 +121,7 @@ one-answer = permitted-unique
 pub some-answer : (t : Table) (budget : ℕ) → (a : Answer) × Permitted t budget a
 some-answer t budget = (answerOf t budget, computed t budget)
 
--- A file is told as one thing and as some thing, and a refused one as its refusal.
+-- What is told of a file is one thing only, and there is always something to tell; of a refused file it is its refusal.
 told-once : {A : Type 0} (refuse : Refusal → A) (tell : List ℕ → A) (l : Loaded) (x y : A) (a : Admission) → FileTold refuse tell l x a → FileTold refuse tell l y a → x ≡ y
 told-once refuse tell l x y (Admission.Refused r) e f = e ∙ sym f
 told-once refuse tell l x y Admission.Admitted (a, p, e) (b, q, f) = let s : a ≡ b = permitted-unique (l .table) (l .budget) a b p q in e ∙ rw s (sym f)
@@ -205,7 +205,7 @@ some-print input = told-some refusalLine (λ s. s) (loadedFrom input) (loadedFro
 pub whole-input : (input out : List ℕ) → Printed (take (suc longestFile) input) out → Printed input out
 whole-input input out = subst (λ (l : Loaded). FileTold refusalLine (λ s. s) l out (l .admission)) (first-bytes input)
 
--- Neither word that the calls use looks further into a file.
+-- Nor does what the calls read of a file, its form and its table, depend on any byte behind these.
 pub whole-file : (file : List ℕ) → (formOf (take (suc longestFile) file) ≡ formOf file) × (loadedFrom (take (suc longestFile) file) ≡ loadedFrom file)
 whole-file file = (first-form file, first-bytes file)
 

@@ -67,7 +67,7 @@ pub loaded-writes : (file buffer : List ℕ) → ((i : ℕ) → getD file i 0 < 
     → fileWritten (loadedFrom file .table) (loadedFrom file .budget) buffer ≡ record { said = Writing.Bytes (length file); buffer = file ++ drop (length file) buffer }
 loaded-writes = told.loaded-writes
 
--- From C: words that are no whole rows are refused by 51 at their number, at most 65,535, whatever the rest.
+-- From C: words that do not make whole rows are refused by 51 at their number, at most 65,535, whatever the rest.
 pub broken-rows : (words : List ℕ) (budget : ℕ) (buffer : List ℕ) → eqb (length words % rowWords) 0 ≡ false → writeExported words budget buffer ≡ refused (refusal 51 (min (length words) 65535)) buffer
 broken-rows words budget buffer e = rw e
 

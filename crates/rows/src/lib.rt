@@ -19,7 +19,7 @@ const TASK: u32 = 2;
 
 const BUTTON: u32 = 4;
 
-// Words that are no whole rows.
+// Words that do not make whole rows.
 pub fn broken(words: usize) -> bool
     ensures { λ r. ⌜ r ≡ not (eqb (words % rowWords) 0) ⌝ }
 {
