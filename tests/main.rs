@@ -110,6 +110,7 @@ fn what_is_shipped(bench: &mut Bench, rng: &mut Rng) {
     papers::headlines(bench);
     papers::promises(bench);
     papers::edits(bench);
+    papers::refusals(bench);
     judge::inputs_by_hand(bench);
     judge::inputs_at_random(bench, rng);
     command::by_hand(bench);

@@ -1,5 +1,5 @@
 //! What docs/PROMISES.md says of the tree: each law that it names is promised, each law that is promised is told, and so is each
-//! edit. And each file of the theory has one headline.
+//! edit. Each file of the theory has one headline. And the list of refusals in docs/SPECIFICATION.md has its copies.
 
 use crate::bench::Bench;
 use std::fs;
@@ -8,6 +8,9 @@ use std::path::Path;
 const PAPER: &str = "docs/PROMISES.md";
 const THEORIES: &[&str] = &["crates/backlog/specs", "crates/patterns/specs", "crates/walks/specs"];
 const PROMISES: &str = "crates/promises/specs";
+const SPECIFICATION: &str = "docs/SPECIFICATION.md";
+const README: &str = "README.md";
+const HEADER: &str = "include/yolizadwa.h";
 
 /// Laws that the paper names and that are no promises, each with its file.
 const OTHERS: &[(&str, &str)] = &[("gcd-unique", "crates/counting/specs/Divisors.antt")];
@@ -113,4 +116,48 @@ pub fn edits(bench: &mut Bench) {
     }
     bench.count(told.len() == kept.len(), || format!("{PAPER} has {} rows of edits for {} crates", told.len(), kept.len()));
     bench.end_group("edits that the promises name");
+}
+
+/// What stands in a text between these two.
+fn between<'a>(text: &'a str, from: &str, to: &str) -> &'a str {
+    let (_, rest) = text.split_once(from).unwrap_or_else(|| panic!("nowhere: {from}"));
+    rest.split(to).next().unwrap_or(rest)
+}
+
+/// The numbers in the first column of a table, several to a row or one.
+fn numbers_told(part: &str) -> Vec<u32> {
+    let cells = part.lines().filter_map(|line| Some(line.strip_prefix("| ")?.split_once(" |")?.0));
+    cells.flat_map(|cell| cell.split(", ").map_while(|word| word.parse().ok()).collect::<Vec<u32>>()).collect()
+}
+
+/// The numbers of an enum's names.
+fn numbers_declared(part: &str) -> Vec<u32> {
+    let values = part.lines().filter_map(|line| Some(line.trim_start().strip_prefix("YOLIZADWA_")?.split_once(" = ")?.1));
+    values.filter_map(|value| value.split(|letter: char| !letter.is_ascii_digit()).next()?.parse().ok()).collect()
+}
+
+fn each_among(bench: &mut Bench, these: &[u32], those: &[u32], otherwise: &str) {
+    for number in these {
+        bench.count(those.contains(number), || format!("{otherwise} {number}"));
+    }
+}
+
+/// A list of the specification has the same numbers as a copy of it.
+fn copied(bench: &mut Bench, list: &[u32], copy: &[u32], name: &str) {
+    bench.count(list.len() == copy.len() && !list.is_empty(), || {
+        format!("{name} lists {} numbers for {}", copy.len(), list.len())
+    });
+    each_among(bench, list, copy, &format!("{name} does not list"));
+    each_among(bench, copy, list, &format!("{SPECIFICATION} does not list what {name} does:"));
+}
+
+/// The refusals, and what is found of a log, as the specification lists them, against README and header.
+pub fn refusals(bench: &mut Bench) {
+    let (paper, readme, header) = (read(SPECIFICATION), read(README), read(HEADER));
+    let refusals = numbers_told(between(&paper, "### 7.1 ", "\n#"));
+    let findings = numbers_told(between(&paper, "### 7.3 ", "\n#"));
+    copied(bench, &refusals, &numbers_told(between(&readme, "## What is refused", "\n## ")), README);
+    copied(bench, &refusals, &numbers_declared(between(&header, "enum yolizadwa_refusal {", "};")), HEADER);
+    copied(bench, &findings, &numbers_declared(between(&header, "enum yolizadwa_log_answer {", "};")), HEADER);
+    bench.end_group("refusals that the papers list");
 }
