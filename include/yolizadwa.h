@@ -1,5 +1,6 @@
 /*
  * Yolizadwa for C (from C99 on) and C++: judge a table of tasks, then give out time slot by slot.
+ * The rules are those of docs/SPECIFICATION.md; its section 9 has the calls.
  *
  * Fourteen calls, in the static library that `rt staticlib yolizadwa` writes for x86-64:
  *
