@@ -25,6 +25,7 @@ use values::SlotAnswer;
 use values::Judgement;
 use values::Refusal;
 use values::SLOT_COUNT_LIMIT;
+use values::SlotAnswer;
 use values::TASK_LIMIT;
 use values::Table;
 use values::Task;

@@ -19,6 +19,7 @@ ghost use Rattle.plaintext.specs.Numbers.{NumberRead, NumbersRead};
 ghost use Rattle.plaintext.specs.Lines.{numbersDue, taskFrom, WordsFit, sortLine};
 ghost use Rattle.plaintext.specs.Texts.{budgetLineBytes, nameRoom, taskRoom, aside};
 use values::Admission;
+use values::Contents;
 use values::Judgement;
 use values::Line;
 use values::Contents;

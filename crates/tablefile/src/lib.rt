@@ -1,5 +1,6 @@
 // A table file, read record by record where it lies.
 use values::Admission;
+use values::Contents;
 use values::Judgement;
 use values::Contents;
 use values::Refusal;

@@ -1,0 +1,56 @@
+-- Each return rewrites with what the file turned out to be.
+use mathlib.Core.Path.{ap, _∙_}
+use borrow.Author.Needs.{needs}
+use Prim.Native.Nat.{ℕ}
+use Rattle.model.specs.Report.{fileNumber}
+use Rattle.model.specs.Largest.{costAnswer, costNumber}
+use Rattle.filecalls.proofs.largest_file.Statement.{statement}
+use Rattle.filecalls.proofs.largest_file.Tie as tie
+
+form-of-requires : tie.Need-form-of-requires
+form-of-requires c κs = search needs
+
+enum-known-admission : tie.Need-enum-known-admission
+enum-known-admission c = search needs
+
+refusal-number-requires : tie.Need-refusal-number-requires
+refusal-number-requires c κs = search needs
+
+enum-told : tie.Need-enum-told
+enum-told c = search needs
+
+tellable-task-requires : tie.Need-tellable-task-requires
+tellable-task-requires c κs = search needs
+
+largest-cost-requires : tie.Need-largest-cost-requires
+largest-cost-requires c κs = search needs
+
+cost-number-requires : tie.Need-cost-number-requires
+cost-number-requires c κs = search needs
+
+returns : tie.Need-returns
+returns c =
+    let known = c .before .before in
+    rw (fileNumber, ← known .before .before .form-of .ensures) (rw (known .admission .given .1) (c .refusal-number .ensures))
+
+returns-2 : tie.Need-returns-2
+returns-2 c =
+    let told = c .before .before .before .before in
+    let form = told .before .before in
+    let read = form .form-of .result in
+    let answer = c .before .largest-cost .ensures ∙ ap (λ (i : ℕ). costAnswer (read .table) i (read .budget)) (c .before .before .tellable-task .ensures) in
+    rw (fileNumber, ← form .form-of .ensures) (rw (told .enum-told .given .1) (rw (← form .form-of .ensures) (c .cost-number .ensures ∙ ap costNumber answer)))
+
+pub largest-file-spec : {M : Type 1} → statement M
+largest-file-spec =
+    tie.close
+    (tie.spec
+    form-of-requires
+    enum-known-admission
+    refusal-number-requires
+    enum-told
+    tellable-task-requires
+    largest-cost-requires
+    cost-number-requires
+    returns
+    returns-2)
