@@ -21,7 +21,6 @@ use slots::NO_TASK;
 use slots::Numbers;
 use slots::Ranks;
 use values::Admission;
-use values::SlotAnswer;
 use values::Judgement;
 use values::Refusal;
 use values::SLOT_COUNT_LIMIT;
@@ -92,13 +91,13 @@ impl Dispatcher {
         ensures { λ r. ⌜ steppedOf r ≡ stepped t (stateOf self) done ⌝ }
     {
         match table::judge(t) {
-            Judgement::Refused(why) => refused(self, why),
+            Judgement::Refused(why) => handed_back(self, why),
             Judgement::WellFormed(_) => step_well_formed(self, t, done),
         }
     }
 }
 
-fn refused(d: Dispatcher, why: Refusal) -> Stepped
+fn handed_back(d: Dispatcher, why: Refusal) -> Stepped
     ensures { λ r. ⌜ steppedOf r ≡ refuseStep why (stateOf d) ⌝ }
 {
     Stepped {
@@ -118,7 +117,7 @@ fn step_well_formed(d: Dispatcher, t: Table, done: bool) -> Stepped
     ensures { λ r. ⌜ steppedOf r ≡ stepWellFormed t (stateOf d) done ⌝ }
 {
     match belonging(d, t) {
-        Room::Refused(why) => refused(d, why),
+        Room::Refused(why) => handed_back(d, why),
         Room::Slots(room) => step_admitted(d, t, room, done),
     }
 }
@@ -213,7 +212,7 @@ fn step_admitted(d: Dispatcher, t: Table, room: u64, done: bool) -> Stepped
     ensures { λ r. ⌜ steppedOf r ≡ stepWellFormed t (stateOf d) done ⌝ }
 {
     if room == 0 {
-        return refused(
+        return handed_back(
             d,
             Refusal {
                 number: 9,

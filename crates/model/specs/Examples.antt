@@ -587,25 +587,25 @@ exported :
 unfolding fileRead periodicFrom formOf readFrom
 exported = (refl, refl, refl, refl, refl)
 
--- A whole report, of 70 bytes, in the buffer and as it is printed: b with a budget of 37.
+-- A whole report, of 66 bytes, in the buffer and as it is printed: e with a budget of 4.
 abbrev report-short : List ℕ
-report-short = text "tasks 2\nload 11/15\nquick none\nhorizon 38\nverdict undecided\nsettled 37\n"
+report-short = text "tasks 2\nload 2/2\nquick none\nhorizon 5\nverdict undecided\nsettled 4\n"
 
 abbrev file-short : List ℕ
-file-short = budgetOf 37 ++ rowOf (of 8 5 7 15) ++ rowOf (of 0 2 2 5) ++ (3 ∷ [])
+file-short = budgetOf 4 ++ rowOf (of 1 1 1 2) ++ rowOf (of 0 1 1 2) ++ (3 ∷ [])
 
-told : Checked file-short (replicate reportBytes 7) (record { number = 70; buffer = report-short ++ replicate (reportBytes - 70) 7 }) × Printed file-short report-short
+told : Checked file-short (replicate reportBytes 7) (record { number = 66; buffer = report-short ++ replicate (reportBytes - 66) 7 }) × Printed file-short report-short
 unfolding fileRead periodicFrom formOf readFrom Permitted judged judgedMixed firstButton firstFaulty taskFault settledBy verdict needed lateStart lateAt first last round load horizon largest sum count demand arrivedIn reportOf text decimal digits quickPass calm startingAt fill firstIdle idleAt missedAt ownerOf served choose
 told =
-    let a = brief (Outcome.Tested Verdict.Undecided) (measured 15 11 38) 37 in
+    let a = brief (Outcome.Tested Verdict.Undecided) (measured 2 2 5) 4 in
     ((a, refl, refl), (a, refl, refl))
 
--- The exported quick test: no answer to b, pass for g; a file is refused by its form, and by its table.
+-- The exported quick test: no answer to e, pass for g; a file is refused by its form, and by its table.
 quick-told : map quickExported (file-short ∷ (budgetOf 1 ++ rowOf (of 0 2 4 4) ++ rowOf (of 0 2 4 4) ++ (3 ∷ [])) ∷ (9 ∷ []) ∷ (budgetOf 1 ++ (3 ∷ [])) ∷ []) ≡ 0 ∷ 1 ∷ 1376256 ∷ 65536 ∷ []
 unfolding formOf readFrom quickAnswer judged judgedMixed firstButton firstFaulty taskFault horizon largest quickPass calm startingAt fill firstIdle idleAt missedAt first round load sum count served ownerOf choose
 quick-told = refl
 
--- The exported distance test: pass for b, no answer to c, overload of i; a file is refused by its form, and by its table.
+-- The exported distance test: pass for e, no answer to c, overload of i; a file is refused by its form, and by its table.
 distance-told : map distanceExported (file-short ∷ (budgetOf 1 ++ rowOf (of 8 6 7 15) ++ rowOf (of 0 2 2 5) ++ (3 ∷ [])) ∷ (budgetOf 1 ++ rowOf (of 0 3 5 5) ++ rowOf (of 2 3 5 5) ++ (3 ∷ [])) ∷ (9 ∷ []) ∷ (budgetOf 1 ++ (3 ∷ [])) ∷ []) ≡ 1 ∷ 0 ∷ 2 ∷ 1376256 ∷ 65536 ∷ []
 unfolding formOf readFrom distanceAnswer judged judgedMixed firstButton firstFaulty taskFault horizon largest distancePass distance commonDivisor calm startingAt fill firstIdle idleAt missedAt first last round load sum count served ownerOf choose
 distance-told = refl
@@ -651,7 +651,7 @@ reports : ℕ → ℕ
 reports n = getD (0 ∷ 2 ∷ []) n 0
 
 camera-steps :
-    (map (λ n. stepExported file-g (handed file-g (replicate stateBytes 9) reports n) (reports n) .number) (0 ∷ 1 ∷ 2 ∷ 3 ∷ 4 ∷ []) ≡ 0 ∷ 1 ∷ 1 ∷ taskLimit ∷ 0 ∷ [])
+    (map (λ n. stepExported file-g (handed file-g (replicate stateBytes 9) reports n) (reports n) .number) (0 ∷ 1 ∷ []) ≡ 0 ∷ 1 ∷ [])
     × (handed file-f (replicate stateBytes 9) (λ n. 0) 2 ≡ replicate (8 * taskLimit) 0 ++ word taskLimit ++ word 2 ++ word 1 ++ word 1 ++ word 1 ++ replicate (8 * taskLimit - 4) 0 ++ word 1 ++ word 0)
 unfolding reports handed stateIn bufferOf bytesOf halves started startOf stepped admitted slotCount after turn ownerNow choose fill bits firstStrange formOf readFrom judged judgedMixed firstButton firstFaulty taskFault first round load horizon largest sum count
 camera-steps = (refl, refl)
@@ -812,9 +812,12 @@ cost-answers :
 unfolding costAnswer largestCost judged judgedMixed firstButton firstFaulty taskFault verdict needed lateStart lateAt first last round load horizon largest sum count demand arrivedIn
 cost-answers = refl
 
--- As numbers: of b's tasks, of a number that is none and of one that is too large to be told; undecided; a refused file.
+abbrev file-e : List ℕ
+file-e = budgetOf 5 ++ rowOf (of 1 1 1 2) ++ rowOf (of 0 1 1 2) ++ (3 ∷ [])
+
+-- As numbers: of e's tasks, of a number that is none and of one that is too large to be told; undecided; a refused file.
 largest-numbers :
-    (map (largestExported file-b) (0 ∷ 1 ∷ 2 ∷ 70000 ∷ []) ≡ 5 ∷ 2 ∷ 786434 ∷ 851967 ∷ [])
+    (map (largestExported file-e) (0 ∷ 1 ∷ 2 ∷ 70000 ∷ []) ≡ 1 ∷ 1 ∷ 786434 ∷ 851967 ∷ [])
     × (largestExported file-short 0 ≡ 60002)
     × (largestExported [] 0 ≡ 1441792)
 unfolding costAnswer largestCost formOf readFrom judged judgedMixed firstButton firstFaulty taskFault verdict needed lateStart lateAt first last round load horizon largest sum count demand arrivedIn

@@ -22,7 +22,6 @@ use values::Admission;
 use values::Contents;
 use values::Judgement;
 use values::Line;
-use values::Contents;
 use values::Refusal;
 use values::Sort;
 use values::TASK_LIMIT;
@@ -359,7 +358,7 @@ fn next_line(line: u32) -> u32
     line
 }
 
-fn refused(number: u32, line: u32) -> Contents
+fn refused_line(number: u32, line: u32) -> Contents
     ensures { λ r. ⌜ r ≡ refuseFile number line ⌝ }
 {
     tablefile::refused_file(Refusal {
@@ -401,7 +400,7 @@ pub fn form_of(text: &[u8]) -> Contents
                 table = with_task(table, task);
             }
             Line::Fault(number) => {
-                return refused(number, line);
+                return refused_line(number, line);
             }
         }
         if end == left.len() {
@@ -415,7 +414,7 @@ fn ended(given: bool, budget: u64, table: Table, line: u32) -> Contents
     ensures { λ r. ⌜ r ≡ cond given (record { admission = Admission.Admitted; budget = budget; table = table }) (refuseFile 64 line) ⌝ }
 {
     if !given {
-        return refused(NO_BUDGET, line);
+        return refused_line(NO_BUDGET, line);
     }
     Contents {
         admission: Admission::Admitted,

@@ -25,7 +25,7 @@ pub fn judge(t: Table) -> Judgement
         Judgement::WellFormed(measure) => {
             let button = first_button(t);
             if button < t.count {
-                return refused(11, button as u32);
+                return refuse(11, button as u32);
             }
             Judgement::WellFormed(measure)
         }
@@ -38,18 +38,18 @@ pub fn judge_mixed(t: Table) -> Judgement
 {
     let n = t.count;
     if n == 0 {
-        return refused(1, 0);
+        return refuse(1, 0);
     }
     if n > TASK_LIMIT {
-        return refused(2, TASK_LIMIT as u32);
+        return refuse(2, TASK_LIMIT as u32);
     }
     let faulty = first_faulty(t);
     if faulty < n {
-        return refused(task_fault(t.tasks[faulty]), faulty as u32);
+        return refuse(task_fault(t.tasks[faulty]), faulty as u32);
     }
     let round = round_of(t);
     if round > ROUND_LIMIT {
-        return refused(7, 0);
+        return refuse(7, 0);
     }
     Judgement::WellFormed(Measure {
         round,
@@ -71,7 +71,7 @@ pub fn first_button(t: Table) -> usize
     n
 }
 
-fn refused(number: u32, place: u32) -> Judgement
+fn refuse(number: u32, place: u32) -> Judgement
     ensures { λ r. ⌜ r ≡ Judgement.Refused (refusal number place) ⌝ }
 {
     Judgement::Refused(Refusal { number, place })

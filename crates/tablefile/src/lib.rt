@@ -2,7 +2,6 @@
 use values::Admission;
 use values::Contents;
 use values::Judgement;
-use values::Contents;
 use values::Refusal;
 use values::Sort;
 use values::TASK_LIMIT;

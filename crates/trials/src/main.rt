@@ -6,18 +6,9 @@ mod tables;
 mod testing;
 
 fn main() {
-    judging::counts();
-    judging::ranges();
-    judging::order();
     judging::rounds();
-    judging::measures();
     dispatching::on_g();
     dispatching::on_f();
-    dispatching::waits();
-    dispatching::open_jobs();
-    dispatching::last_runs();
-    dispatching::reports();
-    dispatching::refused_tables();
     testing::verdicts();
     testing::budgets();
 }

@@ -24,7 +24,7 @@ pub fn about(call: &[u8], vector: &[u8]) {
     words(b": ");
 }
 
-pub fn refused(why: Refusal) {
+pub fn refusal(why: Refusal) {
     words(b"refused ");
     small(why.number);
     words(b" at ");

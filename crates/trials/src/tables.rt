@@ -27,11 +27,6 @@ pub fn pair(first: Task, second: Task) -> Table {
     t
 }
 
-// A first task that is in order, and this one.
-pub fn second(k: Task) -> Table {
-    pair(task(0, 1, 1, 1), k)
-}
-
 pub fn periods(first: u32, second: u32) -> Table {
     pair(task(0, 1, first, first), task(0, 1, second, second))
 }

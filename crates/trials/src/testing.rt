@@ -63,7 +63,7 @@ fn say_answer(a: Answer) {
 
 fn say_outcome(outcome: Outcome) {
     match outcome {
-        Outcome::Refused(why) => say::refused(why),
+        Outcome::Refused(why) => say::refusal(why),
         Outcome::Tested(verdict) => say_verdict(verdict),
     }
 }

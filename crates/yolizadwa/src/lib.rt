@@ -1,127 +1,12 @@
 // The exported calls, as C makes them: each is a call of its kind, and nothing more.
 ghost use mathlib.Core.Path.{_≡_};
-ghost use mathlib.Core.Bool.{not};
-ghost use Prim.Native.Nat.{_+_, _*_, _<_, _≤_, min};
-ghost use lib.Dec.{eqb};
-ghost use lib.ListN.{length};
-ghost use Rattle.model.specs.Limits.{taskLimit, reportBytes};
-ghost use Rattle.values.specs.declared.Admission.{Admission};
-ghost use Rattle.model.specs.Verdict.{Permitted};
-ghost use Rattle.model.specs.TableFile.{fileRead, periodicFrom};
-ghost use Rattle.model.specs.Dispatcher.{started, stepped};
-ghost use Rattle.model.specs.Report.{quickNumber, quickExported, distanceNumber, distanceExported, Checked};
-ghost use Rattle.model.specs.StateBuffer.{stateBytes, stateIn, quiet, startWritten, stepWritten, startExported, stepExported};
-ghost use Rattle.model.specs.LogBuffer.{logBytes, logWritten, logStartExported, logFeedExported, logFinishExported};
+ghost use Rattle.model.specs.Report.{quickExported, distanceExported, Checked};
+ghost use Rattle.model.specs.StateBuffer.{startExported, stepExported};
+ghost use Rattle.model.specs.LogBuffer.{logStartExported, logFeedExported, logFinishExported};
 ghost use Rattle.model.specs.Writer.{writeExported};
 ghost use Rattle.model.specs.PlainText.{fromTextExported, toTextExported};
-ghost use Rattle.model.specs.Easing.{easingNumber, easedNumber, easedExported};
-ghost use Rattle.model.specs.Largest.{costNumber, largestExported};
-ghost use Rattle.logbook.specs.State.{logStateOf};
-ghost use Rattle.report.specs.Put.{exported};
-ghost use Rattle.yolizadwa.specs.Outcomes.{FileExported, exportOf, ToldAs};
-use dispatch::Dispatcher;
-use logbook::Fed;
-use logbook::Log;
-use slots::NO_TASK;
-use values::Admission;
-use values::Answer;
-use values::DistanceAnswer;
-use values::Easing;
-use values::SlotAnswer;
-use values::LOG_STATE_BYTES;
-use values::LargestCost;
-use values::Outcome;
-use values::QuickAnswer;
-use values::REPORT_BYTES;
-use values::Refusal;
-use values::STATE_BYTES;
-use values::Table;
-use values::Turn;
-use values::Writing;
-
-const SHORT_BUFFER: u32 = 30;
-
-const STRANGE_BUFFER: u32 = 50;
-
-const BROKEN_ROWS: u32 = 51;
-
-const STRANGE_ROW: u32 = 52;
-
-const LARGEST_PLACE: usize = 65535;
-
-const LARGEST_TASK: u32 = 65535;
-
-const OLD_REFUSED: u64 = 2;
-
-const NEW_REFUSED: u64 = 3;
-
-fn refused(why: Refusal) -> u64
-    ensures { λ r. ⌜ r ≡ 65536 * why .number + why .place ⌝ }
-{
-    65536 * (why.number as u64) + why.place as u64
-}
-
-fn refused_buffer(bytes: usize) -> u64
-    requires { ⌜ bytes < reportBytes ⌝ }
-    ensures { λ r. ⌜ r ≡ 65536 * 30 + bytes ⌝ }
-{
-    refused(Refusal {
-        number: SHORT_BUFFER,
-        place: bytes as u32,
-    })
-}
-
-fn export_answer(answer: Answer, tasks: usize, quick: bool, buffer: &mut [u8]) -> u64
-    requires { ⌜ tasks ≤ taskLimit ⌝ }
-    requires { ⌜ reportBytes ≤ length (now buffer) ⌝ }
-    ensures { λ r. ⌜ exported r (now (buffer .exit)) ≡ exportOf tasks quick answer (now (buffer .entry)) (answer .outcome) ⌝ }
-{
-    let outcome = answer.outcome;
-    match outcome {
-        Outcome::Refused(why) => refused(why),
-        Outcome::Tested(verdict) => {
-            report::write_report(buffer, tasks, quick, answer, verdict) as u64
-        }
-    }
-}
-
-// The permitted answer, by leaps or slot by slot.
-fn tested(t: Table, budget: u64, plainly: bool) -> Answer
-    ensures { λ r. ⌜ Permitted t budget r ⌝ }
-{
-    if plainly {
-        exact::test(t, budget)
-    } else {
-        jump::test(t, budget)
-    }
-}
-
-fn check_file(file: &[u8], buffer: &mut [u8], plainly: bool) -> u64
-    requires { ⌜ reportBytes ≤ length (now buffer) ⌝ }
-    ensures { λ r. ⌜ FileExported (now (buffer .entry)) (fileRead (now (file .entry))) (exported r (now (buffer .exit))) (fileRead (now (file .entry)) .admission) ⌝ }
-{
-    let contents = tablefile::read(file);
-    let admission = contents.admission;
-    match admission {
-        Admission::Refused(why) => refused(why),
-        Admission::Admitted => {
-            let table = contents.table;
-            let answer = tested(table, contents.budget, plainly);
-            let quick = quick::is_pass(quick::test(table));
-            export_answer(answer, table.count, quick, buffer)
-        }
-    }
-}
-
-// Any file and any buffer: the buffer is looked at before the file.
-fn check(file: &[u8], report: &mut [u8], plainly: bool) -> u64
-    ensures { λ r. ⌜ Checked (now (file .entry)) (now (report .entry)) (exported r (now (report .exit))) ⌝ }
-{
-    if report.len() < REPORT_BYTES {
-        return refused_buffer(report.len());
-    }
-    check_file(file, report, plainly)
-}
+ghost use Rattle.model.specs.Easing.{easedExported};
+ghost use Rattle.model.specs.Largest.{largestExported};
 
 #[no_mangle]
 pub extern "C" fn yolizadwa_check(file: &[u8], report: &mut [u8]) -> u64
@@ -159,101 +44,18 @@ pub extern "C" fn yolizadwa_largest(file: &[u8], task: u32) -> u64
     filecalls::largest_file(file, task)
 }
 
-// What is told of one of two files by its refusal: `which` is a remainder by 4.
-fn refused_file(why: Refusal, which: u64) -> u64
-    requires { ⌜ which < 4 ⌝ }
-    ensures { λ r. ⌜ r ≡ 4 * (65536 * why .number + why .place) + which ⌝ }
-{
-    4 * refused(why) + which
-}
-
-fn easing_number(told: Easing) -> u64
-    ensures { λ r. ⌜ r ≡ easingNumber told ⌝ }
-{
-    match told {
-        Easing::Unmatched(task) => 4 * (task as u64),
-        Easing::Kept(tasks) => 4 * (tasks as u64) + 1,
-    }
-}
-
-fn eased_from(table: Table, new: &[u8]) -> u64
-    requires { ⌜ table .count ≤ taskLimit ⌝ }
-    ensures { λ r. ⌜ r ≡ easedNumber table (periodicFrom (now (new .entry)) .table) Admission.Admitted (periodicFrom (now (new .entry)) .admission) ⌝ }
-{
-    let contents = tablefile::read_periodic(new);
-    let admission = contents.admission;
-    match admission {
-        Admission::Refused(why) => refused_file(why, NEW_REFUSED),
-        Admission::Admitted => {
-            let eased = contents.table;
-            easing_number(easing::compare(table, eased))
-        }
-    }
-}
-
-// Any two files: all that is wrong with the old one comes before what is wrong with the new one.
 #[no_mangle]
 pub extern "C" fn yolizadwa_eased(old: &[u8], new: &[u8]) -> u64
     ensures { λ r. ⌜ r ≡ easedExported (now (old .entry)) (now (new .entry)) ⌝ }
 {
-    let contents = tablefile::read_periodic(old);
-    let admission = contents.admission;
-    match admission {
-        Admission::Refused(why) => refused_file(why, OLD_REFUSED),
-        Admission::Admitted => {
-            let table = contents.table;
-            eased_from(table, new)
-        }
-    }
+    filecalls::eased_files(old, new)
 }
 
 #[no_mangle]
 pub extern "C" fn yolizadwa_start(file: &[u8], state: &mut [u8]) -> u64
     ensures { λ r. ⌜ record { number = r; buffer = now (state .exit) } ≡ startExported (now (file .entry)) (now (state .entry)) ⌝ }
 {
-    if strange_length(state.len()) {
-        return refused_at(STRANGE_BUFFER, state.len());
-    }
-    start_file(file, state)
-}
-
-// Any number but 0 is a done report.
-fn reported(done: u32) -> bool
-    ensures { λ r. ⌜ r ≡ not (eqb done 0) ⌝ }
-{
-    done != 0
-}
-
-fn step_table(table: Table, state: &mut [u8], done: u32) -> u64
-    requires { ⌜ length (now state) ≡ stateBytes ⌝ }
-    ensures { λ r. ⌜ exported r (now (state .exit)) ≡ (let s = stepped table (stateIn (now (state .entry))) (not (eqb done 0)) in stepWritten (now (state .entry)) (s .state) (s .answer)) ⌝ }
-{
-    let dispatcher = statebuffer::state_in(state);
-    let stepped = dispatcher.step(table, reported(done));
-    let answer = stepped.answer;
-    match answer {
-        SlotAnswer::Refused(why) => refused(why),
-        SlotAnswer::Slot(turn) => {
-            let next = stepped.next;
-            statebuffer::write_state(state, next, turn);
-            turn.owner as u64
-        }
-    }
-}
-
-fn step_file(file: &[u8], state: &mut [u8], done: u32) -> u64
-    requires { ⌜ length (now state) ≡ stateBytes ⌝ }
-    ensures { λ r. ⌜ exported r (now (state .exit)) ≡ stepExported (now (file .entry)) (now (state .entry)) done ⌝ }
-{
-    let form = tablefile::form_of(file);
-    let admission = form.admission;
-    match admission {
-        Admission::Refused(why) => refused(why),
-        Admission::Admitted => {
-            let table = form.table;
-            step_table(table, state, done)
-        }
-    }
+    cameracalls::start(file, state)
 }
 
 #[no_mangle]

@@ -35,7 +35,7 @@ export-answer-requires c κs =
 returns : tie.Need-returns
 returns c =
     let known = c .before .before in
-    rw (← known .before .before .read .ensures, known .admission .given .1, c .refused .ensures)
+    rw (← known .before .before .read .ensures, known .admission .given .1, c .refusal-number .ensures)
 
 same-length : tie.Need-same-length
 same-length c = search needs

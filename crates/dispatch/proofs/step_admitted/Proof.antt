@@ -23,12 +23,12 @@ told c = slots-tell _ _ _ (c .pre .1)
 most : (c : tie.Start) → slotCount (c .args .t) (stateOf (c .args .d)) ≤ slotCountLimit
 most c = fitting _ _ (measure (c .args .t)) (told c .0) .room
 
-refused-requires : tie.Need-refused-requires
-refused-requires c κs = search needs
+handed-back-requires : tie.Need-handed-back-requires
+handed-back-requires c κs = search needs
 
 returns : tie.Need-returns
 returns c = let s = c .before .before in
-    rw (told s .0, eq-eqb (slotCount (s .args .t) (stateOf (s .args .d))) slotCountLimit (omega (arith, told s .1, most s, c .before .if1 .taken))) (c .refused .ensures)
+    rw (told s .0, eq-eqb (slotCount (s .args .t) (stateOf (s .args .d))) slotCountLimit (omega (arith, told s .1, most s, c .before .if1 .taken))) (c .handed-back .ensures)
 
 unpack-requires : tie.Need-unpack-requires
 unpack-requires c κs = c .before .pre .0
@@ -53,4 +53,4 @@ returns-2 c = let s = unpack-from (c .before) .before .before in
 
 pub step-admitted-spec : {M : Type 1} → statement M
 step-admitted-spec =
-    tie.close (tie.spec refused-requires returns unpack-requires step-taken-requires returns-2)
+    tie.close (tie.spec handed-back-requires returns unpack-requires step-taken-requires returns-2)

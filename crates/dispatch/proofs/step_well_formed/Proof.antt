@@ -15,8 +15,8 @@ belonging-requires c κs = search needs
 enum-known-why : tie.Need-enum-known-why
 enum-known-why c = search needs
 
-refused-requires : tie.Need-refused-requires
-refused-requires c κs = search needs
+handed-back-requires : tie.Need-handed-back-requires
+handed-back-requires c κs = search needs
 
 enum-known-room : tie.Need-enum-known-room
 enum-known-room c = search needs
@@ -29,7 +29,7 @@ returns c =
     let told = c .before .before .before .before in
     let s = told .before .args in
     let e = refused-tells (admittedBy (s .t) (stateOf (s .d)) (Judgement.WellFormed (measure (s .t)))) _ _ (sym (told .belonging .ensures) ∙ c .before .before .why .given .1) in
-    rw e (c .refused .ensures)
+    rw e (c .handed-back .ensures)
 
 returns-2 : tie.Need-returns-2
 returns-2 c = c .step-admitted .ensures
@@ -40,7 +40,7 @@ step-well-formed-spec =
     (tie.spec
     belonging-requires
     enum-known-why
-    refused-requires
+    handed-back-requires
     enum-known-room
     step-admitted-requires
     returns

@@ -82,11 +82,11 @@ with-task-requires c κs = said (c .before .before .before) (Line.OneTask (c .be
 enum-known-number : tie.Need-enum-known-number Inv-loop μ-loop
 enum-known-number c = search needs
 
-refused-requires : tie.Need-refused-requires Inv-loop μ-loop
-refused-requires c κs = search needs
+refused-line-requires : tie.Need-refused-line-requires Inv-loop μ-loop
+refused-line-requires c κs = search needs
 
 returns : tie.Need-returns Inv-loop μ-loop
-returns c = c .refused .ensures ∙ said (c .before .before .before .before) (Line.Fault (c .before .before .number .given .0 .0)) (c .before .before .number .given .1)
+returns c = c .refused-line .ensures ∙ said (c .before .before .before .before) (Line.Fault (c .before .before .number .given .0 .0)) (c .before .before .number .given .1)
 
 ended-requires : tie.Need-ended-requires Inv-loop μ-loop
 ended-requires c κs = search needs
@@ -146,7 +146,7 @@ form-of-spec =
     enum-known-task
     with-task-requires
     enum-known-number
-    refused-requires
+    refused-line-requires
     returns
     ended-requires
     returns-2

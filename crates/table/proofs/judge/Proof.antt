@@ -28,11 +28,11 @@ enum-known-measure c = search needs
 first-button-requires : tie.Need-first-button-requires
 first-button-requires c κs = few c
 
-cast-refused : tie.Need-cast-refused
-cast-refused c = omega (arith, few (c .before .before .before))
+cast-refuse : tie.Need-cast-refuse
+cast-refuse c = omega (arith, few (c .before .before .before))
 
-refused-requires : tie.Need-refused-requires
-refused-requires c κs = search needs
+refuse-requires : tie.Need-refuse-requires
+refuse-requires c κs = search needs
 
 returns : tie.Need-returns
 unfolding judged
@@ -41,7 +41,7 @@ returns c =
     let b = t .before .before in
     let m = b .before .before in
     let j = m .before .before in
-    rw (← j .judge-mixed .ensures, m .measure .given .1, ← b .first-button .ensures, lt-ltb _ _ (t .if1 .taken)) (c .refused .ensures)
+    rw (← j .judge-mixed .ensures, m .measure .given .1, ← b .first-button .ensures, lt-ltb _ _ (t .if1 .taken)) (c .refuse .ensures)
 
 returns-2 : tie.Need-returns-2
 unfolding judged
@@ -65,8 +65,8 @@ judge-spec =
     enum-known-why
     enum-known-measure
     first-button-requires
-    cast-refused
-    refused-requires
+    cast-refuse
+    refuse-requires
     returns
     returns-2
     returns-3)

@@ -17,22 +17,22 @@ in-ranges c = ranged (c .before .before .before .before .args .t1) (omega arith)
 round-kept : (c : tie.Else4) → RoundKept (c .before .before .before .before .before .before .args .t1) (c .before .round-of .result)
 round-kept c = record { is = c .before .round-of .ensures .exact (omega arith); le = omega arith }
 
-refused-requires : tie.Need-refused-requires
-refused-requires c κs = search needs
+refuse-requires : tie.Need-refuse-requires
+refuse-requires c κs = search needs
 
 returns : tie.Need-returns
 unfolding judgedMixed
-returns c = rw (eq-eqb _ _ (c .before .if1 .taken)) (c .refused .ensures)
+returns c = rw (eq-eqb _ _ (c .before .if1 .taken)) (c .refuse .ensures)
 
-cast-refused : tie.Need-cast-refused
-cast-refused c = search needs
+cast-refuse : tie.Need-cast-refuse
+cast-refuse c = search needs
 
-refused-requires-2 : tie.Need-refused-requires-2
-refused-requires-2 c κs = search needs
+refuse-requires-2 : tie.Need-refuse-requires-2
+refuse-requires-2 c κs = search needs
 
 returns-2 : tie.Need-returns-2
 unfolding judgedMixed
-returns-2 c = rw (ne-eqb _ _ (c .before .before .if1 .left), lt-ltb taskLimit (c .before .before .before .args .t1 .count) (omega arith)) (c .refused2 .ensures)
+returns-2 c = rw (ne-eqb _ _ (c .before .before .if1 .left), lt-ltb taskLimit (c .before .before .before .args .t1 .count) (omega arith)) (c .refuse2 .ensures)
 
 first-faulty-requires : tie.Need-first-faulty-requires
 first-faulty-requires c κs = search needs
@@ -46,29 +46,29 @@ element-copy-out-task-fault c = search needs
 task-fault-requires : tie.Need-task-fault-requires
 task-fault-requires c κs = search needs
 
-cast-refused-2 : tie.Need-cast-refused-2
-cast-refused-2 c = search needs
+cast-refuse-2 : tie.Need-cast-refuse-2
+cast-refuse-2 c = search needs
 
-refused-requires-3 : tie.Need-refused-requires-3
-refused-requires-3 c κs = search needs
+refuse-requires-3 : tie.Need-refuse-requires-3
+refuse-requires-3 c κs = search needs
 
 returns-3 : tie.Need-returns-3
 unfolding judgedMixed
 returns-3 c =
     let a = c .before .before .before in
     let b = a .before in
-    rw (ne-eqb _ _ (b .before .before .if1 .left), le-ltb _ _ (b .before .if2 .left), ← b .first-faulty .ensures, lt-ltb _ _ (a .if3 .taken), ← c .before .task-fault .ensures) (c .refused3 .ensures)
+    rw (ne-eqb _ _ (b .before .before .if1 .left), le-ltb _ _ (b .before .if2 .left), ← b .first-faulty .ensures, lt-ltb _ _ (a .if3 .taken), ← c .before .task-fault .ensures) (c .refuse3 .ensures)
 
 round-of-requires : tie.Need-round-of-requires
 round-of-requires c κs = in-ranges c
 
-refused-requires-4 : tie.Need-refused-requires-4
-refused-requires-4 c κs = search needs
+refuse-requires-4 : tie.Need-refuse-requires-4
+refuse-requires-4 c κs = search needs
 
 returns-4 : tie.Need-returns-4
 returns-4 c =
     let a = c .before .before in
-    c .refused4 .ensures ∙ sym (mixed-long (a .before .before .before .before .before .args .t1) (in-ranges (a .before)) (a .round-of .ensures .above (omega arith)))
+    c .refuse4 .ensures ∙ sym (mixed-long (a .before .before .before .before .before .args .t1) (in-ranges (a .before)) (a .round-of .ensures .above (omega arith)))
 
 load-of-requires : tie.Need-load-of-requires
 load-of-requires c κs = (in-ranges (c .before .before), round-kept c)
@@ -86,20 +86,20 @@ pub judge-mixed-spec : {M : Type 1} → statement M
 judge-mixed-spec =
     tie.close
     (tie.spec
-    refused-requires
+    refuse-requires
     returns
-    cast-refused
-    refused-requires-2
+    cast-refuse
+    refuse-requires-2
     returns-2
     first-faulty-requires
     mul-task-fault
     element-copy-out-task-fault
     task-fault-requires
-    cast-refused-2
-    refused-requires-3
+    cast-refuse-2
+    refuse-requires-3
     returns-3
     round-of-requires
-    refused-requires-4
+    refuse-requires-4
     returns-4
     load-of-requires
     horizon-of-requires

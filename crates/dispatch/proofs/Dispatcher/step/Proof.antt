@@ -12,8 +12,8 @@ judge-requires c κs = search needs
 enum-known-why : tie.Need-enum-known-why
 enum-known-why c = search needs
 
-refused-requires : tie.Need-refused-requires
-refused-requires c κs = search needs
+handed-back-requires : tie.Need-handed-back-requires
+handed-back-requires c κs = search needs
 
 enum-told : tie.Need-enum-told
 enum-told c = search needs
@@ -23,7 +23,7 @@ step-well-formed-requires c κs = well-formed _ _ (sym (c .before .before .judge
 
 returns : tie.Need-returns
 unfolding stepped admitted
-returns c = rw (← c .before .before .before .before .judge .ensures, c .before .before .why .given .1) (c .refused .ensures)
+returns c = rw (← c .before .before .before .before .judge .ensures, c .before .before .why .given .1) (c .handed-back .ensures)
 
 returns-2 : tie.Need-returns-2
 unfolding stepped admitted
@@ -35,7 +35,7 @@ step-spec =
     (tie.spec
     judge-requires
     enum-known-why
-    refused-requires
+    handed-back-requires
     enum-told
     step-well-formed-requires
     returns
