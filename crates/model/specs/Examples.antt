@@ -24,6 +24,7 @@ use Rattle.model.specs.Report.{worstLines, reportOf, refused, written, C
 use Rattle.model.specs.StateBuffer.{stateBytes, halves, bufferOf, stateIn, startExported, stepExported, handed}
 use Rattle.model.specs.Writer.{fileWritten, firstStranger, tableIn, writeExported}
 use Rattle.model.specs.PlainText.{split, filled, allDigits, valueAfter, numbersFault, same, budgetLine, taskLine, lineOf, readLines, textForm, textRead, taskTexts, textOf, textWritten, fromTextExported, toTextExported}
+use Rattle.model.specs.ReportRead.{hasLine, passesExported}
 use Rattle.model.specs.Largest.{largestCost, costAnswer, largestExported}
 use Rattle.model.specs.Easing.{Lowered, searchedFrom, easing, easedExported}
 
@@ -744,6 +745,13 @@ tasksOfOne (suc n) = text "task 0 1 1 1\n" ++ tasksOfOne n
 many-lines : (textRead (text "budget 1\n" ++ tasksOfOne taskLimit) .admission ≡ Admission.Admitted) × (textRead (text "budget 1\n" ++ tasksOfOne taskLimit ++ text "task x") .admission ≡ at 66 (taskLimit + 2))
 unfolding tasksOfOne textRead textForm readLines lineOf budgetLine taskLine numbersFault valueAfter allDigits same filled split text judged judgedMixed firstButton firstFaulty taskFault first round load horizon largest sum count
 many-lines = (refl, refl)
+
+-- ---- what a host reads off a report
+
+-- The whole line counts, and not a part of one; what is longer than a report says nothing.
+passes-read : map passesExported (text "verdict passes\n" ∷ text "tasks 1\nverdict passes\nsettled 2\n" ∷ text "verdict passe\n" ∷ text "verdict passes \n" ∷ text "verdict late\n" ∷ [] ∷ (text "verdict passes\n" ++ replicate reportBytes 7) ∷ []) ≡ 1 ∷ 1 ∷ 0 ∷ 0 ∷ 0 ∷ 0 ∷ 0 ∷ []
+unfolding hasLine same split text
+passes-read = refl
 
 -- ---- easing
 

@@ -17,6 +17,7 @@ pub mod Report
 pub mod StateBuffer
 pub mod Writer
 pub mod PlainText
+pub mod ReportRead
 pub mod Easing
 pub mod Largest
 pub mod Log
