@@ -11,7 +11,7 @@ use Rattle.model.specs.Notation.{sum, largest, count, first, last, fill, Least}
 use Rattle.values.specs.declared.Table.{Table}
 use Rattle.values.specs.declared.Verdict.{Verdict}
 use Rattle.values.specs.declared.Easing.{Easing}
-use Rattle.values.specs.declared.Given.{Given}
+use Rattle.values.specs.declared.SlotAnswer.{SlotAnswer}
 use Rattle.values.specs.declared.Answer.{Answer}
 use Rattle.values.specs.declared.Outcome.{Outcome}
 use Rattle.model.specs.Limits.{taskLimit, slotCountLimit}
@@ -308,7 +308,7 @@ g-never-more = never-more table-g g-ranged reports 0 0 4 (lit< tt) (lit≤ tt)
 g-none-cut : (n : ℕ) → (turn table-g (stateAt table-g reports n) (reports n) .late ≡ 0) × (turn table-g (stateAt table-g reports n) (reports n) .closed ≡ 0) × (turn table-g (stateAt table-g reports n) (reports n) .lowest ≡ taskLimit)
 g-none-cut = none-cut table-g g-ranged reports 8 g-passes
 
-g-never-refused : (n : ℕ) → n < slotCountLimit → _≡_ {A = Stepped} (stepped table-g (stateAt table-g reports n) (reports n)) (record { given = Given.Slot (turn table-g (stateAt table-g reports n) (reports n)); state = stateAt table-g reports (suc n) })
+g-never-refused : (n : ℕ) → n < slotCountLimit → _≡_ {A = Stepped} (stepped table-g (stateAt table-g reports n) (reports n)) (record { answer = SlotAnswer.Slot (turn table-g (stateAt table-g reports n) (reports n)); state = stateAt table-g reports (suc n) })
 unfolding judged judgedMixed firstButton firstFaulty taskFault first round load horizon largest sum count
 g-never-refused n = never-refused table-g (record { round = 4; load = 4; horizon = 8 }) refl reports n
 

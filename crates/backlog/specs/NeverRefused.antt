@@ -8,7 +8,7 @@ use Rattle.values.specs.declared.Table.{Table}
 use Rattle.values.specs.declared.Measure.{Measure}
 use Rattle.values.specs.declared.Judgement.{Judgement}
 use Rattle.values.specs.declared.Admission.{Admission}
-use Rattle.values.specs.declared.Given.{Given}
+use Rattle.values.specs.declared.SlotAnswer.{SlotAnswer}
 use Rattle.model.specs.Values.{refusal}
 use Rattle.model.specs.Limits.{slotCountLimit}
 use Rattle.model.specs.Tasks.{judged}
@@ -25,7 +25,7 @@ module _ (t : Table) (m : Measure) (well : judged t ≡ Judgement.WellFormed m) 
       let b = sound t (well-formed t m well .ranged) done n .belongs in
       admitted-iff t (stateAt t done n) .1 (record { measure = m; well = well; fits = record { each = b .each; ran = b .ran; room = omega (arith, slots-are t (well-formed t m well .ranged) done n) } })
 
-  pub never-refused : n < slotCountLimit → stepped t (stateAt t done n) (done n) ≡ record { given = Given.Slot (turn t (stateAt t done n) (done n)); state = stateAt t done (suc n) }
+  pub never-refused : n < slotCountLimit → stepped t (stateAt t done n) (done n) ≡ record { answer = SlotAnswer.Slot (turn t (stateAt t done n) (done n)); state = stateAt t done (suc n) }
   unfolding stepped stateAt
   never-refused h =
       rw (history-admitted (omega arith), ne-eqb (slotCount t (stateAt t done n)) slotCountLimit (λ e. absurd (omega (arith, slots-are t (well-formed t m well .ranged) done n))))

@@ -12,7 +12,7 @@ abbrev pub startedOf : Started → StartedState
 startedOf r = record { admission = r .admission; state = stateOf (r .dispatcher) }
 
 abbrev pub steppedOf : Stepped → SteppedState
-steppedOf r = record { given = r .given; state = stateOf (r .next) }
+steppedOf r = record { answer = r .answer; state = stateOf (r .next) }
 
 -- Two values that are the same in the model are the same.
 back : State → Dispatcher
@@ -24,4 +24,4 @@ one-started a b e = ap (λ (x : StartedState). record { admission = x .admission
 
 pub one-stepped : (a b : Stepped) → steppedOf a ≡ steppedOf b → a ≡ b
 unfolding back
-one-stepped a b e = ap (λ (x : SteppedState). record { given = x .given; next = back (x .state) }) e
+one-stepped a b e = ap (λ (x : SteppedState). record { answer = x .answer; next = back (x .state) }) e

@@ -14,7 +14,7 @@ use Rattle.values.specs.declared.Table.{Table}
 use Rattle.values.specs.declared.Judgement.{Judgement}
 use Rattle.values.specs.declared.Admission.{Admission}
 use Rattle.values.specs.declared.Turn.{Turn}
-use Rattle.values.specs.declared.Given.{Given}
+use Rattle.values.specs.declared.SlotAnswer.{SlotAnswer}
 use Rattle.model.specs.Limits.{taskLimit, slotCountLimit}
 use Rattle.model.specs.Notation.{bit, bits, fill}
 use Rattle.model.specs.Tasks.{task, measure}
@@ -38,7 +38,7 @@ use Rattle.dispatch.specs.Accounts.{counted, counted-fill}
 
 -- A step that nothing refuses.
 abbrev pub taken : Table → State → Bool → Stepped
-taken t d done = record { given = Given.Slot (turn t d done); state = after t d done }
+taken t d done = record { answer = SlotAnswer.Slot (turn t d done); state = after t d done }
 
 -- A step on a well-formed table: refused by 8 or by 9, or taken.
 abbrev pub stepWellFormed : Table → State → Bool → Stepped
@@ -170,6 +170,6 @@ module _ (t : Table) (d : State) (done : Bool) (unrefused : Unrefused t d) (m : 
       rw (g, h, gives, a .waits, a .lefts, a .owned)
 
   pub taken-is : {answer : Turn} {given : List ℕ} {empty : ℕ} → given ≡ counted (d .given) (m .owner) → answer ≡ turnOf (m .owner) (m .late) → empty ≡ d .empty + bit (eqb (m .owner) taskLimit)
-      → record { given = Given.Slot answer; state = stateWith (m .wait) (m .left) (m .owner) given empty } ≡ taken t d done
+      → record { answer = SlotAnswer.Slot answer; state = stateWith (m .wait) (m .left) (m .owner) given empty } ≡ taken t d done
   unfolding turn
   taken-is g w h = rw (w, state-is g h, a .owned, a .lates, ones-bits, trailing-bits)

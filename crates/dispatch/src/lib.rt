@@ -21,7 +21,7 @@ use slots::NO_TASK;
 use slots::Numbers;
 use slots::Ranks;
 use values::Admission;
-use values::Given;
+use values::SlotAnswer;
 use values::Judgement;
 use values::Refusal;
 use values::SLOT_COUNT_LIMIT;
@@ -52,7 +52,7 @@ pub struct Started {
 }
 
 pub struct Stepped {
-    pub given: Given,
+    pub answer: SlotAnswer,
     pub next: Dispatcher,
 }
 
@@ -101,7 +101,7 @@ fn refused(d: Dispatcher, why: Refusal) -> Stepped
     ensures { λ r. ⌜ steppedOf r ≡ refuseStep why (stateOf d) ⌝ }
 {
     Stepped {
-        given: Given::Refused(why),
+        answer: SlotAnswer::Refused(why),
         next: d,
     }
 }
@@ -250,7 +250,7 @@ fn step_taken(
     let left = moved.left;
     count_given(&mut given, owner);
     Stepped {
-        given: Given::Slot(turn_of(owner, moved.late)),
+        answer: SlotAnswer::Slot(turn_of(owner, moved.late)),
         next: Dispatcher {
             wait,
             left,

@@ -40,13 +40,13 @@ fn judge(input: &[u8], output: &mut [u8]) -> usize
     ensures { λ r. ⌜ Printed (now (input .entry)) (take r (now (output .exit))) ⌝ }
     ensures { λ r. ⌜ Counts r (now (output .exit)) ⌝ }
 {
-    let loaded = tablefile::load(input);
-    let admission = loaded.admission;
+    let contents = tablefile::read(input);
+    let admission = contents.admission;
     match admission {
         Admission::Refused(why) => report::write_refusal(output, why),
         Admission::Admitted => {
-            let table = loaded.table;
-            let answer = jump::test(table, loaded.budget);
+            let table = contents.table;
+            let answer = jump::test(table, contents.budget);
             let outcome = answer.outcome;
             let quick = quick::is_pass(quick::test(table));
             write_outcome(output, table.count, quick, answer, outcome)

@@ -8,7 +8,7 @@ use Rattle.values.specs.declared.Task.{Task}
 use Rattle.values.specs.declared.Table.{Table}
 use Rattle.values.specs.declared.Judgement.{Judgement}
 use Rattle.values.specs.declared.Admission.{Admission}
-use Rattle.values.specs.declared.Loaded.{Loaded}
+use Rattle.values.specs.declared.Contents.{Contents}
 use Rattle.model.specs.Limits.{taskLimit, slotLimit, roundLimit, slotCountLimit, budgetBytes}
 use Rattle.model.specs.Tasks.{task, offset, within, taskFault, firstFaulty, firstButton, round, judgedMixed, periodicOnly, judged}
 use Rattle.model.specs.TableFile.{eight, refuseFile, whole, readRecord, readFrom, formOf}
@@ -32,12 +32,12 @@ either : {A : Type 0} (P : A → Type 0) (b : Bool) {x y : A} → P x → P y �
 either P true h k = h
 either P false h k = k
 
-abbrev LoadedBelow : Loaded → Type 0
+abbrev LoadedBelow : Contents → Type 0
 LoadedBelow l = Below (l .admission)
 
 -- A file, by its form.
 module _ (s : List ℕ) where
-  record-below : (b : ℕ) (ks : List Task) (at : ℕ) (next : ℕ → Task → Loaded) → ((bytes : ℕ) (k : Task) → LoadedBelow (next bytes k)) → LoadedBelow (readRecord s b ks at next)
+  record-below : (b : ℕ) (ks : List Task) (at : ℕ) (next : ℕ → Task → Contents) → ((bytes : ℕ) (k : Task) → LoadedBelow (next bytes k)) → LoadedBelow (readRecord s b ks at next)
   record-below b ks at next h =
       either LoadedBelow (leb (length s) at) (lit< tt)
       (either LoadedBelow (eqb (getD s at 0) 1) (lit< tt)

@@ -5,7 +5,7 @@ use mathlib.Core.Bool.{_||_, true, false}
 use Prim.Native.Nat.{ℕ, zero, suc, _+_, _-_, _*_}
 use lib.Dec.{eqb}
 use lib.ListN.{replicate}
-use Rattle.model.specs.Values.{Sort, Task, Table, QuickAnswer, DistanceAnswer, LargestCost, Admission, Given, judgementSaid, refusal}
+use Rattle.model.specs.Values.{Sort, Task, Table, QuickAnswer, DistanceAnswer, LargestCost, Admission, SlotAnswer, judgementSaid, refusal}
 use Rattle.model.specs.Notation.{sum, largest, count, first, last, fill, text, digits, decimal}
 use Rattle.model.specs.Limits.{taskLimit}
 use Rattle.model.specs.Tasks.{taskFault, firstFaulty, firstButton, round, load, horizon, judgedMixed, judged}
@@ -13,10 +13,10 @@ use Rattle.model.specs.Demand.{arrivedIn, demandFor}
 use Rattle.model.specs.Run.{choose, ownerOf, served}
 use Rattle.model.specs.Idle.{idleAt, firstIdle, missedAt}
 use Rattle.model.specs.Patterns.{startingAt, light, calm, quickAnswer, commonDivisor, distance, pattern, calmPatterns, distancePass, distanceAnswer}
-use Rattle.model.specs.TableFile.{tableOf, bytesOf, taskRecords, fileOf, readFrom, formOf, loadedFrom, periodicFrom}
+use Rattle.model.specs.TableFile.{tableOf, bytesOf, taskRecords, fileOf, readFrom, formOf, fileRead, periodicFrom}
 use Rattle.model.specs.Dispatcher.{admitted, started, stepped}
 use Rattle.model.specs.Writer.{tableIn, firstStranger}
-use Rattle.model.specs.PlainText.{split, filled, allDigits, valueAfter, numbersFault, same, budgetLine, taskLine, lineOf, readLines, textForm, textLoaded, taskTexts, textOf}
+use Rattle.model.specs.PlainText.{split, filled, allDigits, valueAfter, numbersFault, same, budgetLine, taskLine, lineOf, readLines, textForm, textRead, taskTexts, textOf}
 use Rattle.model.specs.Easing.{easedExported}
 use Rattle.model.specs.Largest.{costAnswer}
 use Rattle.model.specs.Examples.{of, padded, uncounted, budgetOf, refusalOf, at, rowOf, file-b}
@@ -53,10 +53,10 @@ abbrev file-shutter : List ℕ
 file-shutter = budgetOf 1000 ++ rowOf (of 0 1 3 6) ++ rowOf (of 3 1 2 6) ++ pressOf 1 1 2 ++ (3 ∷ [])
 
 button-files :
-    (loadedFrom file-shutter ≡ record { admission = Admission.Admitted; budget = 1000; table = table-shutter })
+    (fileRead file-shutter ≡ record { admission = Admission.Admitted; budget = 1000; table = table-shutter })
     × (fileOf 1000 (of 0 1 3 6 ∷ of 3 1 2 6 ∷ button 1 1 2 ∷ []) ≡ file-shutter)
-    × (loadedFrom (budgetOf 7 ++ pressOf 1 2 3 ++ rowOf (of 9 1 2 3) ++ (3 ∷ [])) .table ≡ tableOf (button 1 2 3 ∷ of 9 1 2 3 ∷ []))
-unfolding loadedFrom periodicFrom formOf readFrom judgedMixed firstFaulty taskFault first round load horizon largest sum count bytesOf taskRecords
+    × (fileRead (budgetOf 7 ++ pressOf 1 2 3 ++ rowOf (of 9 1 2 3) ++ (3 ∷ [])) .table ≡ tableOf (button 1 2 3 ∷ of 9 1 2 3 ∷ []))
+unfolding fileRead periodicFrom formOf readFrom judgedMixed firstFaulty taskFault first round load horizon largest sum count bytesOf taskRecords
 button-files = (refl, refl, refl)
 
 presses : ℕ → List ℕ
@@ -73,7 +73,7 @@ button-file-refusals :
     ≡ at 22 0 ∷ at 20 9 ∷ at 20 9
     ∷ at 25 (9 + 17 + 13 * (taskLimit - 1)) ∷ at 25 (9 + 13 * taskLimit)
     ∷ at 3 1 ∷ []
-unfolding loadedFrom periodicFrom formOf readFrom judgedMixed firstFaulty taskFault first round load horizon largest sum count bytesOf presses
+unfolding fileRead periodicFrom formOf readFrom judgedMixed firstFaulty taskFault first round load horizon largest sum count bytesOf presses
 button-file-refusals = refl
 
 -- In a row of words a button has 0 where a task has its offset; any other number there is no task's.
@@ -85,13 +85,13 @@ button-rows = (refl, refl)
 
 -- In a text a line `button`, of three numbers, with the faults of a task's.
 abbrev textRefusal : List ℕ → Admission
-textRefusal s = textLoaded s .admission
+textRefusal s = textRead s .admission
 
 button-texts :
-    (textLoaded (text "budget 7\nbutton 1 2 3\ntask 9 1 2 3\n") ≡ record { admission = Admission.Admitted; budget = 7; table = tableOf (button 1 2 3 ∷ of 9 1 2 3 ∷ []) })
+    (textRead (text "budget 7\nbutton 1 2 3\ntask 9 1 2 3\n") ≡ record { admission = Admission.Admitted; budget = 7; table = tableOf (button 1 2 3 ∷ of 9 1 2 3 ∷ []) })
     × (textOf 7 (button 1 2 3 ∷ of 9 1 2 3 ∷ []) ≡ text "budget 7\nbutton 1 2 3\ntask 9 1 2 3\n")
     × (map textRefusal (text "button 1 2 3" ∷ text "budget 1\nbutton 1 2" ∷ text "budget 1\nbutton 0 1 2 3" ∷ text "budget 1\nbutton 1 x" ∷ text "budget 1\nButton 1 2 3" ∷ []) ≡ at 64 1 ∷ at 63 2 ∷ at 63 2 ∷ at 61 2 ∷ at 60 2 ∷ [])
-unfolding textLoaded textForm readLines lineOf budgetLine taskLine numbersFault valueAfter allDigits same filled split text decimal digits taskTexts judgedMixed firstFaulty taskFault first round load horizon largest sum count
+unfolding textRead textForm readLines lineOf budgetLine taskLine numbersFault valueAfter allDigits same filled split text decimal digits taskTexts judgedMixed firstFaulty taskFault first round load horizon largest sum count
 button-texts = (refl, refl, refl)
 
 -- In a pattern a button starts at 0: one slot later there would be no miss.
@@ -122,10 +122,10 @@ only-periodic :
     (quickAnswer table-shutter ≡ QuickAnswer.Refused (refusal 11 2))
     × (costAnswer table-shutter 9 1000 ≡ LargestCost.Refused (refusal 11 2))
     × (started table-shutter .admission ≡ at 11 2)
-    × (stepped table-shutter (uncounted (padded 99 []) (padded 9 []) 99) false .given ≡ Given.Refused (refusal 11 2))
+    × (stepped table-shutter (uncounted (padded 99 []) (padded 9 []) 99) false .answer ≡ SlotAnswer.Refused (refusal 11 2))
     × (easedExported file-b file-shutter ≡ 4 * (65536 * 11 + 2) + 3)
     × (easedExported file-shutter [] ≡ 4 * (65536 * 11 + 2) + 2)
-unfolding quickAnswer costAnswer started stepped admitted loadedFrom periodicFrom formOf readFrom judged judgedMixed firstButton firstFaulty taskFault first round load horizon largest sum count bytesOf
+unfolding quickAnswer costAnswer started stepped admitted fileRead periodicFrom formOf readFrom judged judgedMixed firstButton firstFaulty taskFault first round load horizon largest sum count bytesOf
 only-periodic = (refl, refl, refl, refl, refl, refl)
 
 -- Demand counts the jobs that come, of either sort: of presses at 1, 4 and 8, each due three slots later, two lie from 1 to 7 and one from 4 on.

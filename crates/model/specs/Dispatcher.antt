@@ -1,6 +1,6 @@
 -- The dispatcher: its state, when a state belongs to a table, the start, and the step in its four rules.
 use Rattle.model.specs.Notation.{List, Bool, cond, not, _&&_, _||_, ℕ, _+_, _-_, max, ltb, eqb, getD, replicate, bit, sum, count, first, bits, fill}
-use Rattle.model.specs.Values.{Table, Refusal, Judgement, Admission, Turn, Given, refusal}
+use Rattle.model.specs.Values.{Table, Refusal, Judgement, Admission, Turn, SlotAnswer, refusal}
 use Rattle.model.specs.Limits.{taskLimit, slotCountLimit, sumPlace}
 use Rattle.model.specs.Tasks.{task, judged, offset}
 use Rattle.model.specs.Run.{tieOrder, choose}
@@ -20,7 +20,7 @@ pub record Started : Type 0 where
   pub state : State
 
 pub record Stepped : Type 0 where
-  pub given : Given
+  pub answer : SlotAnswer
   pub state : State
 
 -- The wait of task i, and the slots its open job may still use. An open job has at least one.
@@ -118,13 +118,13 @@ module _ (t : Table) (d : State) (done : Bool) where
 -- A step on any table and any state: refused as the state is, then by 9 if it can count no more slots, or taken. A refusal hands the state
 -- back as it came.
 abbrev pub refuseStep : Refusal → State → Stepped
-refuseStep r d = record { given = Given.Refused r; state = d }
+refuseStep r d = record { answer = SlotAnswer.Refused r; state = d }
 
 abbrev pub stepAdmitted : Table → State → Bool → Admission → Stepped
 stepAdmitted t d done (Admission.Refused r) = refuseStep r d
 stepAdmitted t d done Admission.Admitted =
     cond (eqb (slotCount t d) slotCountLimit) (refuseStep (refusal 9 0) d)
-    (record { given = Given.Slot (turn t d done); state = after t d done })
+    (record { answer = SlotAnswer.Slot (turn t d done); state = after t d done })
 
 unfoldable pub stepped : Table → State → Bool → Stepped
 stepped t d done = stepAdmitted t d done (admitted t d)

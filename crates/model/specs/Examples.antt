@@ -7,7 +7,7 @@ use Prim.Native.Nat.{ℕ, zero, suc, _+_, _-_, _*_, _/_, _%_, _^_}
 use native.Mathlib.Omega.{arith}
 use lib.Dec.{eqb, lit≤, lit<}
 use lib.ListN.{length, getD, replicate}
-use Rattle.model.specs.Values.{Sort, Task, Table, Measure, Judgement, Verdict, Outcome, Easing, Admission, Given, Writing, refusal, verdictSaid, judgementSaid, admissionSaid, givenSaid, outcomeSaid, costSaid}
+use Rattle.model.specs.Values.{Sort, Task, Table, Measure, Judgement, Verdict, Outcome, Easing, Admission, SlotAnswer, Writing, refusal, verdictSaid, judgementSaid, admissionSaid, slotSaid, outcomeSaid, costSaid}
 use Rattle.model.specs.Notation.{pos, negsuc, sum, largest, count, first, last, bits, fill, text, digits, decimal}
 use Rattle.model.specs.Limits.{taskLimit, slotLimit, roundLimit, reportBytes, longestFile, longestText, slotCountLimit, sumPlace}
 use Rattle.model.specs.Tasks.{task, taskFault, firstFaulty, round, load, horizon, measure, judgedBy, judgedMixed, firstButton, judged, offset}
@@ -17,13 +17,13 @@ use Rattle.model.specs.Run.{tieOrder, choose, ownerOf, served, owner, ru
 use Rattle.model.specs.Idle.{idleAt, firstIdle, missedAt}
 use Rattle.model.specs.Patterns.{startingAt, calm, simultaneous, quickPass, quickAnswer, commonDivisor, reduced, distance, pattern, distancePass, distanceAnswer}
 use Rattle.model.specs.Verdict.{needed, lateStart, verdict, settledBy, brief, Permitted}
-use Rattle.model.specs.TableFile.{taskIn, tableOf, bytesOf, taskRecords, fileOf, readFrom, formOf, loadedFrom, periodicFrom}
+use Rattle.model.specs.TableFile.{taskIn, tableOf, bytesOf, taskRecords, fileOf, readFrom, formOf, fileRead, periodicFrom}
 use Rattle.model.specs.Dispatcher.{State, slotCount, firstStrange, admitted, startOf, started, ownerNow, after, turn, stepped}
 use Rattle.model.specs.History.{stateAt, ownerAt, reported, had, Finished}
 use Rattle.model.specs.Report.{worstLines, reportOf, refused, written, Checked, quickExported, distanceExported, Printed}
 use Rattle.model.specs.StateBuffer.{stateBytes, halves, bufferOf, stateIn, startExported, stepExported, handed}
 use Rattle.model.specs.Writer.{fileWritten, firstStranger, tableIn, writeExported}
-use Rattle.model.specs.PlainText.{split, filled, allDigits, valueAfter, numbersFault, same, budgetLine, taskLine, lineOf, readLines, textForm, textLoaded, taskTexts, textOf, textWritten, fromTextExported, toTextExported}
+use Rattle.model.specs.PlainText.{split, filled, allDigits, valueAfter, numbersFault, same, budgetLine, taskLine, lineOf, readLines, textForm, textRead, taskTexts, textOf, textWritten, fromTextExported, toTextExported}
 use Rattle.model.specs.Largest.{largestCost, costAnswer, largestExported}
 use Rattle.model.specs.Easing.{Lowered, searchedFrom, easing, easedExported}
 
@@ -199,7 +199,7 @@ said-file : map admissionSaid (Admission.Refused (refusal 21 9) ∷ Admission.Ad
 said-file = refl
 
 -- A slot for none, with the tasks 1 and 2 closed late.
-said-step : map givenSaid (Given.Refused (refusal 8 taskLimit) ∷ Given.Slot (record { owner = taskLimit; late = 6; closed = 2; lowest = 1 }) ∷ []) ≡ (8 ∷ taskLimit ∷ []) ∷ (0 ∷ taskLimit ∷ 6 ∷ 2 ∷ 1 ∷ []) ∷ []
+said-step : map slotSaid (SlotAnswer.Refused (refusal 8 taskLimit) ∷ SlotAnswer.Slot (record { owner = taskLimit; late = 6; closed = 2; lowest = 1 }) ∷ []) ≡ (8 ∷ taskLimit ∷ []) ∷ (0 ∷ taskLimit ∷ 6 ∷ 2 ∷ 1 ∷ []) ∷ []
 said-step = refl
 
 -- A budget equal to the needed count suffices, and one slot less does not; overload needs none.
@@ -351,16 +351,16 @@ abbrev longest : List ℕ
 longest = budgetOf 1 ++ rowsOfOne taskLimit ++ (3 ∷ [])
 
 files :
-    (loadedFrom file-b ≡ record { admission = Admission.Admitted; budget = 1000; table = table-b })
-    × (loadedFrom (budgetOf 1000 ++ (3 ∷ [])) ≡ record { admission = Admission.Refused (refusal 1 0); budget = 0; table = tableOf [] })
-    × (loadedFrom longest .admission ≡ Admission.Admitted)
+    (fileRead file-b ≡ record { admission = Admission.Admitted; budget = 1000; table = table-b })
+    × (fileRead (budgetOf 1000 ++ (3 ∷ [])) ≡ record { admission = Admission.Refused (refusal 1 0); budget = 0; table = tableOf [] })
+    × (fileRead longest .admission ≡ Admission.Admitted)
     × (length longest ≡ longestFile)
     × (tableOf (of 0 1 1 1 ∷ []) ≡ record { count = 1; tasks = of 0 1 1 1 ∷ replicate (taskLimit - 1) (of 0 0 0 0) })
-unfolding loadedFrom periodicFrom formOf readFrom judged judgedMixed firstButton firstFaulty taskFault first round load horizon largest sum count rowsOfOne
+unfolding fileRead periodicFrom formOf readFrom judged judgedMixed firstButton firstFaulty taskFault first round load horizon largest sum count rowsOfOne
 files = (refl, refl, refl, refl, refl)
 
 abbrev pub refusalOf : List ℕ → Admission
-refusalOf s = loadedFrom s .admission
+refusalOf s = fileRead s .admission
 
 abbrev pub at : ℕ → ℕ → Admission
 at n p = Admission.Refused (refusal n p)
@@ -383,7 +383,7 @@ file-refusals :
     ∷ at 1 0 ∷ at 25 (longestFile - 1) ∷ at 26 (longestFile - 1)
     ∷ at 21 26 ∷ at 23 26 ∷ at 20 26
     ∷ at 24 10 ∷ at 25 (longestFile - 1) ∷ []
-unfolding loadedFrom periodicFrom formOf readFrom judged judgedMixed firstButton firstFaulty taskFault first rowsOfOne
+unfolding fileRead periodicFrom formOf readFrom judged judgedMixed firstButton firstFaulty taskFault first rowsOfOne
 file-refusals = refl
 
 -- A whole budget of 0 is 27 at 0, before any later fault and before the table; cut short it is 20, and a second one 23.
@@ -399,7 +399,7 @@ budgets-of-nothing :
     ∷ at 27 0 ∷ at 27 0
     ∷ at 27 0 ∷ at 20 0 ∷ at 23 9
     ∷ Admission.Admitted ∷ Admission.Admitted ∷ []
-unfolding loadedFrom periodicFrom formOf readFrom judged judgedMixed firstButton firstFaulty taskFault first round load horizon largest sum count rowsOfOne
+unfolding fileRead periodicFrom formOf readFrom judged judgedMixed firstButton firstFaulty taskFault first round load horizon largest sum count rowsOfOne
 budgets-of-nothing = refl
 
 -- A budget of more than four bytes, and numbers of three and four.
@@ -456,7 +456,7 @@ closings = (refl, refl, refl, refl)
 starts :
     (started table-b ≡ record { admission = Admission.Admitted; state = uncounted (padded 0 (8 ∷ [])) (padded 0 []) taskLimit })
     × (started (tableOf []) ≡ record { admission = at 1 0; state = uncounted (padded 0 []) (padded 0 []) 0 })
-    × (stepped table-g (startOf table-g) false .given ≡ Given.Slot (record { owner = 0; late = 0; closed = 0; lowest = taskLimit }))
+    × (stepped table-g (startOf table-g) false .answer ≡ SlotAnswer.Slot (record { owner = 0; late = 0; closed = 0; lowest = taskLimit }))
 unfolding started startOf stepped admitted slotCount turn ownerNow choose fill bits firstStrange judged judgedMixed firstButton firstFaulty taskFault first round load horizon largest sum count
 starts = (refl, refl, refl)
 
@@ -464,19 +464,19 @@ starts = (refl, refl, refl)
 abbrev two : Table
 two = tableOf (of 0 2 3 4 ∷ of 9 1 4 4 ∷ [])
 
-state : ℕ → ℕ → ℕ → ℕ → ℕ → Given
-state w0 w1 l0 l1 last = stepped two (uncounted (padded 7 (w0 ∷ w1 ∷ [])) (padded 7 (l0 ∷ l1 ∷ [])) last) false .given
+state : ℕ → ℕ → ℕ → ℕ → ℕ → SlotAnswer
+state w0 w1 l0 l1 last = stepped two (uncounted (padded 7 (w0 ∷ w1 ∷ [])) (padded 7 (l0 ∷ l1 ∷ [])) last) false .answer
 
 -- A refusal hands the state back; the table's number comes before 8.
 abbrev any-state : State
 any-state = record { wait = 1 ∷ 2 ∷ []; left = 3 ∷ 4 ∷ []; last = 5; given = 6 ∷ []; empty = 7 }
 
-handed-back : map (λ t. stepped t any-state true) (tableOf [] ∷ two ∷ []) ≡ map (λ r. record { given = Given.Refused r; state = any-state }) (refusal 1 0 ∷ refusal 8 0 ∷ [])
+handed-back : map (λ t. stepped t any-state true) (tableOf [] ∷ two ∷ []) ≡ map (λ r. record { answer = SlotAnswer.Refused r; state = any-state }) (refusal 1 0 ∷ refusal 8 0 ∷ [])
 unfolding stepped admitted slotCount firstStrange judged judgedMixed firstButton firstFaulty taskFault first round load horizon largest sum count
 handed-back = refl
 
 -- A closed job may wait for as long as the offset or the period is.
-no-strangers : state 4 9 0 0 taskLimit ≡ Given.Slot (record { owner = taskLimit; late = 0; closed = 0; lowest = taskLimit })
+no-strangers : state 4 9 0 0 taskLimit ≡ SlotAnswer.Slot (record { owner = taskLimit; late = 0; closed = 0; lowest = taskLimit })
 unfolding state stepped admitted slotCount turn ownerNow choose bits firstStrange judged judgedMixed firstButton firstFaulty taskFault first round load horizon largest sum count
 no-strangers = refl
 
@@ -484,26 +484,26 @@ no-strangers = refl
 -- an open job that waits less than T - D, or more than T - 1; a last-run number that is no task.
 strangers :
     state 5 0 0 0 taskLimit ∷ state 0 10 0 0 taskLimit ∷ state 2 0 3 0 taskLimit ∷ state 0 0 1 0 taskLimit ∷ state 4 0 1 0 taskLimit ∷ state 0 4 0 1 taskLimit ∷ state 0 0 0 0 2 ∷ state 0 0 0 0 (taskLimit + 1) ∷ []
-    ≡ map (λ p. Given.Refused (refusal 8 p)) (0 ∷ 1 ∷ 0 ∷ 0 ∷ 0 ∷ 1 ∷ taskLimit ∷ taskLimit ∷ [])
+    ≡ map (λ p. SlotAnswer.Refused (refusal 8 p)) (0 ∷ 1 ∷ 0 ∷ 0 ∷ 0 ∷ 1 ∷ taskLimit ∷ taskLimit ∷ [])
 unfolding state stepped admitted slotCount firstStrange judged judgedMixed firstButton firstFaulty taskFault first round load horizon largest sum count
 strangers = refl
 
 -- At its deadline, with wait T - D, a job is no stranger: it is closed late, or by a done report before that. Entries past the table stay.
 at-deadline :
     (stepped two (record { wait = padded 7 (1 ∷ 9 ∷ []); left = padded 7 (1 ∷ 0 ∷ []); last = 0; given = padded 7 (3 ∷ 4 ∷ []); empty = 5 }) false
-    ≡ record { given = Given.Slot (record { owner = taskLimit; late = 1; closed = 1; lowest = 0 }); state = record { wait = padded 7 (0 ∷ 8 ∷ []); left = padded 7 (0 ∷ 0 ∷ []); last = taskLimit; given = padded 7 (3 ∷ 4 ∷ []); empty = 6 } })
+    ≡ record { answer = SlotAnswer.Slot (record { owner = taskLimit; late = 1; closed = 1; lowest = 0 }); state = record { wait = padded 7 (0 ∷ 8 ∷ []); left = padded 7 (0 ∷ 0 ∷ []); last = taskLimit; given = padded 7 (3 ∷ 4 ∷ []); empty = 6 } })
     × (turn two (uncounted (padded 0 (1 ∷ 9 ∷ [])) (padded 7 (2 ∷ 0 ∷ [])) 0) true .closed ≡ 0)
 unfolding stepped admitted slotCount turn after ownerNow choose fill bits firstStrange judged judgedMixed firstButton firstFaulty taskFault first round load horizon largest sum count
 at-deadline = (refl, refl)
 
 -- A state's slots: only the tasks of the table and the empty slots are summed. Below 2^64 - 1 a step is taken, at it it is 9, and above it
 -- 8 at its last place, without wrapping; where 8 has another place, that is told first, before 9 too.
-counted : ℕ → ℕ → ℕ → ℕ → Given
-counted last g0 g1 empty = stepped two (record { wait = padded 0 []; left = padded 0 []; last = last; given = padded 7 (g0 ∷ g1 ∷ []); empty = empty }) false .given
+counted : ℕ → ℕ → ℕ → ℕ → SlotAnswer
+counted last g0 g1 empty = stepped two (record { wait = padded 0 []; left = padded 0 []; last = last; given = padded 7 (g0 ∷ g1 ∷ []); empty = empty }) false .answer
 
 accounts :
     counted taskLimit (slotCountLimit - 2) 0 1 ∷ counted taskLimit (slotCountLimit - 3) 1 2 ∷ counted taskLimit slotCountLimit 0 1 ∷ counted taskLimit 1 slotCountLimit slotCountLimit ∷ counted 2 slotCountLimit 0 1 ∷ counted 2 slotCountLimit 0 0 ∷ []
-    ≡ Given.Slot (record { owner = 0; late = 0; closed = 0; lowest = taskLimit }) ∷ map Given.Refused (refusal 9 0 ∷ refusal 8 sumPlace ∷ refusal 8 sumPlace ∷ refusal 8 taskLimit ∷ refusal 8 taskLimit ∷ [])
+    ≡ SlotAnswer.Slot (record { owner = 0; late = 0; closed = 0; lowest = taskLimit }) ∷ map SlotAnswer.Refused (refusal 9 0 ∷ refusal 8 sumPlace ∷ refusal 8 sumPlace ∷ refusal 8 taskLimit ∷ refusal 8 taskLimit ∷ [])
 unfolding counted stepped admitted slotCount turn ownerNow choose bits firstStrange judged judgedMixed firstButton firstFaulty taskFault first round load horizon largest sum count
 accounts = refl
 
@@ -584,7 +584,7 @@ exported :
     × (Checked (budgetOf 1 ++ (9 ∷ [])) (replicate reportBytes 7) (record { number = 1376265; buffer = replicate reportBytes 7 }))
     × (refused (refusal 21 9) (7 ∷ []) ≡ record { number = 1376265; buffer = 7 ∷ [] })
     × (written (5 ∷ 6 ∷ []) (1 ∷ 2 ∷ 3 ∷ []) ≡ record { number = 2; buffer = 5 ∷ 6 ∷ 3 ∷ [] })
-unfolding loadedFrom periodicFrom formOf readFrom
+unfolding fileRead periodicFrom formOf readFrom
 exported = (refl, refl, refl, refl, refl)
 
 -- A whole report, of 70 bytes, in the buffer and as it is printed: b with a budget of 37.
@@ -595,7 +595,7 @@ abbrev file-short : List ℕ
 file-short = budgetOf 37 ++ rowOf (of 8 5 7 15) ++ rowOf (of 0 2 2 5) ++ (3 ∷ [])
 
 told : Checked file-short (replicate reportBytes 7) (record { number = 70; buffer = report-short ++ replicate (reportBytes - 70) 7 }) × Printed file-short report-short
-unfolding loadedFrom periodicFrom formOf readFrom Permitted judged judgedMixed firstButton firstFaulty taskFault settledBy verdict needed lateStart lateAt first last round load horizon largest sum count demand arrivedIn reportOf text decimal digits quickPass calm startingAt fill firstIdle idleAt missedAt ownerOf served choose
+unfolding fileRead periodicFrom formOf readFrom Permitted judged judgedMixed firstButton firstFaulty taskFault settledBy verdict needed lateStart lateAt first last round load horizon largest sum count demand arrivedIn reportOf text decimal digits quickPass calm startingAt fill firstIdle idleAt missedAt ownerOf served choose
 told =
     let a = brief (Outcome.Tested Verdict.Undecided) (measured 15 11 38) 37 in
     ((a, refl, refl), (a, refl, refl))
@@ -612,7 +612,7 @@ distance-told = refl
 
 -- The line of a refusal; a number as long as the longest of a report, `taskLimit` times the limit of H.
 refusal-lines : Printed (budgetOf 1 ++ (9 ∷ [])) (text "refused 21 at 9\n") × Printed (budgetOf 1 ++ (3 ∷ 3 ∷ [])) (text "refused 24 at 10\n") × (decimal 32000000000000 ≡ text "32000000000000")
-unfolding loadedFrom periodicFrom formOf readFrom text decimal digits
+unfolding fileRead periodicFrom formOf readFrom text decimal digits
 refusal-lines = (refl, refl, refl)
 
 -- ---- the state buffer
@@ -699,8 +699,8 @@ exported-writes = (refl, refl, refl, refl, refl, refl)
 -- ---- plain text
 
 -- Words are parted by blanks and tabs; a carriage return at a line's end and a comment say nothing; the last line may lack its line feed.
-text-b : textLoaded (text "# the bench\n\n budget 1000\r\ntask 8\t5  7 015# camera\ntask 0 2 2 5") ≡ record { admission = Admission.Admitted; budget = 1000; table = table-b }
-unfolding textLoaded textForm readLines lineOf budgetLine taskLine numbersFault valueAfter allDigits same filled split text judged judgedMixed firstButton firstFaulty taskFault first round load horizon largest sum count
+text-b : textRead (text "# the bench\n\n budget 1000\r\ntask 8\t5  7 015# camera\ntask 0 2 2 5") ≡ record { admission = Admission.Admitted; budget = 1000; table = table-b }
+unfolding textRead textForm readLines lineOf budgetLine taskLine numbersFault valueAfter allDigits same filled split text judged judgedMixed firstButton firstFaulty taskFault first round load horizon largest sum count
 text-b = refl
 
 -- The text of table b; from text to file and back.
@@ -714,7 +714,7 @@ text-of-b = (refl, refl, refl, refl)
 
 -- The first fault wins, from left to right: the first word, its place, then the numbers; the table is judged after the form.
 text-refusals :
-    map (λ s. textLoaded s .admission) (
+    map (λ s. textRead s .admission) (
     text "" ∷ text "# nothing\n" ∷ text "\nbudgets 5" ∷ text "task 1 2 3 4\nbudget 5" ∷ text "budget 5\n\nbudget x"
     ∷ text "budget" ∷ text "budget 5 6" ∷ text "budget -5" ∷ text "budget 18446744073709551615" ∷ text "budget 18446744073709551616" ∷ text "budget 99999999999999999999x"
     ∷ text "budget 5\ntask 1 x" ∷ text "budget 5\ntask 1 2 3 4 x" ∷ text "budget 5\ntask 1 2 3" ∷ text "budget 5\ntask 4294967296 2" ∷ text "budget 5\ntask 4294967295 1 1 1"
@@ -724,16 +724,16 @@ text-refusals :
     ∷ at 63 1 ∷ at 63 1 ∷ at 61 1 ∷ at 1 0 ∷ at 62 1 ∷ at 61 1
     ∷ at 61 2 ∷ at 63 2 ∷ at 63 2 ∷ at 62 2 ∷ at 6 0
     ∷ at 1 0 ∷ at 61 1 ∷ []
-unfolding textLoaded textForm readLines lineOf budgetLine taskLine numbersFault valueAfter allDigits same filled split text judged judgedMixed firstButton firstFaulty taskFault first round load horizon largest sum count
+unfolding textRead textForm readLines lineOf budgetLine taskLine numbersFault valueAfter allDigits same filled split text judged judgedMixed firstButton firstFaulty taskFault first round load horizon largest sum count
 text-refusals = refl
 
 -- A budget of 0 is 27 at its line, once the line has no other fault, and before any later line.
 texts-of-nothing :
-    map (λ s. textLoaded s .admission) (
+    map (λ s. textRead s .admission) (
     text "budget 0\nx" ∷ text "# none\nbudget 000" ∷ text "budget 0 0" ∷ text "budget 0x" ∷ text "budget 5\nbudget 0" ∷ text "budget 1" ∷ []
     )
     ≡ at 27 1 ∷ at 27 2 ∷ at 63 1 ∷ at 61 1 ∷ at 65 2 ∷ at 1 0 ∷ []
-unfolding textLoaded textForm readLines lineOf budgetLine taskLine numbersFault valueAfter allDigits same filled split text judged judgedMixed firstButton firstFaulty taskFault first round load horizon largest sum count
+unfolding textRead textForm readLines lineOf budgetLine taskLine numbersFault valueAfter allDigits same filled split text judged judgedMixed firstButton firstFaulty taskFault first round load horizon largest sum count
 texts-of-nothing = refl
 
 tasksOfOne : ℕ → List ℕ
@@ -741,8 +741,8 @@ tasksOfOne zero = []
 tasksOfOne (suc n) = text "task 0 1 1 1\n" ++ tasksOfOne n
 
 -- A task too many is 66, whatever follows it on its line.
-many-lines : (textLoaded (text "budget 1\n" ++ tasksOfOne taskLimit) .admission ≡ Admission.Admitted) × (textLoaded (text "budget 1\n" ++ tasksOfOne taskLimit ++ text "task x") .admission ≡ at 66 (taskLimit + 2))
-unfolding tasksOfOne textLoaded textForm readLines lineOf budgetLine taskLine numbersFault valueAfter allDigits same filled split text judged judgedMixed firstButton firstFaulty taskFault first round load horizon largest sum count
+many-lines : (textRead (text "budget 1\n" ++ tasksOfOne taskLimit) .admission ≡ Admission.Admitted) × (textRead (text "budget 1\n" ++ tasksOfOne taskLimit ++ text "task x") .admission ≡ at 66 (taskLimit + 2))
+unfolding tasksOfOne textRead textForm readLines lineOf budgetLine taskLine numbersFault valueAfter allDigits same filled split text judged judgedMixed firstButton firstFaulty taskFault first round load horizon largest sum count
 many-lines = (refl, refl)
 
 -- ---- easing
@@ -795,7 +795,7 @@ eased-numbers :
     × (easedExported (9 ∷ []) [] ≡ 4 * 1376256 + 2)
     × (easedExported file-b [] ≡ 4 * 1441792 + 3)
     × (easedExported (budgetOf 1 ++ (3 ∷ [])) file-b ≡ 4 * 65536 + 2)
-unfolding easing bits searchedFrom loadedFrom periodicFrom formOf readFrom judged judgedMixed firstButton firstFaulty taskFault first round load horizon largest sum count
+unfolding easing bits searchedFrom fileRead periodicFrom formOf readFrom judged judgedMixed firstButton firstFaulty taskFault first round load horizon largest sum count
 eased-numbers = (refl, refl, refl, refl, refl, refl)
 
 -- ---- the largest cost

@@ -1,6 +1,6 @@
 -- Tables in plain text: for any bytes the refusal, or the budget and the tasks; the text of a budget and tasks; the exported calls.
 use Rattle.model.specs.Notation.{List, [], _∷_, _++_, Bool, true, false, cond, not, _&&_, _||_, ℕ, zero, suc, _+_, _-_, _*_, min, leb, ltb, eqb, getD, length, take, text, decimal}
-use Rattle.model.specs.Values.{Sort, Task, Table, Loaded, Admission, Line}
+use Rattle.model.specs.Values.{Sort, Task, Table, Contents, Admission, Line}
 use Rattle.model.specs.Limits.{taskLimit, wordLimit, budgetLimit}
 use Rattle.model.specs.Tasks.{within, judgedMixed}
 use Rattle.model.specs.TableFile.{refuseFile, admit, judgedForm, formOf}
@@ -125,27 +125,27 @@ lineOf given count (w ∷ ws) =
     (cond (same w (text "button")) (taskLine 3 (buttonIn ws) given count ws) (Line.Fault 60)))
 
 -- A fault is told with its line, counted from 1, or with 65,535.
-abbrev pub refuseText : ℕ → ℕ → Loaded
+abbrev pub refuseText : ℕ → ℕ → Contents
 refuseText f n = refuseFile f (min n 65535)
 
 -- What line n leads to after the budget b, if it was given, and the tasks ks.
-abbrev pub afterLine : (Bool → ℕ → List Task → Loaded) → Bool → ℕ → List Task → ℕ → Line → Loaded
+abbrev pub afterLine : (Bool → ℕ → List Task → Contents) → Bool → ℕ → List Task → ℕ → Line → Contents
 afterLine go given b ks n Line.Nothing = go given b ks
 afterLine go given b ks n (Line.Budget x) = go true x ks
 afterLine go given b ks n (Line.OneTask k) = go given b (ks ++ (k ∷ []))
 afterLine go given b ks n (Line.Fault f) = refuseText f n
 
 -- The lines after n lines. Where the text ends with no budget it is 64 at its last line.
-unfoldable pub readLines : Bool → ℕ → List Task → ℕ → List (List ℕ) → Loaded
+unfoldable pub readLines : Bool → ℕ → List Task → ℕ → List (List ℕ) → Contents
 readLines given b ks n [] = cond given (admit b ks) (refuseText 64 n)
 readLines given b ks n (l ∷ ls) = afterLine (λ g x js. readLines g x js (suc n) ls) given b ks (suc n) (lineOf given (length ks) (wordsOf (contentOf l)))
 
 -- The form of a text; its table is judged only after the form is good.
-unfoldable pub textForm : List ℕ → Loaded
+unfoldable pub textForm : List ℕ → Contents
 textForm s = readLines false 0 [] 0 (linesOf s)
 
-unfoldable pub textLoaded : List ℕ → Loaded
-textLoaded s = judgedForm judgedMixed (textForm s) (textForm s .admission)
+unfoldable pub textRead : List ℕ → Contents
+textRead s = judgedForm judgedMixed (textForm s) (textForm s .admission)
 
 -- The text of a budget and tasks: a line for the budget, and one for each task.
 abbrev pub budgetText : ℕ → List ℕ

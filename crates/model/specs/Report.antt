@@ -1,8 +1,8 @@
 -- The report on an answer, byte for byte; the exported calls on a file; the program's output.
 use Rattle.model.specs.Notation.{List, [], _++_, Bool, true, false, cond, _≡_, ℕ, zero, suc, _+_, _*_, ltb, getD, length, drop, text, decimal}
-use Rattle.model.specs.Values.{Table, Refusal, Verdict, Outcome, Answer, QuickAnswer, DistanceAnswer, Admission, Loaded, refusal}
+use Rattle.model.specs.Values.{Table, Refusal, Verdict, Outcome, Answer, QuickAnswer, DistanceAnswer, Admission, Contents, refusal}
 use Rattle.model.specs.Limits.{reportBytes}
-use Rattle.model.specs.TableFile.{formOf, loadedFrom}
+use Rattle.model.specs.TableFile.{formOf, fileRead}
 use Rattle.model.specs.Verdict.{Permitted}
 use Rattle.model.specs.Patterns.{quickPass, quickAnswer, distanceAnswer}
 
@@ -67,15 +67,15 @@ outcomeTold refuse tell n quick a (Outcome.Refused r) = refuse r
 outcomeTold refuse tell n quick a (Outcome.Tested v) = tell (reportOf n quick a v)
 
 -- What a file may be told as: the refusal of its form or table, or of a short buffer, or the outcome of the permitted answer.
-abbrev pub FileTold : {A : Type 0} → (Refusal → A) → (List ℕ → A) → Loaded → A → Admission → Type 0
+abbrev pub FileTold : {A : Type 0} → (Refusal → A) → (List ℕ → A) → Contents → A → Admission → Type 0
 FileTold refuse tell l x (Admission.Refused r) = x ≡ refuse r
 FileTold refuse tell l x Admission.Admitted = (a : Answer) × Permitted (l .table) (l .budget) a × (x ≡ outcomeTold refuse tell (l .table .count) (quickPass (l .table)) a (a .outcome))
 
 -- The one permitted result of the exported call on any file and any buffer. A short buffer is refused by 30 before all else.
 abbrev pub Checked : List ℕ → List ℕ → Exported → Type 0
 Checked file buffer e =
-    let admission = cond (ltb (length buffer) reportBytes) (Admission.Refused (refusal 30 (length buffer))) (loadedFrom file .admission) in
-    FileTold (λ r. refused r buffer) (λ report. written report buffer) (loadedFrom file) e admission
+    let admission = cond (ltb (length buffer) reportBytes) (Admission.Refused (refusal 30 (length buffer))) (fileRead file .admission) in
+    FileTold (λ r. refused r buffer) (λ report. written report buffer) (fileRead file) e admission
 
 -- The number that an exported call on any file alone returns: the refusal of its form, or what it says of its table.
 abbrev pub fileNumber : List ℕ → (Table → ℕ) → ℕ
@@ -106,4 +106,4 @@ refusalLine r = line (text "refused " ++ decimal (r .number) ++ text " at " ++ d
 
 -- The one permitted output of the program on any input: the report, or the line of the refusal.
 abbrev pub Printed : List ℕ → List ℕ → Type 0
-Printed input out = FileTold refusalLine (λ report. report) (loadedFrom input) out (loadedFrom input .admission)
+Printed input out = FileTold refusalLine (λ report. report) (fileRead input) out (fileRead input .admission)

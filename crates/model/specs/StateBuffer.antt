@@ -1,6 +1,6 @@
 -- The dispatcher's state in a lent buffer, and the exported start and step of a camera's own loop.
 use Rattle.model.specs.Notation.{List, [], _∷_, _++_, cond, not, ℕ, zero, suc, _+_, _*_, min, eqb, length, replicate, fill}
-use Rattle.model.specs.Values.{Table, Admission, Turn, Given, refusal}
+use Rattle.model.specs.Values.{Table, Admission, Turn, SlotAnswer, refusal}
 use Rattle.model.specs.Limits.{taskLimit}
 use Rattle.model.specs.TableFile.{four, eight, twoWords, bytesOf, formOf}
 use Rattle.model.specs.Dispatcher.{State, started, stepped}
@@ -50,9 +50,9 @@ abbrev pub startWritten : List ℕ → State → Admission → Exported
 startWritten buffer d (Admission.Refused r) = refused r buffer
 startWritten buffer d Admission.Admitted = record { number = 0; buffer = bufferOf d quiet }
 
-abbrev pub stepWritten : List ℕ → State → Given → Exported
-stepWritten buffer d (Given.Refused r) = refused r buffer
-stepWritten buffer d (Given.Slot u) = record { number = u .owner; buffer = bufferOf d u }
+abbrev pub stepWritten : List ℕ → State → SlotAnswer → Exported
+stepWritten buffer d (SlotAnswer.Refused r) = refused r buffer
+stepWritten buffer d (SlotAnswer.Slot u) = record { number = u .owner; buffer = bufferOf d u }
 
 -- The order of the refusals: 50 for a buffer that has not this many bytes, at its length or the largest place; the file's form; the table; the
 -- state.
@@ -67,7 +67,7 @@ abbrev pub startExported : List ℕ → List ℕ → Exported
 startExported file buffer = onFile stateBytes file buffer (λ t. startWritten buffer (started t .state) (started t .admission))
 
 abbrev pub stepExported : List ℕ → List ℕ → ℕ → Exported
-stepExported file buffer done = onFile stateBytes file buffer (λ t. let s = stepped t (stateIn buffer) (not (eqb done 0)) in stepWritten buffer (s .state) (s .given))
+stepExported file buffer done = onFile stateBytes file buffer (λ t. let s = stepped t (stateIn buffer) (not (eqb done 0)) in stepWritten buffer (s .state) (s .answer))
 
 -- A camera's loop: a start in a lent buffer, and then steps in it. The buffer that step n is handed; `done n` is what it is told.
 unfoldable pub handed : List ℕ → List ℕ → (ℕ → ℕ) → ℕ → List ℕ

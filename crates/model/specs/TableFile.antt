@@ -1,6 +1,6 @@
 -- The table file: for any list of bytes the refusal, or the budget and the tasks; and the file of a budget and tasks.
 use Rattle.model.specs.Notation.{List, [], _∷_, _++_, cond, _||_, ℕ, zero, suc, _+_, _-_, _*_, _/_, _%_, ltb, leb, eqb, getD, length, replicate}
-use Rattle.model.specs.Values.{Sort, Task, Table, Judgement, Admission, Loaded, refusal}
+use Rattle.model.specs.Values.{Sort, Task, Table, Judgement, Admission, Contents, refusal}
 use Rattle.model.specs.Limits.{taskLimit, wordLimit, budgetBytes, taskBytes, buttonBytes}
 use Rattle.model.specs.Tasks.{noTask, judgedMixed, judged}
 
@@ -35,19 +35,19 @@ buttonIn s at = record { sort = Sort.Button; cost = four s at; deadline = four s
 abbrev pub tableOf : List Task → Table
 tableOf ks = record { count = length ks; tasks = ks ++ replicate (taskLimit - length ks) noTask }
 
-abbrev pub refuseFile : ℕ → ℕ → Loaded
+abbrev pub refuseFile : ℕ → ℕ → Contents
 refuseFile n p = record { admission = Admission.Refused (refusal n p); budget = 0; table = tableOf [] }
 
-abbrev pub admit : ℕ → List Task → Loaded
+abbrev pub admit : ℕ → List Task → Contents
 admit b ks = record { admission = Admission.Admitted; budget = b; table = tableOf ks }
 
 -- The record at this place is whole, or else refused by 20.
-abbrev pub whole : List ℕ → ℕ → ℕ → Loaded → Loaded
+abbrev pub whole : List ℕ → ℕ → ℕ → Contents → Contents
 whole s at bytes go = cond (ltb (length s) (at + bytes)) (refuseFile 20 at) go
 
 -- The record at a place after the budget b and the tasks ks; a task of either sort leads to `go` with its bytes. A kind is known, or 21;
 -- then allowed here, or 23 or 25; then its body is whole, or 20. Where the file stops it is 26. Whatever follows the end is 24.
-abbrev pub readRecord : List ℕ → ℕ → List Task → ℕ → (ℕ → Task → Loaded) → Loaded
+abbrev pub readRecord : List ℕ → ℕ → List Task → ℕ → (ℕ → Task → Contents) → Contents
 readRecord s b ks at go =
     cond (leb (length s) at) (refuseFile 26 (length s))
     (cond (eqb (getD s at 0) budgetKind) (refuseFile 23 at)
@@ -56,35 +56,35 @@ readRecord s b ks at go =
     (cond (eqb (getD s at 0) endKind) (cond (ltb (at + 1) (length s)) (refuseFile 24 (at + 1)) (admit b ks)) (refuseFile 21 at)))))
 
 -- The records after the budget, with room for this many more tasks.
-unfoldable pub readFrom : List ℕ → ℕ → List Task → ℕ → ℕ → Loaded
+unfoldable pub readFrom : List ℕ → ℕ → List Task → ℕ → ℕ → Contents
 readFrom s b ks zero at = readRecord s b ks at (λ bytes k. refuseFile 25 at)
 readFrom s b ks (suc room) at = readRecord s b ks at (λ bytes k. whole s at bytes (readFrom s b (ks ++ (k ∷ [])) room (at + bytes)))
 
 -- A file's budget is at least 1: one of 0 is refused by 27, when it is read, before anything behind it.
-abbrev pub worth : ℕ → Loaded → Loaded
+abbrev pub worth : ℕ → Contents → Contents
 worth b go = cond (eqb b 0) (refuseFile 27 0) go
 
 -- The form of a file: the budget first, once; then the tasks; then the end, and nothing after it.
-unfoldable pub formOf : List ℕ → Loaded
+unfoldable pub formOf : List ℕ → Contents
 formOf s =
     cond (eqb (length s) 0) (refuseFile 22 0)
     (cond (eqb (getD s 0 0) budgetKind) (whole s 0 budgetBytes (worth (eight s 1) (readFrom s (eight s 1) [] taskLimit budgetBytes)))
     (cond (eqb (getD s 0 0) taskKind || (eqb (getD s 0 0) endKind || eqb (getD s 0 0) buttonKind)) (refuseFile 22 0) (refuseFile 21 0)))
 
 -- The table of a file is judged only after the file's form is good.
-abbrev pub judgedTable : Loaded → Judgement → Loaded
+abbrev pub judgedTable : Contents → Judgement → Contents
 judgedTable l (Judgement.Refused r) = refuseFile (r .number) (r .place)
 judgedTable l (Judgement.WellFormed m) = l
 
-abbrev pub judgedForm : (Table → Judgement) → Loaded → Admission → Loaded
+abbrev pub judgedForm : (Table → Judgement) → Contents → Admission → Contents
 judgedForm judge l (Admission.Refused r) = l
 judgedForm judge l Admission.Admitted = judgedTable l (judge (l .table))
 
-unfoldable pub loadedFrom : List ℕ → Loaded
-loadedFrom s = judgedForm judgedMixed (formOf s) (formOf s .admission)
+unfoldable pub fileRead : List ℕ → Contents
+fileRead s = judgedForm judgedMixed (formOf s) (formOf s .admission)
 
 -- Where only periodic tasks are allowed, a table with a button is refused too.
-unfoldable pub periodicFrom : List ℕ → Loaded
+unfoldable pub periodicFrom : List ℕ → Contents
 periodicFrom s = judgedForm judged (formOf s) (formOf s .admission)
 
 -- A word in four bytes, the lowest first; words one after another.

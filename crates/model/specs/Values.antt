@@ -14,11 +14,11 @@ pub use Rattle.values.specs.declared.QuickAnswer.{QuickAnswer}
 pub use Rattle.values.specs.declared.DistanceAnswer.{DistanceAnswer}
 pub use Rattle.values.specs.declared.Easing.{Easing}
 pub use Rattle.values.specs.declared.Admission.{Admission}
-pub use Rattle.values.specs.declared.Loaded.{Loaded}
+pub use Rattle.values.specs.declared.Contents.{Contents}
 pub use Rattle.values.specs.declared.Writing.{Writing}
 pub use Rattle.values.specs.declared.Line.{Line}
 pub use Rattle.values.specs.declared.Turn.{Turn}
-pub use Rattle.values.specs.declared.Given.{Given}
+pub use Rattle.values.specs.declared.SlotAnswer.{SlotAnswer}
 pub use Rattle.values.specs.declared.Finding.{Finding}
 
 -- A verdict: its number in document 01's order, and the interval and demand of a late one.
@@ -66,9 +66,9 @@ distanceSaid DistanceAnswer.Overload = 0 ∷ 2 ∷ []
 distanceSaid DistanceAnswer.Pass = 0 ∷ 1 ∷ []
 distanceSaid DistanceAnswer.NoAnswer = 0 ∷ 0 ∷ []
 
-abbrev pub givenSaid : Given → List ℕ
-givenSaid (Given.Refused r) = refusalSaid r
-givenSaid (Given.Slot s) = 0 ∷ s .owner ∷ s .late ∷ s .closed ∷ s .lowest ∷ []
+abbrev pub slotSaid : SlotAnswer → List ℕ
+slotSaid (SlotAnswer.Refused r) = refusalSaid r
+slotSaid (SlotAnswer.Slot s) = 0 ∷ s .owner ∷ s .late ∷ s .closed ∷ s .lowest ∷ []
 
 -- Of the largest cost: a refusal, of two entries; the verdict's number alone, where the table does not pass; or 0 with that cost.
 abbrev pub costSaid : LargestCost → List ℕ

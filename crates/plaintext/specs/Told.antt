@@ -14,12 +14,12 @@ use Rattle.values.specs.declared.Line.{Line}
 use Rattle.values.specs.declared.Refusal.{Refusal}
 use Rattle.values.specs.declared.Judgement.{Judgement}
 use Rattle.values.specs.declared.Admission.{Admission}
-use Rattle.values.specs.declared.Loaded.{Loaded}
+use Rattle.values.specs.declared.Contents.{Contents}
 use Rattle.model.specs.Notation.{text}
 use Rattle.model.specs.Limits.{taskLimit, wordLimit, budgetLimit, longestFile, longestText}
 use Rattle.model.specs.Values.{refusalSaid, writingSaid, admissionSaid}
 use Rattle.model.specs.Tasks.{noTask, judgedMixed}
-use Rattle.model.specs.TableFile.{fileOf, judgedTable, judgedForm, formOf, loadedFrom}
+use Rattle.model.specs.TableFile.{fileOf, judgedTable, judgedForm, formOf, fileRead}
 use Rattle.model.specs.Writer.{Filled, tasksOf, writtenBy, fileWritten, fillTold}
 use Rattle.model.specs.PlainText.{same, numbersFault, number, unless, budgetSaid, budgetLine, taskIn, buttonIn, taskLine, lineOf, afterLine, readLines, linesOf, contentOf, wordsOf, textForm, formWritten, taskText, taskTexts, textOf, textWritten, toText, fromTextExported, toTextExported}
 use Rattle.wellformed.specs.Ranges.{InRange, Ranged, holds-all}
@@ -58,7 +58,7 @@ line-faulty given count (w ∷ ws) =
     task n k = either (not given) _ _ (lit< tt) (either (leb taskLimit count) _ _ (lit< tt) (unless-faulty (numbersFault wordLimit n ws) (Line.OneTask k) tt))
 
 -- What a line leads to is tellable if what follows it is.
-after-tellable : (go : Bool → ℕ → List Task → Loaded) (given : Bool) (b : ℕ) (ks : List Task) (n : ℕ) (l : Line) → Faulty l
+after-tellable : (go : Bool → ℕ → List Task → Contents) (given : Bool) (b : ℕ) (ks : List Task) (n : ℕ) (l : Line) → Faulty l
     → ((g : Bool) (x : ℕ) (js : List Task) → AdmissionTellable (go g x js .admission)) → AdmissionTellable (afterLine go given b ks n l .admission)
 after-tellable go given b ks n Line.Nothing h next = next given b ks
 after-tellable go given b ks n (Line.Budget x) h next = next true x ks
@@ -113,13 +113,13 @@ to-text-apart file buffer bytes =
     form-apart longestText buffer (textOf (l .budget) (tasksOf (l .table))) (textWritten (l .table) (l .budget) buffer) (l .admission) (form-tellable file)
     (λ good. table-apart longestText (lit< tt) buffer (l .table) (l .budget) (textOf (l .budget) (tasksOf (l .table))) (text-short (l .table) (l .budget) (read-written file bytes good .1)))
 
--- A file that is refused when it is loaded is refused in the same way when its text is to be written.
-pub refused-to-text : (file buffer : List ℕ) (r : Refusal) → loadedFrom file .admission ≡ Admission.Refused r
+-- A file that is refused when it is read is refused in the same way when its text is to be written.
+pub refused-to-text : (file buffer : List ℕ) (r : Refusal) → fileRead file .admission ≡ Admission.Refused r
     → let f = toText file buffer in (writingSaid (f .said) ≡ refusalSaid r) × (f .buffer ≡ buffer)
-unfolding loadedFrom textWritten
+unfolding fileRead textWritten
 refused-to-text file buffer r = go (formOf file) (formOf file .admission) refl
   where
-    go : (l : Loaded) (a : Admission) → l .admission ≡ a → judgedForm judgedMixed l a .admission ≡ Admission.Refused r
+    go : (l : Contents) (a : Admission) → l .admission ≡ a → judgedForm judgedMixed l a .admission ≡ Admission.Refused r
         → let f = formWritten buffer (textWritten (l .table) (l .budget) buffer) a in (writingSaid (f .said) ≡ refusalSaid r) × (f .buffer ≡ buffer)
     go l (Admission.Refused q) e h = (ap admissionSaid (sym e ∙ h), refl)
     go l Admission.Admitted e h = by-table (judgedMixed (l .table)) h

@@ -7,7 +7,7 @@ ghost use lib.ListN.{length, take};
 ghost use Rattle.model.specs.Notation.{decimal};
 ghost use Rattle.model.specs.Limits.{taskLimit, longestText};
 ghost use Rattle.model.specs.TableFile.{refuseFile};
-ghost use Rattle.model.specs.PlainText.{isGap, isDigit, withoutReturn, contentOf, wordsOf, allDigits, numbersFault, same, budgetLine, lineOf, textForm, textLoaded, sortText, taskText, taskTexts, textOf, textWritten, fromText, toText};
+ghost use Rattle.model.specs.PlainText.{isGap, isDigit, withoutReturn, contentOf, wordsOf, allDigits, numbersFault, same, budgetLine, lineOf, textForm, textRead, sortText, taskText, taskTexts, textOf, textWritten, fromText, toText};
 ghost use Rattle.model.specs.Writer.{tasksOf, fitted, budgeted};
 ghost use Rattle.counting.specs.Put.{Put};
 ghost use Rattle.wellformed.specs.Ranges.{Ranged};
@@ -21,7 +21,7 @@ ghost use Rattle.plaintext.specs.Texts.{budgetLineBytes, nameRoom, taskR
 use values::Admission;
 use values::Judgement;
 use values::Line;
-use values::Loaded;
+use values::Contents;
 use values::Refusal;
 use values::Sort;
 use values::TASK_LIMIT;
@@ -358,7 +358,7 @@ fn next_line(line: u32) -> u32
     line
 }
 
-fn refused(number: u32, line: u32) -> Loaded
+fn refused(number: u32, line: u32) -> Contents
     ensures { λ r. ⌜ r ≡ refuseFile number line ⌝ }
 {
     tablefile::refused_file(Refusal {
@@ -379,7 +379,7 @@ fn with_task(table: Table, task: Task) -> Table
 }
 
 // The text's form alone: its table is not judged.
-pub fn form_of(text: &[u8]) -> Loaded
+pub fn form_of(text: &[u8]) -> Contents
     ensures { λ r. ⌜ r ≡ textForm (now (text .entry)) ⌝ }
 {
     let mut given = false;
@@ -410,21 +410,21 @@ pub fn form_of(text: &[u8]) -> Loaded
     }
 }
 
-fn ended(given: bool, budget: u64, table: Table, line: u32) -> Loaded
+fn ended(given: bool, budget: u64, table: Table, line: u32) -> Contents
     ensures { λ r. ⌜ r ≡ cond given (record { admission = Admission.Admitted; budget = budget; table = table }) (refuseFile 64 line) ⌝ }
 {
     if !given {
         return refused(NO_BUDGET, line);
     }
-    Loaded {
+    Contents {
         admission: Admission::Admitted,
         budget,
         table,
     }
 }
 
-pub fn load(text: &[u8]) -> Loaded
-    ensures { λ r. ⌜ r ≡ textLoaded (now (text .entry)) ⌝ }
+pub fn read(text: &[u8]) -> Contents
+    ensures { λ r. ⌜ r ≡ textRead (now (text .entry)) ⌝ }
 {
     let form = form_of(text);
     let admission = form.admission;

@@ -16,7 +16,7 @@ use Rattle.model.specs.Demand.{Arrivals, released, demandFor, releases, demand}
 use Rattle.model.specs.Schedule.{Schedule, Good}
 use Rattle.model.specs.Arrivals.{Respects, GoodFor}
 use Rattle.model.specs.Patterns.{light, calm, pattern, distancePass, distanceAnswer}
-use Rattle.model.specs.TableFile.{loadedFrom}
+use Rattle.model.specs.TableFile.{fileRead}
 use Rattle.model.specs.Report.{distanceExported}
 use Rattle.wellformed.specs.WellFormed.{periodic-iff, refused-button, well-mixed, well-formed}
 use Rattle.patterns.specs.DistancePass.{distance-case, distance-told, distance-light}
@@ -36,8 +36,8 @@ pub pass-always-good : (t : Table) → distanceAnswer t ≡ DistanceAnswer.Pass 
 unfolding distanceAnswer
 pass-always-good t e = let ((m, well), p) = distance-case t (judgedMixed t) e in mixed-good t (well-mixed t m well .ranged) p
 
-pub file-always-good : (file : List ℕ) → distanceExported file ≡ 1 → AlwaysGood (loadedFrom file .table)
-file-always-good file e = pass-always-good (loadedFrom file .table) (distance-file-pass file e)
+pub file-always-good : (file : List ℕ) → distanceExported file ≡ 1 → AlwaysGood (fileRead file .table)
+file-always-good file e = pass-always-good (fileRead file .table) (distance-file-pass file e)
 
 pub pass-no-overload : (t : Table) → distanceAnswer t ≡ DistanceAnswer.Pass → load t ≤ round t
 unfolding distanceAnswer

@@ -14,7 +14,7 @@ use Rattle.values.specs.declared.Measure.{Measure}
 use Rattle.values.specs.declared.Judgement.{Judgement}
 use Rattle.values.specs.declared.Admission.{Admission}
 use Rattle.values.specs.declared.Turn.{Turn}
-use Rattle.values.specs.declared.Given.{Given}
+use Rattle.values.specs.declared.SlotAnswer.{SlotAnswer}
 use Rattle.model.specs.Limits.{taskLimit, slotCountLimit}
 use Rattle.model.specs.Values.{refusal}
 use Rattle.model.specs.Notation.{sum, largest, count, first}
@@ -58,11 +58,11 @@ refused-camera-step file buffer done r size h = elim (periodic-for file r h) [
   | inr (f, j) ↦ rw (eq-eqb (length buffer) stateBytes size, f, onFile, j)
 ]
 
-pub refused-camera-state : (file buffer : List ℕ) (done : ℕ) (r : Refusal) → length buffer ≡ stateBytes → formOf file .admission ≡ Admission.Admitted → stepped (formOf file .table) (stateIn buffer) (not (eqb done 0)) .given ≡ Given.Refused r → stepExported file buffer done ≡ refused r buffer
+pub refused-camera-state : (file buffer : List ℕ) (done : ℕ) (r : Refusal) → length buffer ≡ stateBytes → formOf file .admission ≡ Admission.Admitted → stepped (formOf file .table) (stateIn buffer) (not (eqb done 0)) .answer ≡ SlotAnswer.Refused r → stepExported file buffer done ≡ refused r buffer
 refused-camera-state file buffer done r size f g = rw (eq-eqb (length buffer) stateBytes size, f, onFile, g)
 
 -- And a state that the dispatcher's own step takes is taken: the owner is returned, and the buffer holds the next state and what was told.
-pub taken-camera-state : (file buffer : List ℕ) (done : ℕ) (u : Turn) → length buffer ≡ stateBytes → formOf file .admission ≡ Admission.Admitted → let s = stepped (formOf file .table) (stateIn buffer) (not (eqb done 0)) in s .given ≡ Given.Slot u → stepExported file buffer done ≡ record { number = u .owner; buffer = bufferOf (s .state) u }
+pub taken-camera-state : (file buffer : List ℕ) (done : ℕ) (u : Turn) → length buffer ≡ stateBytes → formOf file .admission ≡ Admission.Admitted → let s = stepped (formOf file .table) (stateIn buffer) (not (eqb done 0)) in s .answer ≡ SlotAnswer.Slot u → stepExported file buffer done ≡ record { number = u .owner; buffer = bufferOf (s .state) u }
 taken-camera-state file buffer done u size f g = rw (eq-eqb (length buffer) stateBytes size, f, onFile, g)
 
 -- A start returns 0 and a step a task of the table or none, or it refuses by a number above 0 and a place below 65,536 and changes no byte. What

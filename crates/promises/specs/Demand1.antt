@@ -19,14 +19,14 @@ use Rattle.values.specs.declared.Judgement.{Judgement}
 use Rattle.values.specs.declared.Verdict.{Verdict}
 use Rattle.values.specs.declared.Outcome.{Outcome}
 use Rattle.values.specs.declared.Admission.{Admission}
-use Rattle.values.specs.declared.Given.{Given}
+use Rattle.values.specs.declared.SlotAnswer.{SlotAnswer}
 use Rattle.values.specs.declared.Answer.{Answer}
-use Rattle.values.specs.declared.Loaded.{Loaded}
+use Rattle.values.specs.declared.Contents.{Contents}
 use Rattle.model.specs.Limits.{taskLimit, slotCountLimit, sumPlace, slotLimit, roundLimit, reportBytes, budgetLimit, budgetBytes, taskBytes, buttonBytes, longestFile}
-use Rattle.model.specs.Values.{refusal, refusalSaid, judgementSaid, admissionSaid, givenSaid, outcomeSaid}
+use Rattle.model.specs.Values.{refusal, refusalSaid, judgementSaid, admissionSaid, slotSaid, outcomeSaid}
 use Rattle.model.specs.Tasks.{task, isButton, offset, round, measure, judgedMixed, judged, load, horizon}
 use Rattle.model.specs.Verdict.{verdict, brief, Permitted}
-use Rattle.model.specs.TableFile.{budgetKind, eight, admit, taskRecord, taskRecords, fileOf, formOf, loadedFrom, periodicFrom}
+use Rattle.model.specs.TableFile.{budgetKind, eight, admit, taskRecord, taskRecords, fileOf, formOf, fileRead, periodicFrom}
 use Rattle.model.specs.Dispatcher as model
 use Rattle.model.specs.Dispatcher.{State, slotCount, firstStrange, lastStrange, admitted as stateAdmitted, turn, after, stepAdmitted, started, stepped, isLate, ownerNow}
 use Rattle.dispatch.specs.declared.Dispatcher.{Dispatcher}
@@ -49,28 +49,28 @@ use Rattle.tablefile.specs.Said.{recordSaid, numbersAt, Has, record-said}
 use Rattle.tablefile.specs.Admitted.{admitted}
 use Rattle.tablefile.specs.Periodic.{periodic-refused, periodic-read}
 use Rattle.tablefile.specs.Longer.{first-form, first-bytes}
-use Rattle.tablefile.specs.Refused.{AdmissionTellable, load-tellable}
+use Rattle.tablefile.specs.Refused.{AdmissionTellable, read-tellable}
 use Rattle.tablefile.specs.Written as tablefile
 use Rattle.tablefile.specs.Written.{AllFit, form-length, records-le, written-read, read-written}
 use Rattle.report.specs.Permitted.{Fitting, permitted-fits}
 use Rattle.statebuffer.specs.Told.{Apart}
 use Rattle.promises.specs.Demand2.{answer-exactly}
 
--- Judging a table, reading a file's form, loading it, starting and stepping have one permitted result each, for every input.
+-- Judging a table, reading a file's form, reading it, starting and stepping have one permitted result each, for every input.
 pub one-judgement : (t : Table) (a b : Judgement) → a ≡ judged t → b ≡ judged t → a ≡ b
 one-judgement t a b e f = e ∙ sym f
 
 pub one-mixed-judgement : (t : Table) (a b : Judgement) → a ≡ judgedMixed t → b ≡ judgedMixed t → a ≡ b
 one-mixed-judgement t a b e f = e ∙ sym f
 
-pub one-form : (file : List ℕ) (a b : Loaded) → a ≡ formOf file → b ≡ formOf file → a ≡ b
+pub one-form : (file : List ℕ) (a b : Contents) → a ≡ formOf file → b ≡ formOf file → a ≡ b
 one-form file a b e f = e ∙ sym f
 
-pub one-loading : (file : List ℕ) (a b : Loaded) → a ≡ loadedFrom file → b ≡ loadedFrom file → a ≡ b
-one-loading file a b e f = e ∙ sym f
+pub one-reading : (file : List ℕ) (a b : Contents) → a ≡ fileRead file → b ≡ fileRead file → a ≡ b
+one-reading file a b e f = e ∙ sym f
 
-pub one-periodic-loading : (file : List ℕ) (a b : Loaded) → a ≡ periodicFrom file → b ≡ periodicFrom file → a ≡ b
-one-periodic-loading file a b e f = e ∙ sym f
+pub one-periodic-reading : (file : List ℕ) (a b : Contents) → a ≡ periodicFrom file → b ≡ periodicFrom file → a ≡ b
+one-periodic-reading file a b e f = e ∙ sym f
 
 pub one-start : (t : Table) (a b : Started) → startedOf a ≡ started t → startedOf b ≡ started t → a ≡ b
 one-start t a b e f = one-started a b (e ∙ sym f)
@@ -122,61 +122,61 @@ pub some-answer : (t : Table) (budget : ℕ) → (a : Answer) × Permitted t bud
 some-answer t budget = (answerOf t budget, computed t budget)
 
 -- A file is told as one thing and as some thing, and a refused one as its refusal.
-told-once : {A : Type 0} (refuse : Refusal → A) (tell : List ℕ → A) (l : Loaded) (x y : A) (a : Admission) → FileTold refuse tell l x a → FileTold refuse tell l y a → x ≡ y
+told-once : {A : Type 0} (refuse : Refusal → A) (tell : List ℕ → A) (l : Contents) (x y : A) (a : Admission) → FileTold refuse tell l x a → FileTold refuse tell l y a → x ≡ y
 told-once refuse tell l x y (Admission.Refused r) e f = e ∙ sym f
 told-once refuse tell l x y Admission.Admitted (a, p, e) (b, q, f) = let s : a ≡ b = permitted-unique (l .table) (l .budget) a b p q in e ∙ rw s (sym f)
 
-told-some : {A : Type 0} (refuse : Refusal → A) (tell : List ℕ → A) (l : Loaded) (a : Admission) → (x : A) × FileTold refuse tell l x a
+told-some : {A : Type 0} (refuse : Refusal → A) (tell : List ℕ → A) (l : Contents) (a : Admission) → (x : A) × FileTold refuse tell l x a
 told-some refuse tell l (Admission.Refused r) = (refuse r, refl)
 told-some refuse tell l Admission.Admitted = let a = answerOf (l .table) (l .budget) in (outcomeTold refuse tell (l .table .count) (quickPass (l .table)) a (a .outcome), (a, computed (l .table) (l .budget), refl))
 
-told-refused : {A : Type 0} (refuse : Refusal → A) (tell : List ℕ → A) (l : Loaded) (x : A) (r : Refusal) (a : Admission) → a ≡ Admission.Refused r → FileTold refuse tell l x a → x ≡ refuse r
+told-refused : {A : Type 0} (refuse : Refusal → A) (tell : List ℕ → A) (l : Contents) (x : A) (r : Refusal) (a : Admission) → a ≡ Admission.Refused r → FileTold refuse tell l x a → x ≡ refuse r
 told-refused refuse tell l x r (Admission.Refused w) q e = let s : w ≡ r = cc in e ∙ rw s
 told-refused refuse tell l x r Admission.Admitted q e = let z : _≡_ {A = ℕ} 0 1 = cc in absurd (omega arith)
 
-button-refused : {A : Type 0} (refuse : Refusal → A) (tell : List ℕ → A) (l : Loaded) (x : A) (r : Refusal) (a : Admission) → a ≡ Admission.Admitted → judged (l .table) ≡ Judgement.Refused r → FileTold refuse tell l x a → x ≡ refuse r
+button-refused : {A : Type 0} (refuse : Refusal → A) (tell : List ℕ → A) (l : Contents) (x : A) (r : Refusal) (a : Admission) → a ≡ Admission.Admitted → judged (l .table) ≡ Judgement.Refused r → FileTold refuse tell l x a → x ≡ refuse r
 unfolding Permitted
 button-refused refuse tell l x r (Admission.Refused w) q j e = let z : _≡_ {A = ℕ} 0 1 = cc in absurd (omega arith)
 button-refused refuse tell l x r Admission.Admitted q j (a, p, e) = let b = rw j at p in e ∙ rw b
 
 -- Whether a buffer and a file are taken: the buffer is looked at first.
 abbrev taken : List ℕ → List ℕ → Admission
-taken file buffer = cond (ltb (length buffer) reportBytes) (Admission.Refused (refusal 30 (length buffer))) (loadedFrom file .admission)
+taken file buffer = cond (ltb (length buffer) reportBytes) (Admission.Refused (refusal 30 (length buffer))) (fileRead file .admission)
 
 -- The exported call has one permitted result, number and buffer, for every file and buffer.
 pub one-export : (file buffer : List ℕ) (e f : Exported) → Checked file buffer e → Checked file buffer f → e ≡ f
-one-export file buffer e f = told-once (λ r. refused r buffer) (λ s. written s buffer) (loadedFrom file) e f (taken file buffer)
+one-export file buffer e f = told-once (λ r. refused r buffer) (λ s. written s buffer) (fileRead file) e f (taken file buffer)
 
 pub some-export : (file buffer : List ℕ) → (e : Exported) × Checked file buffer e
-some-export file buffer = told-some (λ r. refused r buffer) (λ s. written s buffer) (loadedFrom file) (taken file buffer)
+some-export file buffer = told-some (λ r. refused r buffer) (λ s. written s buffer) (fileRead file) (taken file buffer)
 
 -- What is returned and left is that of the report on the permitted answer.
-abbrev pub Reported : Loaded → List ℕ → Exported → Type 0
+abbrev pub Reported : Contents → List ℕ → Exported → Type 0
 Reported l buffer e = (a : Answer) × (v : Verdict) × Permitted (l .table) (l .budget) a × (a .outcome ≡ Outcome.Tested v) × (e ≡ written (reportOf (l .table .count) (quickPass (l .table)) a v) buffer) × (length (reportOf (l .table .count) (quickPass (l .table)) a v) ≤ reportBytes)
 
-outcome-apart : (l : Loaded) (buffer : List ℕ) (a : Answer) → Permitted (l .table) (l .budget) a → (o : Outcome) → a .outcome ≡ o → Fitting (l .table .count) (quickPass (l .table)) a o → Apart (Reported l buffer) buffer (outcomeTold (λ r. refused r buffer) (λ s. written s buffer) (l .table .count) (quickPass (l .table)) a o)
+outcome-apart : (l : Contents) (buffer : List ℕ) (a : Answer) → Permitted (l .table) (l .budget) a → (o : Outcome) → a .outcome ≡ o → Fitting (l .table .count) (quickPass (l .table)) a o → Apart (Reported l buffer) buffer (outcomeTold (λ r. refused r buffer) (λ s. written s buffer) (l .table .count) (quickPass (l .table)) a o)
 outcome-apart l buffer a p (Outcome.Refused r) q h = inr (r, refl, h)
 outcome-apart l buffer a p (Outcome.Tested v) q h = inl (a, v, p, q, refl, h)
 
-told-apart : (buffer : List ℕ) (l : Loaded) (e : Exported) (a : Admission) → AdmissionTellable a → FileTold (λ r. refused r buffer) (λ s. written s buffer) l e a → Apart (Reported l buffer) buffer e
+told-apart : (buffer : List ℕ) (l : Contents) (e : Exported) (a : Admission) → AdmissionTellable a → FileTold (λ r. refused r buffer) (λ s. written s buffer) l e a → Apart (Reported l buffer) buffer e
 told-apart buffer l e (Admission.Refused r) h q = inr (r, q, h)
 told-apart buffer l e Admission.Admitted h (a, p, q) = rw q (outcome-apart l buffer a p (a .outcome) refl (permitted-fits (l .table) (l .budget) (quickPass (l .table)) a p))
 
 -- The exported call writes the report on the permitted answer, of at most `reportBytes`, and returns its length, or it refuses by a
 -- number above 0 and a place below 65,536 and changes no byte.
-pub report-or-refusal : (file buffer : List ℕ) (e : Exported) → Checked file buffer e → Reported (loadedFrom file) buffer e ⊎ ((r : Refusal) × (e ≡ refused r buffer) × ((0 < r .number) × (r .place < 65536)))
-report-or-refusal file buffer e = told-apart buffer (loadedFrom file) e (taken file buffer) (tellable (ltb (length buffer) reportBytes) refl)
+pub report-or-refusal : (file buffer : List ℕ) (e : Exported) → Checked file buffer e → Reported (fileRead file) buffer e ⊎ ((r : Refusal) × (e ≡ refused r buffer) × ((0 < r .number) × (r .place < 65536)))
+report-or-refusal file buffer e = told-apart buffer (fileRead file) e (taken file buffer) (tellable (ltb (length buffer) reportBytes) refl)
   where
-    tellable : (short : Bool) → ltb (length buffer) reportBytes ≡ short → AdmissionTellable (cond short (Admission.Refused (refusal 30 (length buffer))) (loadedFrom file .admission))
+    tellable : (short : Bool) → ltb (length buffer) reportBytes ≡ short → AdmissionTellable (cond short (Admission.Refused (refusal 30 (length buffer))) (fileRead file .admission))
     tellable true q = (omega arith, omega (arith, ltb-true (length buffer) reportBytes q))
-    tellable false q = load-tellable file
+    tellable false q = read-tellable file
 
 -- It reports on every file that is read and has no button, if the buffer is not short.
-pub reported-export : (file buffer : List ℕ) (e : Exported) → ltb (length buffer) reportBytes ≡ false → periodicFrom file .admission ≡ Admission.Admitted → Checked file buffer e → Reported (loadedFrom file) buffer e
+pub reported-export : (file buffer : List ℕ) (e : Exported) → ltb (length buffer) reportBytes ≡ false → periodicFrom file .admission ≡ Admission.Admitted → Checked file buffer e → Reported (fileRead file) buffer e
 reported-export file buffer e long good = told (taken file buffer) (rw long (periodic-read file good .0))
   where
-    l : Loaded
-    l = loadedFrom file
+    l : Contents
+    l = fileRead file
 
     tested : (a : Answer) → Permitted (l .table) (l .budget) a → a .outcome ≡ Outcome.Tested (verdict (l .table) (l .budget))
     tested a p = let (read, same, (m, well)) = periodic-read file good in answer-exactly (l .table) m well (l .budget) a p .outcome
@@ -196,29 +196,29 @@ told-from-number r buffer h = (omega arith, omega arith)
 
 -- The program too has one permitted output for every input.
 pub one-print : (input out out′ : List ℕ) → Printed input out → Printed input out′ → out ≡ out′
-one-print input out out′ = told-once refusalLine (λ s. s) (loadedFrom input) out out′ (loadedFrom input .admission)
+one-print input out out′ = told-once refusalLine (λ s. s) (fileRead input) out out′ (fileRead input .admission)
 
 pub some-print : (input : List ℕ) → (out : List ℕ) × Printed input out
-some-print input = told-some refusalLine (λ s. s) (loadedFrom input) (loadedFrom input .admission)
+some-print input = told-some refusalLine (λ s. s) (fileRead input) (fileRead input .admission)
 
 -- What it prints of one byte more than the longest legal file has is permitted of the whole input.
 pub whole-input : (input out : List ℕ) → Printed (take (suc longestFile) input) out → Printed input out
-whole-input input out = subst (λ (l : Loaded). FileTold refusalLine (λ s. s) l out (l .admission)) (first-bytes input)
+whole-input input out = subst (λ (l : Contents). FileTold refusalLine (λ s. s) l out (l .admission)) (first-bytes input)
 
 -- Neither word that the calls use looks further into a file.
-pub whole-file : (file : List ℕ) → (formOf (take (suc longestFile) file) ≡ formOf file) × (loadedFrom (take (suc longestFile) file) ≡ loadedFrom file)
+pub whole-file : (file : List ℕ) → (formOf (take (suc longestFile) file) ≡ formOf file) × (fileRead (take (suc longestFile) file) ≡ fileRead file)
 whole-file file = (first-form file, first-bytes file)
 
 -- A file is read exactly if its form is good and its table well-formed, and is then as its form has it.
-pub read-exactly : (file : List ℕ) → (loadedFrom file .admission ≡ Admission.Admitted) ↔ ((formOf file .admission ≡ Admission.Admitted) × ((m : Measure) × (judgedMixed (formOf file .table) ≡ Judgement.WellFormed m)))
-unfolding loadedFrom
-read-exactly file = (λ h. let (same, well) = admitted file h in (ap (λ (l : Loaded). l .admission) (sym same) ∙ h, well), λ (good, (m, well)). rw (good, well) refl)
+pub read-exactly : (file : List ℕ) → (fileRead file .admission ≡ Admission.Admitted) ↔ ((formOf file .admission ≡ Admission.Admitted) × ((m : Measure) × (judgedMixed (formOf file .table) ≡ Judgement.WellFormed m)))
+unfolding fileRead
+read-exactly file = (λ h. let (same, well) = admitted file h in (ap (λ (l : Contents). l .admission) (sym same) ∙ h, well), λ (good, (m, well)). rw (good, well) refl)
 
-pub read-as-formed : (file : List ℕ) → loadedFrom file .admission ≡ Admission.Admitted → loadedFrom file ≡ formOf file
+pub read-as-formed : (file : List ℕ) → fileRead file .admission ≡ Admission.Admitted → fileRead file ≡ formOf file
 read-as-formed file h = admitted file h .0
 
 -- A file that is read, and a start on a well-formed table, say 0.
-pub read-said : (file : List ℕ) (m : Measure) → formOf file .admission ≡ Admission.Admitted → judgedMixed (formOf file .table) ≡ Judgement.WellFormed m → admissionSaid (loadedFrom file .admission) ≡ 0 ∷ []
+pub read-said : (file : List ℕ) (m : Measure) → formOf file .admission ≡ Admission.Admitted → judgedMixed (formOf file .table) ≡ Judgement.WellFormed m → admissionSaid (fileRead file .admission) ≡ 0 ∷ []
 read-said file m good well = ap admissionSaid (read-exactly file .1 (good, (m, well)))
 
 pub started-said : (t : Table) (m : Measure) → judged t ≡ Judgement.WellFormed m → admissionSaid (started t .admission) ≡ 0 ∷ []
@@ -239,8 +239,8 @@ read-was-written = read-written
 
 -- A file that begins with a whole budget of 0 is refused by 27 at 0, whatever follows.
 pub nothing-read : (file : List ℕ) → getD file 0 0 ≡ budgetKind → budgetBytes ≤ length file → eight file 1 ≡ 0
-    → (admissionSaid (formOf file .admission) ≡ 27 ∷ 0 ∷ []) × (admissionSaid (loadedFrom file .admission) ≡ 27 ∷ 0 ∷ [])
-unfolding loadedFrom
+    → (admissionSaid (formOf file .admission) ≡ 27 ∷ 0 ∷ []) × (admissionSaid (fileRead file .admission) ≡ 27 ∷ 0 ∷ [])
+unfolding fileRead
 nothing-read file kind long none = rw (tablefile.nothing-read file kind long none) (refl, refl)
 
 -- A file whose form is good has the bytes of a budget, of each task, by its sort, and of the end, and so no more than the longest legal file.
@@ -257,13 +257,13 @@ record-bytes = tablefile.record-length
 -- A refused file, or one with a button, leaves the report buffer as it was.
 pub refused-export : (file buffer : List ℕ) (e : Exported) (r : Refusal) → ltb (length buffer) reportBytes ≡ false → periodicFrom file .admission ≡ Admission.Refused r → Checked file buffer e → e ≡ refused r buffer
 refused-export file buffer e r long q checked = elim (periodic-refused file r q) [
-  | inl f ↦ told-refused (λ r. refused r buffer) (λ s. written s buffer) (loadedFrom file) e r (taken file buffer) (rw long f) checked
-  | inr (f, j) ↦ button-refused (λ r. refused r buffer) (λ s. written s buffer) (loadedFrom file) e r (taken file buffer) (rw long f) j checked
+  | inl f ↦ told-refused (λ r. refused r buffer) (λ s. written s buffer) (fileRead file) e r (taken file buffer) (rw long f) checked
+  | inr (f, j) ↦ button-refused (λ r. refused r buffer) (λ s. written s buffer) (fileRead file) e r (taken file buffer) (rw long f) j checked
 ]
 
 -- A short buffer is refused by 30 at its length, before the file is looked at, and stays as it was.
 pub short-buffer : (file buffer : List ℕ) (e : Exported) → ltb (length buffer) reportBytes ≡ true → Checked file buffer e → e ≡ refused (refusal 30 (length buffer)) buffer
-short-buffer file buffer e short = told-refused (λ r. refused r buffer) (λ s. written s buffer) (loadedFrom file) e (refusal 30 (length buffer)) (taken file buffer) (rw short)
+short-buffer file buffer e short = told-refused (λ r. refused r buffer) (λ s. written s buffer) (fileRead file) e (refusal 30 (length buffer)) (taken file buffer) (rw short)
 
 -- The refusal of a table is handed on as it is: by its judge, of a file whose form is good, by a start and by a step.
 pub refused-table : (t : Table) (r : Refusal) → judged t ≡ Judgement.Refused r → judgementSaid (judged t) ≡ refusalSaid r
@@ -272,21 +272,21 @@ refused-table t r e = rw e refl
 pub refused-mixed-table : (t : Table) (r : Refusal) → judgedMixed t ≡ Judgement.Refused r → (judgementSaid (judgedMixed t) ≡ refusalSaid r) × (judgementSaid (judged t) ≡ refusalSaid r)
 refused-mixed-table t r e = (rw e refl, rw (refused-both t r e) refl)
 
-pub refused-load : (file : List ℕ) (r : Refusal) → formOf file .admission ≡ Admission.Admitted → judgedMixed (formOf file .table) ≡ Judgement.Refused r → admissionSaid (loadedFrom file .admission) ≡ refusalSaid r
-unfolding loadedFrom
-refused-load file r good e = rw (good, e) refl
+pub refused-read : (file : List ℕ) (r : Refusal) → formOf file .admission ≡ Admission.Admitted → judgedMixed (formOf file .table) ≡ Judgement.Refused r → admissionSaid (fileRead file .admission) ≡ refusalSaid r
+unfolding fileRead
+refused-read file r good e = rw (good, e) refl
 
 pub refused-start : (t : Table) (r : Refusal) → judged t ≡ Judgement.Refused r → admissionSaid (started t .admission) ≡ refusalSaid r
 unfolding started
 refused-start t r e = rw e refl
 
-pub refused-table-step : (t : Table) (d : State) (done : Bool) (r : Refusal) → judged t ≡ Judgement.Refused r → givenSaid (stepped t d done .given) ≡ refusalSaid r
+pub refused-table-step : (t : Table) (d : State) (done : Bool) (r : Refusal) → judged t ≡ Judgement.Refused r → slotSaid (stepped t d done .answer) ≡ refusalSaid r
 unfolding stepped stateAdmitted
 refused-table-step t d done r e = rw e refl
 
 -- A file whose form is bad is refused for it, whatever its table.
-pub refused-form : (file : List ℕ) (r : Refusal) → formOf file .admission ≡ Admission.Refused r → admissionSaid (loadedFrom file .admission) ≡ refusalSaid r
-unfolding loadedFrom
+pub refused-form : (file : List ℕ) (r : Refusal) → formOf file .admission ≡ Admission.Refused r → admissionSaid (fileRead file .admission) ≡ refusalSaid r
+unfolding fileRead
 refused-form file r e = rw e refl
 
 -- A record that is read has the numbers that stand in the file: its kind byte, and those of its body.
@@ -304,33 +304,33 @@ refused-answer-said t budget r a e p = ap (λ (x : Answer). outcomeSaid (x .outc
 -- A state that does not belong to a well-formed table is refused by 8 with the first such task, with `taskLimit` for the last-run number, or
 -- with `sumPlace` for more slots than can be counted; one that can count no slot more is refused by 9.
 module _ (t : Table) (m : Measure) (d : State) (done : Bool) (well : judged t ≡ Judgement.WellFormed m) where
-  pub strange-state : firstStrange t d < t .count → givenSaid (stepped t d done .given) ≡ 8 ∷ firstStrange t d ∷ []
+  pub strange-state : firstStrange t d < t .count → slotSaid (stepped t d done .answer) ≡ 8 ∷ firstStrange t d ∷ []
   unfolding stepped stateAdmitted
   strange-state h = rw (well, lt-ltb (firstStrange t d) (t .count) h) refl
 
   module _ (each : t .count ≤ firstStrange t d) where
-    pub strange-last : lastStrange t d ≡ true → givenSaid (stepped t d done .given) ≡ 8 ∷ taskLimit ∷ []
+    pub strange-last : lastStrange t d ≡ true → slotSaid (stepped t d done .answer) ≡ 8 ∷ taskLimit ∷ []
     unfolding stepped stateAdmitted
     strange-last last = rw (well, le-ltb (firstStrange t d) (t .count) each, last) refl
 
-    pub strange-sum : lastStrange t d ≡ false → slotCountLimit < slotCount t d → givenSaid (stepped t d done .given) ≡ 8 ∷ sumPlace ∷ []
+    pub strange-sum : lastStrange t d ≡ false → slotCountLimit < slotCount t d → slotSaid (stepped t d done .answer) ≡ 8 ∷ sumPlace ∷ []
     unfolding stepped stateAdmitted
     strange-sum last more = rw (well, le-ltb (firstStrange t d) (t .count) each, last, lt-ltb slotCountLimit (slotCount t d) more) refl
 
-    pub full-state : lastStrange t d ≡ false → slotCount t d ≡ slotCountLimit → givenSaid (stepped t d done .given) ≡ 9 ∷ 0 ∷ []
+    pub full-state : lastStrange t d ≡ false → slotCount t d ≡ slotCountLimit → slotSaid (stepped t d done .answer) ≡ 9 ∷ 0 ∷ []
     unfolding stepped stateAdmitted
     full-state last full =
         rw (well, le-ltb (firstStrange t d) (t .count) each, last, le-ltb slotCountLimit (slotCount t d) (omega arith), eq-eqb (slotCount t d) slotCountLimit full) refl
 
     -- Every other state is taken.
-    pub taken-state : lastStrange t d ≡ false → slotCount t d < slotCountLimit → stepped t d done ≡ record { given = Given.Slot (turn t d done); state = after t d done }
+    pub taken-state : lastStrange t d ≡ false → slotCount t d < slotCountLimit → stepped t d done ≡ record { answer = SlotAnswer.Slot (turn t d done); state = after t d done }
     unfolding stepped stateAdmitted
     taken-state last room =
         rw (well, le-ltb (firstStrange t d) (t .count) each, last, le-ltb slotCountLimit (slotCount t d) (omega arith), ne-eqb (slotCount t d) slotCountLimit (λ e. absurd (omega arith))) refl
 
     -- The answer is then 0 with the owner, the tasks closed late as a set of bits, how many, and the lowest of them or none.
     pub taken-said : lastStrange t d ≡ false → slotCount t d < slotCountLimit
-        → givenSaid (stepped t d done .given) ≡ 0 ∷ ownerNow t d done ∷ bits (isLate t d done) taskLimit ∷ count (isLate t d done) taskLimit ∷ first (isLate t d done) 0 taskLimit ∷ []
+        → slotSaid (stepped t d done .answer) ≡ 0 ∷ ownerNow t d done ∷ bits (isLate t d done) taskLimit ∷ count (isLate t d done) taskLimit ∷ first (isLate t d done) 0 taskLimit ∷ []
     unfolding turn
     taken-said last room = rw (taken-state last room) refl
 
@@ -346,14 +346,14 @@ taken-next t m d done well waits lefts gives each ran =
     (b .waits, b .lefts, b .gives, b .each, b .ran, slots-after t r d done belongs)
 
 -- A refused step hands the state back as it came.
-pub refused-step : (t : Table) (d : State) (done : Bool) (r : Refusal) → stepped t d done .given ≡ Given.Refused r → stepped t d done .state ≡ d
+pub refused-step : (t : Table) (d : State) (done : Bool) (r : Refusal) → stepped t d done .answer ≡ SlotAnswer.Refused r → stepped t d done .state ≡ d
 unfolding stepped
 refused-step t d done r = go (stateAdmitted t d)
   where
-    test : (full : Bool) (x y : model.Stepped) → x .state ≡ d → (y .given ≡ Given.Refused r → ⊥) → cond full x y .given ≡ Given.Refused r → cond full x y .state ≡ d
+    test : (full : Bool) (x y : model.Stepped) → x .state ≡ d → (y .answer ≡ SlotAnswer.Refused r → ⊥) → cond full x y .answer ≡ SlotAnswer.Refused r → cond full x y .state ≡ d
     test true x y p n e = p
     test false x y p n e = absurd (n e)
 
-    go : (a : Admission) → stepAdmitted t d done a .given ≡ Given.Refused r → stepAdmitted t d done a .state ≡ d
+    go : (a : Admission) → stepAdmitted t d done a .answer ≡ SlotAnswer.Refused r → stepAdmitted t d done a .state ≡ d
     go (Admission.Refused w) e = refl
     go Admission.Admitted e = test (eqb (slotCount t d) slotCountLimit) _ _ refl (λ q. let z : _≡_ {A = ℕ} 0 1 = cc in absurd (omega arith)) e

@@ -11,7 +11,7 @@ use Rattle.values.specs.declared.Judgement.{Judgement}
 use Rattle.values.specs.declared.Verdict.{Verdict}
 use Rattle.values.specs.declared.Outcome.{Outcome}
 use Rattle.values.specs.declared.Admission.{Admission}
-use Rattle.values.specs.declared.Given.{Given}
+use Rattle.values.specs.declared.SlotAnswer.{SlotAnswer}
 use Rattle.values.specs.declared.Answer.{Answer}
 use Rattle.model.specs.Limits.{taskLimit, slotCountLimit}
 use Rattle.model.specs.Notation.{count}
@@ -40,7 +40,7 @@ module _ (t : Table) (m : Measure) (well : judged t ≡ Judgement.WellFormed m) 
 
   -- No step refuses a state that the dispatcher itself produced, and each hands out the next one, for fewer than 2^64 steps. Of any well-formed
   -- table.
-  pub never-refused : (n : ℕ) → n < slotCountLimit → _≡_ {A = Stepped} (stepped t (stateAt t done n) (done n)) (record { given = Given.Slot (turn t (stateAt t done n) (done n)); state = stateAt t done (suc n) })
+  pub never-refused : (n : ℕ) → n < slotCountLimit → _≡_ {A = Stepped} (stepped t (stateAt t done n) (done n)) (record { answer = SlotAnswer.Slot (turn t (stateAt t done n) (done n)); state = stateAt t done (suc n) })
   never-refused = refused.never-refused t m well done
 
   -- The step after them is refused by 9.

@@ -20,7 +20,7 @@ use Rattle.values.specs.declared.Admission.{Admission}
 use Rattle.model.specs.Values.{refusalSaid, distanceSaid}
 use Rattle.model.specs.Tasks.{task, isButton, release, round, load, horizon, judgedMixed, judged}
 use Rattle.model.specs.Verdict.{verdict}
-use Rattle.model.specs.TableFile.{loadedFrom, periodicFrom}
+use Rattle.model.specs.TableFile.{fileRead, periodicFrom}
 use Rattle.model.specs.Patterns.{light, quickAnswer, distance, distancePass, distanceAnswer}
 use Rattle.model.specs.Report.{refusalNumber, distanceNumber, distanceExported}
 use Rattle.counting.specs.Count.{tests, is-false}
@@ -105,14 +105,14 @@ refuses : Refuses (λ t. distanceNumber (distanceAnswer t))
 unfolding distanceAnswer
 refuses t r e = rw e refl
 
-pub refused-distance-file : (file : List ℕ) (r : Refusal) → loadedFrom file .admission ≡ Admission.Refused r → distanceExported file ≡ refusalNumber r
+pub refused-distance-file : (file : List ℕ) (r : Refusal) → fileRead file .admission ≡ Admission.Refused r → distanceExported file ≡ refusalNumber r
 refused-distance-file file = refused-file file (λ t. distanceNumber (distanceAnswer t)) refuses
 
-pub read-distance-file : (file : List ℕ) → loadedFrom file .admission ≡ Admission.Admitted → distanceExported file ≡ distanceNumber (distanceAnswer (loadedFrom file .table))
+pub read-distance-file : (file : List ℕ) → fileRead file .admission ≡ Admission.Admitted → distanceExported file ≡ distanceNumber (distanceAnswer (fileRead file .table))
 read-distance-file file = read-file file (λ t. distanceNumber (distanceAnswer t))
 
 -- So exactly the numbers from 65,536 on are refusals, and any other is at most 2.
-pub distance-file-apart : (file : List ℕ) → Apart (loadedFrom file .admission) 2 (distanceExported file)
+pub distance-file-apart : (file : List ℕ) → Apart (fileRead file .admission) 2 (distanceExported file)
 unfolding distanceAnswer
 distance-file-apart file = file-apart file (λ t. distanceNumber (distanceAnswer t)) refuses 2 (λ t m well. rw well (low (light t) (distancePass t)))
   where
@@ -122,13 +122,13 @@ distance-file-apart file = file-apart file (λ t. distanceNumber (distanceAnswer
     low false b = omega arith
 
 -- And 1 means that the table passes, and so what this means.
-pub distance-file-pass : (file : List ℕ) → distanceExported file ≡ 1 → distanceAnswer (loadedFrom file .table) ≡ DistanceAnswer.Pass
+pub distance-file-pass : (file : List ℕ) → distanceExported file ≡ 1 → distanceAnswer (fileRead file .table) ≡ DistanceAnswer.Pass
 unfolding distanceAnswer
 distance-file-pass file e = elim (distance-file-apart file) [
   | inr (r, h, q, (a, b)) ↦ absurd (omega arith)
   | inl (h, l) ↦ (
-      let (m, well) = well-table file {l = loadedFrom file} refl h in
-      rw well (pass (light (loadedFrom file .table)) (distancePass (loadedFrom file .table)) (rw well at (sym (read-distance-file file h) ∙ e)))
+      let (m, well) = well-table file {l = fileRead file} refl h in
+      rw well (pass (light (fileRead file .table)) (distancePass (fileRead file .table)) (rw well at (sym (read-distance-file file h) ∙ e)))
       )
 ]
   where
@@ -138,5 +138,5 @@ distance-file-pass file e = elim (distance-file-apart file) [
     pass false b n = absurd (omega arith)
 
 pub distance-file-means : (file : List ℕ) → distanceExported file ≡ 1 → periodicFrom file .admission ≡ Admission.Admitted
-    → (budget : ℕ) → horizon (loadedFrom file .table) ≤ budget → verdict (loadedFrom file .table) budget ≡ Verdict.Passes
-distance-file-means file e h = let (read, same, (m, well)) = periodic-read file h in distance-means-passes (loadedFrom file .table) m well (distance-file-pass file e)
+    → (budget : ℕ) → horizon (fileRead file .table) ≤ budget → verdict (fileRead file .table) budget ≡ Verdict.Passes
+distance-file-means file e h = let (read, same, (m, well)) = periodic-read file h in distance-means-passes (fileRead file .table) m well (distance-file-pass file e)

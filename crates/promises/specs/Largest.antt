@@ -19,7 +19,7 @@ use Rattle.model.specs.Values.{refusal}
 use Rattle.model.specs.Limits.{slotLimit}
 use Rattle.model.specs.Tasks.{task, judged}
 use Rattle.model.specs.Verdict.{verdict}
-use Rattle.model.specs.TableFile.{formOf, loadedFrom, periodicFrom}
+use Rattle.model.specs.TableFile.{formOf, fileRead, periodicFrom}
 use Rattle.model.specs.Report.{refusalNumber}
 use Rattle.model.specs.Largest.{withCost, largestCost, costTold, costJudged, costAnswer, costNumber, largestExported}
 use Rattle.wellformed.specs.WellFormed.{well-formed}
@@ -125,7 +125,7 @@ cost-tellable t i budget r l e = go (judged t) (judged-tellable t) e
 pub one-largest-export : (file : List ℕ) (i a b : ℕ) → a ≡ largestExported file i → b ≡ largestExported file i → a ≡ b
 one-largest-export file i a b e f = e ∙ sym f
 
--- A refused file is refused as by loading it, and one with a button by 11; of any other its table is answered for, with the file's budget.
+-- A refused file is refused as by reading it, and one with a button by 11; of any other its table is answered for, with the file's budget.
 abbrev tell : List ℕ → ℕ → Table → ℕ
 tell file i t = costNumber (costAnswer t (min i 65535) (formOf file .budget))
 
@@ -135,8 +135,8 @@ tell-refuses file i t r e = rw (cost-refused t (min i 65535) (formOf file .budge
 pub largest-refused-file : (file : List ℕ) (i : ℕ) (r : Refusal) → periodicFrom file .admission ≡ Admission.Refused r → largestExported file i ≡ refusalNumber r
 largest-refused-file file i = refused-periodic file (tell file i) (tell-refuses file i)
 
-pub largest-exported : (file : List ℕ) (i : ℕ) → loadedFrom file .admission ≡ Admission.Admitted
-    → largestExported file i ≡ costNumber (costAnswer (loadedFrom file .table) (min i 65535) (loadedFrom file .budget))
+pub largest-exported : (file : List ℕ) (i : ℕ) → fileRead file .admission ≡ Admission.Admitted
+    → largestExported file i ≡ costNumber (costAnswer (fileRead file .table) (min i 65535) (fileRead file .budget))
 largest-exported file i h = let (same, well) = admitted file h in read-file file (tell file i) h ∙ rw same refl
 
 -- A number up to 60,003 is an answer; any other is the refusal of the file or of the task, by a number above 0 and a place below 65,536.
@@ -158,4 +158,4 @@ largest-or-refusal file i = go (periodicFrom file .admission) refl (periodic-tel
   where
     go : (a : Admission) → periodicFrom file .admission ≡ a → AdmissionTellable a → Apart (largestExported file i)
     go (Admission.Refused r) e h = inr (r, largest-refused-file file i r e, h)
-    go Admission.Admitted e h = rw (largest-exported file i (periodic-read file e .0)) (answer-apart (loadedFrom file .table) (min i 65535) (loadedFrom file .budget) (omega arith))
+    go Admission.Admitted e h = rw (largest-exported file i (periodic-read file e .0)) (answer-apart (fileRead file .table) (min i 65535) (fileRead file .budget) (omega arith))

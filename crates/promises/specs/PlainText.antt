@@ -11,27 +11,27 @@ use Rattle.values.specs.declared.Refusal.{Refusal}
 use Rattle.values.specs.declared.Measure.{Measure}
 use Rattle.values.specs.declared.Judgement.{Judgement}
 use Rattle.values.specs.declared.Admission.{Admission}
-use Rattle.values.specs.declared.Loaded.{Loaded}
+use Rattle.values.specs.declared.Contents.{Contents}
 use Rattle.values.specs.declared.Writing.{Writing}
 use Rattle.model.specs.Limits.{taskLimit, budgetLimit, longestFile, longestText}
 use Rattle.model.specs.Values.{refusalSaid, writingSaid, admissionSaid}
 use Rattle.model.specs.Tasks.{judgedMixed}
-use Rattle.model.specs.TableFile.{admit, fileOf, formOf, loadedFrom}
+use Rattle.model.specs.TableFile.{admit, fileOf, formOf, fileRead}
 use Rattle.model.specs.Report.{Exported, refused}
 use Rattle.model.specs.Writer.{Filled, fitted, tasksOf, fileWritten}
-use Rattle.model.specs.PlainText.{textForm, textLoaded, textOf, textWritten, fromText, toText, fromTextExported, toTextExported}
+use Rattle.model.specs.PlainText.{textForm, textRead, textOf, textWritten, fromText, toText, fromTextExported, toTextExported}
 use Rattle.tablefile.specs.Written.{AllFit}
 use Rattle.writer.specs.RoundTrip.{tasks-back}
 use Rattle.plaintext.specs.Canonical.{text-read, text-nothing}
 use Rattle.plaintext.specs.RoundTrip as round
 use Rattle.plaintext.specs.Told as told
 
--- Reading a text's form, loading it, writing a text, and going from text to file and back have one permitted result each, for every input.
-pub one-text-form : (s : List ℕ) (a b : Loaded) → a ≡ textForm s → b ≡ textForm s → a ≡ b
+-- Reading a text's form, reading it, writing a text, and going from text to file and back have one permitted result each, for every input.
+pub one-text-form : (s : List ℕ) (a b : Contents) → a ≡ textForm s → b ≡ textForm s → a ≡ b
 one-text-form s a b e f = e ∙ sym f
 
-pub one-text-loading : (s : List ℕ) (a b : Loaded) → a ≡ textLoaded s → b ≡ textLoaded s → a ≡ b
-one-text-loading s a b e f = e ∙ sym f
+pub one-text-reading : (s : List ℕ) (a b : Contents) → a ≡ textRead s → b ≡ textRead s → a ≡ b
+one-text-reading s a b e f = e ∙ sym f
 
 pub one-text-writing : (t : Table) (budget : ℕ) (buffer : List ℕ) (a b : Filled) → a ≡ textWritten t budget buffer → b ≡ textWritten t budget buffer → a ≡ b
 one-text-writing t budget buffer a b e f = e ∙ sym f
@@ -63,12 +63,12 @@ pub nothing-text-writing : (t : Table) (m : Measure) (buffer : List ℕ) → jud
 unfolding textWritten
 nothing-text-writing t m buffer well = rw well (refl, refl)
 
--- What was written as a text is loaded: it is not refused, and has the same budget and the same tasks in their order.
-pub written-text-loads : (t : Table) (budget : ℕ) (buffer : List ℕ) (n : ℕ) → budget < budgetLimit → textWritten t budget buffer .said ≡ Writing.Bytes n
-    → let l = textLoaded (take n (textWritten t budget buffer .buffer)) in (l .admission ≡ Admission.Admitted) × (l .budget ≡ budget) × (tasksOf (l .table) ≡ tasksOf t)
-written-text-loads t budget buffer n limit e =
-    let same = round.written-text-loads t budget buffer n limit e in
-    (ap (λ (l : Loaded). l .admission) same, ap (λ (l : Loaded). l .budget) same, ap (λ (l : Loaded). tasksOf (l .table)) same ∙ tasks-back (tasksOf t))
+-- What was written as a text is read: it is not refused, and has the same budget and the same tasks in their order.
+pub written-text-reads : (t : Table) (budget : ℕ) (buffer : List ℕ) (n : ℕ) → budget < budgetLimit → textWritten t budget buffer .said ≡ Writing.Bytes n
+    → let l = textRead (take n (textWritten t budget buffer .buffer)) in (l .admission ≡ Admission.Admitted) × (l .budget ≡ budget) × (tasksOf (l .table) ≡ tasksOf t)
+written-text-reads t budget buffer n limit e =
+    let same = round.written-text-reads t budget buffer n limit e in
+    (ap (λ (l : Contents). l .admission) same, ap (λ (l : Contents). l .budget) same, ap (λ (l : Contents). tasksOf (l .table)) same ∙ tasks-back (tasksOf t))
 
 -- The text of a well-formed table and a budget above 0 is made its file, and its file its text.
 pub text-to-file : (t : Table) (m : Measure) (budget : ℕ) (buffer : List ℕ) → 0 < budget → budget < budgetLimit
@@ -80,24 +80,24 @@ pub file-to-text : (t : Table) (m : Measure) (budget : ℕ) (buffer : List ℕ) 
 file-to-text = round.file-to-text
 
 -- Of a file that is not refused, the file of the text that was written of it is that file, byte for byte.
-pub back-to-file : (file lent buffer : List ℕ) (n : ℕ) → ((i : ℕ) → getD file i 0 < 256) → loadedFrom file .admission ≡ Admission.Admitted → toText file lent .said ≡ Writing.Bytes n
+pub back-to-file : (file lent buffer : List ℕ) (n : ℕ) → ((i : ℕ) → getD file i 0 < 256) → fileRead file .admission ≡ Admission.Admitted → toText file lent .said ≡ Writing.Bytes n
     → fromText (take n (toText file lent .buffer)) buffer ≡ fitted file buffer
 back-to-file = round.back-to-file
 
--- A text of bad form is refused for it, when it is loaded and when its file is to be written, and the buffer stays as it was.
+-- A text of bad form is refused for it, when it is read and when its file is to be written, and the buffer stays as it was.
 pub refused-text : (s buffer : List ℕ) (r : Refusal) → textForm s .admission ≡ Admission.Refused r
-    → let f = fromText s buffer in (admissionSaid (textLoaded s .admission) ≡ refusalSaid r) × (writingSaid (f .said) ≡ refusalSaid r) × (f .buffer ≡ buffer)
-unfolding textLoaded
+    → let f = fromText s buffer in (admissionSaid (textRead s .admission) ≡ refusalSaid r) × (writingSaid (f .said) ≡ refusalSaid r) × (f .buffer ≡ buffer)
+unfolding textRead
 refused-text s buffer r e = rw e (refl, refl, refl)
 
 -- So is a table for itself that a text of good form holds.
 pub refused-text-table : (s buffer : List ℕ) (r : Refusal) → textForm s .admission ≡ Admission.Admitted → judgedMixed (textForm s .table) ≡ Judgement.Refused r
-    → let f = fromText s buffer in (admissionSaid (textLoaded s .admission) ≡ refusalSaid r) × (writingSaid (f .said) ≡ refusalSaid r) × (f .buffer ≡ buffer)
-unfolding textLoaded fileWritten
+    → let f = fromText s buffer in (admissionSaid (textRead s .admission) ≡ refusalSaid r) × (writingSaid (f .said) ≡ refusalSaid r) × (f .buffer ≡ buffer)
+unfolding textRead fileWritten
 refused-text-table s buffer r e f = rw (e, f) (refl, refl, refl)
 
--- To write the text of a file: what the file is refused by when it is loaded, and the buffer stays as it was.
-pub refused-to-text : (file buffer : List ℕ) (r : Refusal) → loadedFrom file .admission ≡ Admission.Refused r
+-- To write the text of a file: what the file is refused by when it is read, and the buffer stays as it was.
+pub refused-to-text : (file buffer : List ℕ) (r : Refusal) → fileRead file .admission ≡ Admission.Refused r
     → let f = toText file buffer in (writingSaid (f .said) ≡ refusalSaid r) × (f .buffer ≡ buffer)
 refused-to-text = told.refused-to-text
 

@@ -18,7 +18,7 @@ use Rattle.model.specs.Values.{refusalSaid, quickSaid}
 use Rattle.model.specs.Tasks.{round, load, horizon, judged}
 use Rattle.model.specs.Schedule.{Schedule, Good}
 use Rattle.model.specs.Verdict.{verdict}
-use Rattle.model.specs.TableFile.{loadedFrom, periodicFrom}
+use Rattle.model.specs.TableFile.{fileRead, periodicFrom}
 use Rattle.model.specs.Patterns.{startingAt, simultaneous, quickPass, quickAnswer}
 use Rattle.model.specs.Report.{refusalNumber, quickNumber, quickExported}
 use Rattle.counting.specs.Count.{is-true, is-false}
@@ -84,7 +84,7 @@ quick-exactly t m well = ((λ e. exact .0 (quick-case t (judged t) e .1), λ h. 
 pub one-quick-export : (file : List ℕ) (a b : ℕ) → a ≡ quickExported file → b ≡ quickExported file → a ≡ b
 one-quick-export file a b e f = e ∙ sym f
 
--- A file that is refused, as it is by loading it or by 11 for a button, is refused so, and any other gives its table's answer: 1 for pass, 0 for none.
+-- A file that is refused, as it is by reading it or by 11 for a button, is refused so, and any other gives its table's answer: 1 for pass, 0 for none.
 refuses : RefusesButtons (λ t. quickNumber (quickAnswer t))
 unfolding quickAnswer
 refuses t r e = rw e refl
@@ -92,7 +92,7 @@ refuses t r e = rw e refl
 pub refused-quick-file : (file : List ℕ) (r : Refusal) → periodicFrom file .admission ≡ Admission.Refused r → quickExported file ≡ refusalNumber r
 refused-quick-file file = refused-periodic file (λ t. quickNumber (quickAnswer t)) refuses
 
-pub read-quick-file : (file : List ℕ) → loadedFrom file .admission ≡ Admission.Admitted → quickExported file ≡ quickNumber (quickAnswer (loadedFrom file .table))
+pub read-quick-file : (file : List ℕ) → fileRead file .admission ≡ Admission.Admitted → quickExported file ≡ quickNumber (quickAnswer (fileRead file .table))
 read-quick-file file = read-file file (λ t. quickNumber (quickAnswer t))
 
 -- So exactly the numbers from 65,536 on are refusals, and any other is 0 or 1.
@@ -104,13 +104,13 @@ quick-file-apart file = periodic-apart file (λ t. quickNumber (quickAnswer t)) 
     low true = omega arith
     low false = omega arith
 
-pub quick-file-means : (file : List ℕ) → quickExported file ≡ 1 → (budget : ℕ) → horizon (loadedFrom file .table) ≤ budget → verdict (loadedFrom file .table) budget ≡ Verdict.Passes
+pub quick-file-means : (file : List ℕ) → quickExported file ≡ 1 → (budget : ℕ) → horizon (fileRead file .table) ≤ budget → verdict (fileRead file .table) budget ≡ Verdict.Passes
 quick-file-means file e = elim (quick-file-apart file) [
   | inr (r, h, q, (a, b)) ↦ absurd (omega arith)
   | inl (h, l) ↦ (
       let (read, same, (m, well)) = periodic-read file h in
-      elim (quick-exactly (loadedFrom file .table) m well .1) [
-        | inl q ↦ quick-means-passes (loadedFrom file .table) q
+      elim (quick-exactly (fileRead file .table) m well .1) [
+        | inl q ↦ quick-means-passes (fileRead file .table) q
         | inr q ↦ absurd (omega (arith, read-quick-file file read, ap quickNumber q))
       ]
       )

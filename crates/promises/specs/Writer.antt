@@ -1,5 +1,5 @@
 -- DEMAND 1 at the writer: one permitted result for every table, budget and buffer, from C for all words; a refusal changes no byte; what was
--- written is loaded as the same budget and tasks, and what was loaded is written as the same bytes.
+-- written is read as the same budget and tasks, and what was read is written as the same bytes.
 use mathlib.Core.Path.{_≡_, refl, sym, ap, _∙_}
 use mathlib.Core.Logic.{_⊎_}
 use mathlib.Core.List.{List, [], _∷_, _++_}
@@ -12,12 +12,12 @@ use Rattle.values.specs.declared.Refusal.{Refusal}
 use Rattle.values.specs.declared.Measure.{Measure}
 use Rattle.values.specs.declared.Judgement.{Judgement}
 use Rattle.values.specs.declared.Admission.{Admission}
-use Rattle.values.specs.declared.Loaded.{Loaded}
+use Rattle.values.specs.declared.Contents.{Contents}
 use Rattle.values.specs.declared.Writing.{Writing}
 use Rattle.model.specs.Limits.{taskLimit, budgetLimit, longestFile}
 use Rattle.model.specs.Values.{refusal, refusalSaid, writingSaid}
 use Rattle.model.specs.Tasks.{task, judgedMixed}
-use Rattle.model.specs.TableFile.{fileOf, loadedFrom}
+use Rattle.model.specs.TableFile.{fileOf, fileRead}
 use Rattle.model.specs.Report.{Exported, refused}
 use Rattle.model.specs.Writer.{Filled, tasksOf, fileWritten, rowWords, rows, rowTask, isTask, tableIn, fillTold, writeExported}
 use Rattle.writer.specs.RoundTrip as round
@@ -55,17 +55,17 @@ pub long-writing : (t : Table) (m : Measure) (budget : ℕ) (buffer : List ℕ) 
     (writingSaid (f .said) ≡ 0 ∷ length file ∷ []) × (f .buffer ≡ file ++ drop (length file) buffer) × (length file ≤ longestFile)
 long-writing t m budget buffer well some h = let (e, few) = told.long-writing t m budget buffer well some h in rw e (refl, refl, few)
 
--- What was written is loaded: it is not refused, and has the same budget and the same tasks in their order.
-pub written-loads : (t : Table) (budget : ℕ) (buffer : List ℕ) (n : ℕ) → budget < budgetLimit → fileWritten t budget buffer .said ≡ Writing.Bytes n
-    → let l = loadedFrom (take n (fileWritten t budget buffer .buffer)) in (l .admission ≡ Admission.Admitted) × (l .budget ≡ budget) × (tasksOf (l .table) ≡ tasksOf t)
-written-loads t budget buffer n limit e =
-    let same = round.written-loads t budget buffer n limit e in
-    (ap (λ (l : Loaded). l .admission) same, ap (λ (l : Loaded). l .budget) same, ap (λ (l : Loaded). tasksOf (l .table)) same ∙ round.tasks-back (tasksOf t))
+-- What was written is read: it is not refused, and has the same budget and the same tasks in their order.
+pub written-reads : (t : Table) (budget : ℕ) (buffer : List ℕ) (n : ℕ) → budget < budgetLimit → fileWritten t budget buffer .said ≡ Writing.Bytes n
+    → let l = fileRead (take n (fileWritten t budget buffer .buffer)) in (l .admission ≡ Admission.Admitted) × (l .budget ≡ budget) × (tasksOf (l .table) ≡ tasksOf t)
+written-reads t budget buffer n limit e =
+    let same = round.written-reads t budget buffer n limit e in
+    (ap (λ (l : Contents). l .admission) same, ap (λ (l : Contents). l .budget) same, ap (λ (l : Contents). tasksOf (l .table)) same ∙ round.tasks-back (tasksOf t))
 
--- What was loaded from a file that is not refused is written as the same bytes, if the buffer is not shorter.
-pub loaded-writes : (file buffer : List ℕ) → ((i : ℕ) → getD file i 0 < 256) → loadedFrom file .admission ≡ Admission.Admitted → length file ≤ length buffer
-    → fileWritten (loadedFrom file .table) (loadedFrom file .budget) buffer ≡ record { said = Writing.Bytes (length file); buffer = file ++ drop (length file) buffer }
-loaded-writes = told.loaded-writes
+-- What was read from a file that is not refused is written as the same bytes, if the buffer is not shorter.
+pub read-writes : (file buffer : List ℕ) → ((i : ℕ) → getD file i 0 < 256) → fileRead file .admission ≡ Admission.Admitted → length file ≤ length buffer
+    → fileWritten (fileRead file .table) (fileRead file .budget) buffer ≡ record { said = Writing.Bytes (length file); buffer = file ++ drop (length file) buffer }
+read-writes = told.read-writes
 
 -- From C: words that are no whole rows are refused by 51 at their number, at most 65,535, whatever the rest.
 pub broken-rows : (words : List ℕ) (budget : ℕ) (buffer : List ℕ) → eqb (length words % rowWords) 0 ≡ false → writeExported words budget buffer ≡ refused (refusal 51 (min (length words) 65535)) buffer

@@ -88,7 +88,7 @@ module _ (file : List ℕ) (t : Table) (m : Measure) (formed : formOf file .admi
 
   stepped-in : (n : ℕ) → n < slotCountLimit → (buffer : List ℕ) (u : Turn) → buffer ≡ bufferOf (stateAt t reports n) u → stepExported file buffer (done n) ≡ record { number = told n .owner; buffer = bufferOf (stateAt t reports (suc n)) (told n) }
   stepped-in n h buffer u e =
-      on-table stateBytes file buffer t (λ k. let s = stepped k (stateIn buffer) (reports n) in stepWritten buffer (s .state) (s .given)) formed held (ap length e ∙ buffer-size _ u (fits t r reports n (omega arith)))
+      on-table stateBytes file buffer t (λ k. let s = stepped k (stateIn buffer) (reports n) in stepWritten buffer (s .state) (s .answer)) formed held (ap length e ∙ buffer-size _ u (fits t r reports n (omega arith)))
       ∙ rw (e, state-back _ u (fits t r reports n (omega arith)), never-refused t m well reports n h)
 
   holds : (n : ℕ) → n ≤ slotCountLimit → (u : Turn) × (handed file lent done n ≡ bufferOf (stateAt t reports n) u)

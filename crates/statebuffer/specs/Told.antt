@@ -12,7 +12,7 @@ use Rattle.values.specs.declared.Table.{Table}
 use Rattle.values.specs.declared.Refusal.{Refusal}
 use Rattle.values.specs.declared.Judgement.{Judgement}
 use Rattle.values.specs.declared.Admission.{Admission}
-use Rattle.values.specs.declared.Given.{Given}
+use Rattle.values.specs.declared.SlotAnswer.{SlotAnswer}
 use Rattle.model.specs.Limits.{taskLimit, slotCountLimit, sumPlace}
 use Rattle.model.specs.Tasks.{judged}
 use Rattle.model.specs.TableFile.{formOf}
@@ -90,15 +90,15 @@ pub step-apart : (file buffer : List ℕ) (done : ℕ) → Apart (TakenStep (for
 unfolding stepped
 step-apart file buffer done =
     let t = formOf file .table in
-    file-apart (TakenStep t) stateBytes file buffer (λ t. let s = stepped t (stateIn buffer) (not (eqb done 0)) in stepWritten buffer (s .state) (s .given)) (by t (stateIn buffer) (not (eqb done 0)) (admitted t (stateIn buffer)) refl (admitted-tellable t (stateIn buffer)))
+    file-apart (TakenStep t) stateBytes file buffer (λ t. let s = stepped t (stateIn buffer) (not (eqb done 0)) in stepWritten buffer (s .state) (s .answer)) (by t (stateIn buffer) (not (eqb done 0)) (admitted t (stateIn buffer)) refl (admitted-tellable t (stateIn buffer)))
   where
-    by : (t : Table) (d : State) (report : Bool) (a : Admission) → admitted t d ≡ a → AdmissionTellable a → let s = stepAdmitted t d report a in Apart (TakenStep t) buffer (stepWritten buffer (s .state) (s .given))
+    by : (t : Table) (d : State) (report : Bool) (a : Admission) → admitted t d ≡ a → AdmissionTellable a → let s = stepAdmitted t d report a in Apart (TakenStep t) buffer (stepWritten buffer (s .state) (s .answer))
     by t d report (Admission.Refused r) e n = inr (r, refl, n)
     by t d report Admission.Admitted e n = go (eqb (slotCount t d) slotCountLimit)
       where
         few : t .count ≤ taskLimit
         few = let a = admitted-iff t d .0 e in well-formed t (a .measure) (a .well) .ranged .few
 
-        go : (full : Bool) → let s = cond full (refuseStep (refusal 9 0) d) (record { given = Given.Slot (turn t d report); state = after t d report }) in Apart (TakenStep t) buffer (stepWritten buffer (s .state) (s .given))
+        go : (full : Bool) → let s = cond full (refuseStep (refusal 9 0) d) (record { answer = SlotAnswer.Slot (turn t d report); state = after t d report }) in Apart (TakenStep t) buffer (stepWritten buffer (s .state) (s .answer))
         go true = inr (refusal 9 0, refl, (omega arith, omega arith))
         go false = inl (owner-range t d report few)

@@ -4,7 +4,7 @@ pub mod Part
 pub mod Said
 pub mod Built
 pub mod Steps
-pub mod Loading
+pub mod ReadSoFar
 pub mod Admitted
 pub mod Longer
 pub mod Refused

@@ -8,10 +8,10 @@ use borrow.Author.Tests.{ne-eqb, lt-ltb, le-ltb, lt-leb}
 use lib.ListN.{getD, length, take}
 use lib.Seq.{length-take-le, take-all, getD-take}
 use Rattle.values.specs.declared.Task.{Task}
-use Rattle.values.specs.declared.Loaded.{Loaded}
+use Rattle.values.specs.declared.Contents.{Contents}
 use Rattle.model.specs.Limits.{taskLimit, budgetBytes, taskBytes, buttonBytes, longestFile}
 use Rattle.model.specs.Tasks.{judgedMixed}
-use Rattle.model.specs.TableFile.{four, eight, taskIn, buttonIn, refuseFile, whole, readRecord, readFrom, formOf, judgedForm, loadedFrom}
+use Rattle.model.specs.TableFile.{four, eight, taskIn, buttonIn, refuseFile, whole, readRecord, readFrom, formOf, judgedForm, fileRead}
 
 -- Two files of more bytes than the longest legal one, with the same first ones.
 module _ (s s′ : List ℕ) (long : longestFile < length s) (long′ : longestFile < length s′) (same : (i : ℕ) → i ≤ longestFile → getD s i 0 ≡ getD s′ i 0) where
@@ -24,7 +24,7 @@ module _ (s s′ : List ℕ) (long : longestFile < length s) (long′ : longestF
   button-same : (at : ℕ) → at + buttonBytes < longestFile → buttonIn s (at + 1) ≡ buttonIn s′ (at + 1)
   button-same at h = rw (four-same (at + 1) (omega arith), four-same (at + 1 + 4) (omega arith), four-same (at + 1 + 8) (omega arith))
 
-  record-same : (b : ℕ) (ks : List Task) (at : ℕ) (go go′ : ℕ → Task → Loaded) → at < longestFile
+  record-same : (b : ℕ) (ks : List Task) (at : ℕ) (go go′ : ℕ → Task → Contents) → at < longestFile
       → go taskBytes (taskIn s (at + 1)) ≡ go′ taskBytes (taskIn s′ (at + 1)) → go buttonBytes (buttonIn s (at + 1)) ≡ go′ buttonBytes (buttonIn s′ (at + 1))
       → readRecord s b ks at go ≡ readRecord s′ b ks at go′
   record-same b ks at go go′ h e f = rw (lt-leb (length s) at (omega arith), lt-leb (length s′) at (omega arith), lt-ltb (at + 1) (length s) (omega arith), lt-ltb (at + 1) (length s′) (omega arith), same at (omega arith), e, f)
@@ -47,6 +47,6 @@ first-form s = elim (decLe (length s) (suc longestFile)) [
   | no p ↦ form-same (take (suc longestFile) s) s (omega (arith, length-take-le (suc longestFile) s (omega arith))) (omega arith) (λ i h. getD-take (suc longestFile) s i 0 (omega arith))
 ]
 
-pub first-bytes : (s : List ℕ) → loadedFrom (take (suc longestFile) s) ≡ loadedFrom s
-unfolding loadedFrom
-first-bytes s = ap (λ (l : Loaded). judgedForm judgedMixed l (l .admission)) (first-form s)
+pub first-bytes : (s : List ℕ) → fileRead (take (suc longestFile) s) ≡ fileRead s
+unfolding fileRead
+first-bytes s = ap (λ (l : Contents). judgedForm judgedMixed l (l .admission)) (first-form s)

@@ -10,10 +10,10 @@ use lib.ListN.{length, getD}
 use Rattle.values.specs.declared.Task.{Task}
 use Rattle.values.specs.declared.Judgement.{Judgement}
 use Rattle.values.specs.declared.Admission.{Admission}
-use Rattle.values.specs.declared.Loaded.{Loaded}
+use Rattle.values.specs.declared.Contents.{Contents}
 use Rattle.model.specs.Limits.{taskLimit, budgetBytes, taskBytes, buttonBytes, longestFile}
 use Rattle.model.specs.Tasks.{judgedMixed}
-use Rattle.model.specs.TableFile.{eight, taskIn, buttonIn, refuseFile, admit, whole, worth, readRecord, readFrom, formOf, judgedTable, judgedForm, loadedFrom}
+use Rattle.model.specs.TableFile.{eight, taskIn, buttonIn, refuseFile, admit, whole, worth, readRecord, readFrom, formOf, judgedTable, judgedForm, fileRead}
 use Rattle.wellformed.specs.Refused.{Tellable, JudgementTellable, mixed-tellable}
 
 -- An admission that is tellable if it refuses.
@@ -21,7 +21,7 @@ abbrev pub AdmissionTellable : Admission → Type 0
 AdmissionTellable (Admission.Refused r) = Tellable r
 AdmissionTellable Admission.Admitted = Unit
 
-worth-tellable : (b : ℕ) (l : Loaded) → AdmissionTellable (l .admission) → AdmissionTellable (worth b l .admission)
+worth-tellable : (b : ℕ) (l : Contents) → AdmissionTellable (l .admission) → AdmissionTellable (worth b l .admission)
 worth-tellable b l h = go (eqb b 0)
   where
     go : (nothing : Bool) → AdmissionTellable (cond nothing (refuseFile 27 0) l .admission)
@@ -29,14 +29,14 @@ worth-tellable b l h = go (eqb b 0)
     go false = h
 
 module _ (s : List ℕ) where
-  whole-tellable : (at bytes : ℕ) (l : Loaded) → at < longestFile → AdmissionTellable (l .admission) → AdmissionTellable (whole s at bytes l .admission)
+  whole-tellable : (at bytes : ℕ) (l : Contents) → at < longestFile → AdmissionTellable (l .admission) → AdmissionTellable (whole s at bytes l .admission)
   whole-tellable at bytes l near h = go (ltb (length s) (at + bytes))
     where
       go : (b : Bool) → AdmissionTellable (cond b (refuseFile 20 at) l .admission)
       go true = (omega arith, omega arith)
       go false = h
 
-  record-tellable : (b : ℕ) (ks : List Task) (at : ℕ) (next : ℕ → Task → Loaded) → at < longestFile
+  record-tellable : (b : ℕ) (ks : List Task) (at : ℕ) (next : ℕ → Task → Contents) → at < longestFile
       → AdmissionTellable (next taskBytes (taskIn s (at + 1)) .admission) → AdmissionTellable (next buttonBytes (buttonIn s (at + 1)) .admission)
       → AdmissionTellable (readRecord s b ks at next .admission)
   record-tellable b ks at next near h p = go (leb (length s) at) (eqb (getD s at 0) 1) (eqb (getD s at 0) 2) (eqb (getD s at 0) 4) (eqb (getD s at 0) 3) (ltb (at + 1) (length s)) (leb-true (length s) at)
@@ -71,9 +71,9 @@ module _ (s : List ℕ) where
       go false false true = (omega arith, omega arith)
       go false false false = (omega arith, omega arith)
 
-  pub load-tellable : AdmissionTellable (loadedFrom s .admission)
-  unfolding loadedFrom
-  load-tellable = go (formOf s .admission) form-tellable
+  pub read-tellable : AdmissionTellable (fileRead s .admission)
+  unfolding fileRead
+  read-tellable = go (formOf s .admission) form-tellable
     where
       table-tellable : (j : Judgement) → JudgementTellable j → AdmissionTellable (judgedTable (formOf s) j .admission)
       table-tellable (Judgement.Refused r) h = h

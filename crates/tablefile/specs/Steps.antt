@@ -9,7 +9,7 @@ use lib.Dec.{ltb, leb, eqb}
 use lib.ListN.{length, getD, drop, length-drop, length-append}
 use Rattle.values.specs.declared.Task.{Task}
 use Rattle.tablefile.specs.declared.Record.{Record}
-use Rattle.values.specs.declared.Loaded.{Loaded}
+use Rattle.values.specs.declared.Contents.{Contents}
 use Rattle.model.specs.Limits.{taskLimit, budgetBytes, taskBytes, longestFile}
 use Rattle.model.specs.TableFile.{eight, refuseFile, admit, whole, readRecord, readFrom, formOf}
 use Rattle.tablefile.specs.declared.Reading.{Reading}
@@ -35,7 +35,7 @@ Follows s b ks at (Reading.Whole (Record.OneTask k)) = Reached s b (ks ++ (k ∷
 Follows s b ks at (Reading.Whole Record.End) = admit b ks ≡ formOf s
 
 -- What a task leads to in the model, with room for this many.
-unfoldable afterTask : List ℕ → ℕ → List Task → ℕ → ℕ → ℕ → Task → Loaded
+unfoldable afterTask : List ℕ → ℕ → List Task → ℕ → ℕ → ℕ → Task → Contents
 afterTask s b ks zero at bytes k = refuseFile 25 at
 afterTask s b ks (suc room) at bytes k = whole s at bytes (readFrom s b (ks ++ (k ∷ [])) room (at + bytes))
 

@@ -12,7 +12,7 @@ use lib.Seq.{append-snoc, drop-cons, getD-drop, drop-drop}
 use Rattle.values.specs.declared.Sort.{Sort}
 use Rattle.values.specs.declared.Task.{Task}
 use Rattle.values.specs.declared.Admission.{Admission}
-use Rattle.values.specs.declared.Loaded.{Loaded}
+use Rattle.values.specs.declared.Contents.{Contents}
 use Rattle.model.specs.Limits.{taskLimit, wordLimit, budgetLimit, budgetBytes, taskBytes, buttonBytes}
 use Rattle.model.specs.Tasks.{noTask, buttonSort, isButton, offset}
 use Rattle.model.specs.TableFile.{budgetKind, taskKind, endKind, buttonKind, four, eight, taskIn, buttonIn, refuseFile, admit, whole, readRecord, readFrom, formOf, bytesOf, taskRecord, taskRecords, fileOf}
@@ -67,20 +67,20 @@ module _ (s : List ℕ) where
   stand-length at (k ∷ ks) (kind, body, rest) = omega (arith, stand-length (at + recordBytes k) ks rest, record-length k, length-append (taskRecord k) (taskRecords ks))
 
   -- If the file is taken, tasks stand from this place on, no more than there is room for, and were read after the tasks ks.
-  abbrev Takes : ℕ → List Task → ℕ → ℕ → Loaded → Type 0
+  abbrev Takes : ℕ → List Task → ℕ → ℕ → Contents → Type 0
   Takes b ks room at l = l .admission ≡ Admission.Admitted → (more : List Task) × (length more ≤ room) × Stand at more × (l ≡ admit b (ks ++ more))
 
   refusal-takes : (b : ℕ) (ks : List Task) (room at n p : ℕ) → Takes b ks room at (refuseFile n p)
   refusal-takes b ks room at n p h = let z : _≡_ {A = ℕ} 0 1 = cc in absurd (omega arith)
 
-  whole-takes : (b : ℕ) (ks : List Task) (room at place bytes : ℕ) (l : Loaded) → Takes b ks room at l → Takes b ks room at (whole s place bytes l)
+  whole-takes : (b : ℕ) (ks : List Task) (room at place bytes : ℕ) (l : Contents) → Takes b ks room at l → Takes b ks room at (whole s place bytes l)
   whole-takes b ks room at place bytes l h = go (ltb (length s) (place + bytes))
     where
       go : (short : Bool) → Takes b ks room at (cond short (refuseFile 20 place) l)
       go true = refusal-takes b ks room at 20 place
       go false = h
 
-  record-takes : (b : ℕ) (ks : List Task) (room at : ℕ) (next : ℕ → Task → Loaded)
+  record-takes : (b : ℕ) (ks : List Task) (room at : ℕ) (next : ℕ → Task → Contents)
       → ((button : Bool) → getD s at 0 ≡ kindOf button → Takes b ks room at (next (recordSize button) (bodyIn button s (at + 1)))) → Takes b ks room at (readRecord s b ks at next)
   record-takes b ks room at next task =
       go (leb (length s) at) (eqb (getD s at 0) 1) (eqb (getD s at 0) 2) (eqb (getD s at 0) 4) (eqb (getD s at 0) 3) (ltb (at + 1) (length s))
@@ -111,7 +111,7 @@ module _ (s : List ℕ) where
       (λ h. let (more, few, stand, same) = from-takes b (ks ++ (k ∷ [])) room (at + recordSize button) h in (k ∷ more, omega arith, stand-body button at more kind stand, same ∙ ap (admit b) (append-snoc ks k more))))
 
   -- If the file is taken, it holds a budget and tasks, and these were read.
-  abbrev Holds : Loaded → Type 0
+  abbrev Holds : Contents → Type 0
   Holds l = l .admission ≡ Admission.Admitted
       → (getD s 0 0 ≡ 1) × (0 < eight s 1) × ((ks : List Task) × (length ks ≤ taskLimit) × Stand budgetBytes ks × (l ≡ admit (eight s 1) ks))
 
@@ -149,10 +149,10 @@ module _ (s : List ℕ) where
 
   -- ---- What stands in the file is read
 
-  end-read : (b : ℕ) (ks : List Task) (at : ℕ) (next : ℕ → Task → Loaded) → Stand at [] → readRecord s b ks at next ≡ admit b (ks ++ [])
+  end-read : (b : ℕ) (ks : List Task) (at : ℕ) (next : ℕ → Task → Contents) → Stand at [] → readRecord s b ks at next ≡ admit b (ks ++ [])
   end-read b ks at next (kind, stop) = rw (lt-leb (length s) at (omega arith), kind, le-ltb (at + 1) (length s) (omega arith), append-nil ks)
 
-  task-read : (b : ℕ) (ks : List Task) (at : ℕ) (button : Bool) (next : ℕ → Task → Loaded) → at < length s → getD s at 0 ≡ kindOf button
+  task-read : (b : ℕ) (ks : List Task) (at : ℕ) (button : Bool) (next : ℕ → Task → Contents) → at < length s → getD s at 0 ≡ kindOf button
       → readRecord s b ks at next ≡ next (recordSize button) (bodyIn button s (at + 1))
   task-read b ks at true next inside kind = rw (lt-leb (length s) at (omega arith), kind)
   task-read b ks at false next inside kind = rw (lt-leb (length s) at (omega arith), kind)

@@ -1,7 +1,7 @@
 // A table file, read record by record where it lies.
 use values::Admission;
 use values::Judgement;
-use values::Loaded;
+use values::Contents;
 use values::Refusal;
 use values::Sort;
 use values::TASK_LIMIT;
@@ -12,7 +12,7 @@ ghost use mathlib.Core.List.{[]};
 ghost use Prim.Native.Nat.{_+_, _<_, _≤_};
 ghost use lib.ListN.{length};
 ghost use Rattle.model.specs.Limits.{longestFile};
-ghost use Rattle.model.specs.TableFile.{tableOf, refuseFile, formOf, loadedFrom, periodicFrom};
+ghost use Rattle.model.specs.TableFile.{tableOf, refuseFile, formOf, fileRead, periodicFrom};
 ghost use Rattle.tablefile.specs.Reading.{bodyBytes, recordBytes, bodyIn, refused, budgetReading, taskReading, endReading, readingAt};
 
 pub const BUDGET: u8 = 1;
@@ -193,10 +193,10 @@ pub fn no_tasks() -> Table
     }
 }
 
-pub fn refused_file(why: Refusal) -> Loaded
+pub fn refused_file(why: Refusal) -> Contents
     ensures { λ r. ⌜ r ≡ refuseFile (why .number) (why .place) ⌝ }
 {
-    Loaded {
+    Contents {
         admission: Admission::Refused(why),
         budget: 0,
         table: no_tasks(),
@@ -204,7 +204,7 @@ pub fn refused_file(why: Refusal) -> Loaded
 }
 
 // The file's form alone: its table is not judged.
-pub fn form_of(file: &[u8]) -> Loaded
+pub fn form_of(file: &[u8]) -> Contents
     ensures { λ r. ⌜ r ≡ formOf (now (file .entry)) ⌝ }
 {
     let mut budget: u64 = 0;
@@ -228,7 +228,7 @@ pub fn form_of(file: &[u8]) -> Loaded
                     at = at + record_bytes(task);
                 }
                 Record::End => {
-                    return Loaded {
+                    return Contents {
                         admission: Admission::Admitted,
                         budget: budget,
                         table: table,
@@ -239,8 +239,8 @@ pub fn form_of(file: &[u8]) -> Loaded
     }
 }
 
-pub fn load(file: &[u8]) -> Loaded
-    ensures { λ r. ⌜ r ≡ loadedFrom (now (file .entry)) ⌝ }
+pub fn read(file: &[u8]) -> Contents
+    ensures { λ r. ⌜ r ≡ fileRead (now (file .entry)) ⌝ }
 {
     let form = form_of(file);
     let admission = form.admission;
@@ -254,16 +254,16 @@ pub fn load(file: &[u8]) -> Loaded
 }
 
 // Where only periodic tasks are allowed: refused by 11 too.
-pub fn load_periodic(file: &[u8]) -> Loaded
+pub fn read_periodic(file: &[u8]) -> Contents
     ensures { λ r. ⌜ r ≡ periodicFrom (now (file .entry)) ⌝ }
 {
-    let loaded = load(file);
-    let admission = loaded.admission;
+    let contents = read(file);
+    let admission = contents.admission;
     match admission {
-        Admission::Refused(_) => loaded,
-        Admission::Admitted => match table::judge(loaded.table) {
+        Admission::Refused(_) => contents,
+        Admission::Admitted => match table::judge(contents.table) {
             Judgement::Refused(button) => refused_file(button),
-            Judgement::WellFormed(_) => loaded,
+            Judgement::WellFormed(_) => contents,
         },
     }
 }

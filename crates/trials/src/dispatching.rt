@@ -5,7 +5,7 @@ use crate::tables::task;
 use dispatch::Dispatcher;
 use slots::NO_TASK;
 use values::Admission;
-use values::Given;
+use values::SlotAnswer;
 use values::TASK_LIMIT;
 use values::Table;
 use values::Turn;
@@ -161,9 +161,9 @@ fn start(vector: &[u8], t: Table) -> Dispatcher {
 fn step(vector: &[u8], d: Dispatcher, t: Table, done: bool) -> Dispatcher {
     say::about(b"step", vector);
     let stepped = d.step(t, done);
-    let given = stepped.given;
+    let answer = stepped.answer;
     let next = stepped.next;
-    say_given(given);
+    say_answer(answer);
     say_state(next);
     next
 }
@@ -178,10 +178,10 @@ fn say_admission(admission: Admission) {
     }
 }
 
-fn say_given(given: Given) {
-    match given {
-        Given::Refused(why) => say::refused(why),
-        Given::Slot(turn) => say_turn(turn),
+fn say_answer(answer: SlotAnswer) {
+    match answer {
+        SlotAnswer::Refused(why) => say::refused(why),
+        SlotAnswer::Slot(turn) => say_turn(turn),
     }
     say::words(b", ");
 }

@@ -119,7 +119,7 @@ pub enum Admission {
 }
 
 // What a table file holds. Of a refused file the budget is 0 and the table empty.
-pub struct Loaded {
+pub struct Contents {
     pub admission: Admission,
     pub budget: u64,
     pub table: Table,
@@ -149,7 +149,7 @@ pub struct Turn {
 }
 
 // The answer of a step: a refusal, or what it says.
-pub enum Given {
+pub enum SlotAnswer {
     Refused(Refusal),
     Slot(Turn),
 }

@@ -1,4 +1,4 @@
--- What is written is loaded, with the same budget and tasks; what was loaded is written, with the same bytes.
+-- What is written is read, with the same budget and tasks; what was read is written, with the same bytes.
 use mathlib.Core.Path.{_≡_, refl, sym, ap, _∙_}
 use mathlib.Core.Logic.{_≢_}
 use mathlib.Core.List.{List, _++_}
@@ -14,11 +14,11 @@ use Rattle.values.specs.declared.Table.{Table}
 use Rattle.values.specs.declared.Measure.{Measure}
 use Rattle.values.specs.declared.Judgement.{Judgement}
 use Rattle.values.specs.declared.Admission.{Admission}
-use Rattle.values.specs.declared.Loaded.{Loaded}
+use Rattle.values.specs.declared.Contents.{Contents}
 use Rattle.values.specs.declared.Writing.{Writing}
 use Rattle.model.specs.Limits.{taskLimit, budgetLimit}
 use Rattle.model.specs.Tasks.{noTask, task, measure, judgedMixed}
-use Rattle.model.specs.TableFile.{tableOf, admit, fileOf, judgedForm, formOf, loadedFrom}
+use Rattle.model.specs.TableFile.{tableOf, admit, fileOf, judgedForm, formOf, fileRead}
 use Rattle.model.specs.Writer.{unwritten, fitted, budgeted, tasksOf, fileWritten, writtenBy}
 use Rattle.wellformed.specs.Ranges.{Ranged, holds-all}
 use Rattle.wellformed.specs.WellFormed.{well-mixed, same-well-formed}
@@ -53,14 +53,14 @@ module _ (t : Table) (m : Measure) (b : ℕ) (well : judgedMixed t ≡ Judgement
       let same : (i : ℕ) → i < t .count → task (tableOf (tasksOf t)) i ≡ task t i = λ i l. List·getD-append (tasksOf t) _ noTask i (omega (arith, size)) ∙ getD-take (t .count) (t .tasks) i noTask l in
       same-well-formed t (tableOf (tasksOf t)) m size same well
 
-  -- What has a form that holds this budget and these tasks is loaded as such.
-  pub formed-loads : {l : Loaded} → l ≡ admit b (tasksOf t) → judgedForm judgedMixed l (l .admission) ≡ admit b (tasksOf t)
-  formed-loads e = rw (e, tasks-well-formed)
+  -- What has a form that holds this budget and these tasks is read as such.
+  pub formed-reads : {l : Contents} → l ≡ admit b (tasksOf t) → judgedForm judgedMixed l (l .admission) ≡ admit b (tasksOf t)
+  formed-reads e = rw (e, tasks-well-formed)
 
-  -- The file of a well-formed table and a budget is loaded as this budget and these tasks.
-  pub file-loads : 0 < b → b < budgetLimit → loadedFrom (fileOf b (tasksOf t)) ≡ admit b (tasksOf t)
-  unfolding loadedFrom
-  file-loads some limit = formed-loads (written-read b (tasksOf t) some limit (few-and-fit .1) (few-and-fit .0))
+  -- The file of a well-formed table and a budget is read as this budget and these tasks.
+  pub file-reads : 0 < b → b < budgetLimit → fileRead (fileOf b (tasksOf t)) ≡ admit b (tasksOf t)
+  unfolding fileRead
+  file-reads some limit = formed-reads (written-read b (tasksOf t) some limit (few-and-fit .1) (few-and-fit .0))
 
 -- What a writer says it wrote stands at the front of the buffer.
 pub fitted-front : (bytes buffer : List ℕ) (n : ℕ) → fitted bytes buffer .said ≡ Writing.Bytes n → take n (fitted bytes buffer .buffer) ≡ bytes
@@ -80,33 +80,33 @@ budgeted-front b bytes buffer n = go (eqb b 0) (eqb-false b 0)
     go true some e = let z : _≡_ {A = ℕ} 0 1 = cc in absurd (omega arith)
     go false some e = (omega (arith, some refl), fitted-front bytes buffer n e)
 
--- What was written is loaded: the same budget and the same tasks.
-pub written-loads : (t : Table) (b : ℕ) (buffer : List ℕ) (n : ℕ) → b < budgetLimit → fileWritten t b buffer .said ≡ Writing.Bytes n
-    → loadedFrom (take n (fileWritten t b buffer .buffer)) ≡ admit b (tasksOf t)
+-- What was written is read: the same budget and the same tasks.
+pub written-reads : (t : Table) (b : ℕ) (buffer : List ℕ) (n : ℕ) → b < budgetLimit → fileWritten t b buffer .said ≡ Writing.Bytes n
+    → fileRead (take n (fileWritten t b buffer .buffer)) ≡ admit b (tasksOf t)
 unfolding fileWritten
-written-loads t b buffer n limit = go (judgedMixed t) refl
+written-reads t b buffer n limit = go (judgedMixed t) refl
   where
-    go : (j : Judgement) → judgedMixed t ≡ j → writtenBy b (fileOf b (tasksOf t)) buffer j .said ≡ Writing.Bytes n → loadedFrom (take n (writtenBy b (fileOf b (tasksOf t)) buffer j .buffer)) ≡ admit b (tasksOf t)
+    go : (j : Judgement) → judgedMixed t ≡ j → writtenBy b (fileOf b (tasksOf t)) buffer j .said ≡ Writing.Bytes n → fileRead (take n (writtenBy b (fileOf b (tasksOf t)) buffer j .buffer)) ≡ admit b (tasksOf t)
     go (Judgement.Refused r) well e = let z : _≡_ {A = ℕ} 0 1 = cc in absurd (omega arith)
     go (Judgement.WellFormed m) well e =
         let (some, front) = budgeted-front b (fileOf b (tasksOf t)) buffer n e in
-        rw front (file-loads t m b well some limit)
+        rw front (file-reads t m b well some limit)
 
--- A file that is loaded is the file of its budget and tasks, and its table is well-formed.
-pub loaded-file : (file : List ℕ) → ((i : ℕ) → getD file i 0 < 256) → loadedFrom file .admission ≡ Admission.Admitted
-    → let l = loadedFrom file in
+-- A file that is read is the file of its budget and tasks, and its table is well-formed.
+pub file-of-read : (file : List ℕ) → ((i : ℕ) → getD file i 0 < 256) → fileRead file .admission ≡ Admission.Admitted
+    → let l = fileRead file in
     (0 < l .budget) × (l .budget < budgetLimit) × (fileOf (l .budget) (tasksOf (l .table)) ≡ file)
     × ((m : Measure) × (judgedMixed (l .table) ≡ Judgement.WellFormed m))
-loaded-file file bytes h =
+file-of-read file bytes h =
     let (same, well) = admitted file h in
-    let (some, limit, (ks, few, fit, whole, held)) = read-written file bytes (ap (λ (l : Loaded). l .admission) (sym same) ∙ h) in
-    let tasks : tasksOf (formOf file .table) ≡ ks = ap (λ (l : Loaded). tasksOf (l .table)) held ∙ tasks-back ks in
+    let (some, limit, (ks, few, fit, whole, held)) = read-written file bytes (ap (λ (l : Contents). l .admission) (sym same) ∙ h) in
+    let tasks : tasksOf (formOf file .table) ≡ ks = ap (λ (l : Contents). tasksOf (l .table)) held ∙ tasks-back ks in
     rw same (some, limit, ap (λ (l : List Task). fileOf (formOf file .budget) l) tasks ∙ sym whole, well)
 
--- What was loaded is written: the same bytes.
-pub loaded-writes : (file buffer : List ℕ) → ((i : ℕ) → getD file i 0 < 256) → loadedFrom file .admission ≡ Admission.Admitted
-    → fileWritten (loadedFrom file .table) (loadedFrom file .budget) buffer ≡ fitted file buffer
+-- What was read is written: the same bytes.
+pub read-writes : (file buffer : List ℕ) → ((i : ℕ) → getD file i 0 < 256) → fileRead file .admission ≡ Admission.Admitted
+    → fileWritten (fileRead file .table) (fileRead file .budget) buffer ≡ fitted file buffer
 unfolding fileWritten
-loaded-writes file buffer bytes h =
-    let (some, limit, same, (m, well)) = loaded-file file bytes h in
-    rw (well, ne-eqb (loadedFrom file .budget) 0 (omega arith)) (ap (λ (bytes : List ℕ). fitted bytes buffer) same)
+read-writes file buffer bytes h =
+    let (some, limit, same, (m, well)) = file-of-read file bytes h in
+    rw (well, ne-eqb (fileRead file .budget) 0 (omega arith)) (ap (λ (bytes : List ℕ). fitted bytes buffer) same)

@@ -18,7 +18,7 @@ use Rattle.values.specs.declared.Admission.{Admission}
 use Rattle.values.specs.declared.Writing.{Writing}
 use Rattle.model.specs.Limits.{taskLimit, longestFile}
 use Rattle.model.specs.Tasks.{noTask, task, judgedMixed}
-use Rattle.model.specs.TableFile.{fileOf, loadedFrom}
+use Rattle.model.specs.TableFile.{fileOf, fileRead}
 use Rattle.model.specs.Report.{Exported, refused}
 use Rattle.model.specs.Values.{refusal}
 use Rattle.model.specs.Writer.{unwritten, fitted, budgeted, tasksOf, fileWritten, writtenBy, rowWords, rows, rowTask, isTask, firstStranger, tableIn, fillTold, writeExported}
@@ -47,9 +47,9 @@ unfolding fileWritten
 long-writing t m b buffer well some h =
     (rw (well, ne-eqb b 0 (omega arith), le-ltb (length buffer) (length (fileOf b (tasksOf t))) h), short-file t b (well-mixed t m well .ranged))
 
-pub loaded-writes : (file buffer : List ℕ) → ((i : ℕ) → getD file i 0 < 256) → loadedFrom file .admission ≡ Admission.Admitted → length file ≤ length buffer
-    → fileWritten (loadedFrom file .table) (loadedFrom file .budget) buffer ≡ record { said = Writing.Bytes (length file); buffer = file ++ drop (length file) buffer }
-loaded-writes file buffer bytes good h = rw (round.loaded-writes file buffer bytes good, le-ltb (length buffer) (length file) h)
+pub read-writes : (file buffer : List ℕ) → ((i : ℕ) → getD file i 0 < 256) → fileRead file .admission ≡ Admission.Admitted → length file ≤ length buffer
+    → fileWritten (fileRead file .table) (fileRead file .budget) buffer ≡ record { said = Writing.Bytes (length file); buffer = file ++ drop (length file) buffer }
+read-writes file buffer bytes good h = rw (round.read-writes file buffer bytes good, le-ltb (length buffer) (length file) h)
 
 -- Bytes that fit are told, no more than `most`; or there is a refusal that C can tell, and no byte is changed.
 abbrev pub Apart : ℕ → List ℕ → List ℕ → Exported → Type 0

@@ -5,13 +5,13 @@ use mathlib.Core.List.{List}
 use Prim.Native.Nat.{ℕ}
 use Rattle.values.specs.declared.Admission.{Admission}
 use Rattle.values.specs.declared.Answer.{Answer}
-use Rattle.values.specs.declared.Loaded.{Loaded}
+use Rattle.values.specs.declared.Contents.{Contents}
 use Rattle.values.specs.declared.Outcome.{Outcome}
 use Rattle.values.specs.declared.Writing.{Writing}
 use Rattle.model.specs.Report.{Exported, refused, written, outcomeTold, FileTold}
 use Rattle.model.specs.Writer.{fillTold}
 
-abbrev pub FileExported : List ℕ → Loaded → Exported → Admission → Type 0
+abbrev pub FileExported : List ℕ → Contents → Exported → Admission → Type 0
 FileExported buffer = FileTold (λ r. refused r buffer) (λ report. written report buffer)
 
 abbrev pub exportOf : ℕ → Bool → Answer → List ℕ → Outcome → Exported

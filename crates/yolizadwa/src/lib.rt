@@ -8,7 +8,7 @@ ghost use lib.ListN.{length};
 ghost use Rattle.model.specs.Limits.{taskLimit, reportBytes};
 ghost use Rattle.values.specs.declared.Admission.{Admission};
 ghost use Rattle.model.specs.Verdict.{Permitted};
-ghost use Rattle.model.specs.TableFile.{loadedFrom, periodicFrom};
+ghost use Rattle.model.specs.TableFile.{fileRead, periodicFrom};
 ghost use Rattle.model.specs.Dispatcher.{started, stepped};
 ghost use Rattle.model.specs.Report.{quickNumber, quickExported, distanceNumber, distanceExported, Checked};
 ghost use Rattle.model.specs.StateBuffer.{stateBytes, stateIn, quiet, startWritten, stepWritten, startExported, stepExported};
@@ -28,7 +28,7 @@ use values::Admission;
 use values::Answer;
 use values::DistanceAnswer;
 use values::Easing;
-use values::Given;
+use values::SlotAnswer;
 use values::LOG_STATE_BYTES;
 use values::LargestCost;
 use values::Outcome;
@@ -99,15 +99,15 @@ fn tested(t: Table, budget: u64, plainly: bool) -> Answer
 
 fn check_file(file: &[u8], buffer: &mut [u8], plainly: bool) -> u64
     requires { ⌜ reportBytes ≤ length (now buffer) ⌝ }
-    ensures { λ r. ⌜ FileExported (now (buffer .entry)) (loadedFrom (now (file .entry))) (exported r (now (buffer .exit))) (loadedFrom (now (file .entry)) .admission) ⌝ }
+    ensures { λ r. ⌜ FileExported (now (buffer .entry)) (fileRead (now (file .entry))) (exported r (now (buffer .exit))) (fileRead (now (file .entry)) .admission) ⌝ }
 {
-    let loaded = tablefile::load(file);
-    let admission = loaded.admission;
+    let contents = tablefile::read(file);
+    let admission = contents.admission;
     match admission {
         Admission::Refused(why) => refused(why),
         Admission::Admitted => {
-            let table = loaded.table;
-            let answer = tested(table, loaded.budget, plainly);
+            let table = contents.table;
+            let answer = tested(table, contents.budget, plainly);
             let quick = quick::is_pass(quick::test(table));
             export_answer(answer, table.count, quick, buffer)
         }
@@ -252,12 +252,12 @@ fn eased_from(table: Table, new: &[u8]) -> u64
     requires { ⌜ table .count ≤ taskLimit ⌝ }
     ensures { λ r. ⌜ r ≡ easedNumber table (periodicFrom (now (new .entry)) .table) Admission.Admitted (periodicFrom (now (new .entry)) .admission) ⌝ }
 {
-    let loaded = tablefile::load_periodic(new);
-    let admission = loaded.admission;
+    let contents = tablefile::read_periodic(new);
+    let admission = contents.admission;
     match admission {
         Admission::Refused(why) => refused_file(why, NEW_REFUSED),
         Admission::Admitted => {
-            let eased = loaded.table;
+            let eased = contents.table;
             easing_number(easing::compare(table, eased))
         }
     }
@@ -268,12 +268,12 @@ fn eased_from(table: Table, new: &[u8]) -> u64
 pub extern "C" fn yolizadwa_eased(old: &[u8], new: &[u8]) -> u64
     ensures { λ r. ⌜ r ≡ easedExported (now (old .entry)) (now (new .entry)) ⌝ }
 {
-    let loaded = tablefile::load_periodic(old);
-    let admission = loaded.admission;
+    let contents = tablefile::read_periodic(old);
+    let admission = contents.admission;
     match admission {
         Admission::Refused(why) => refused_file(why, OLD_REFUSED),
         Admission::Admitted => {
-            let table = loaded.table;
+            let table = contents.table;
             eased_from(table, new)
         }
     }
@@ -372,14 +372,14 @@ fn reported(done: u32) -> bool
 
 fn step_table(table: Table, state: &mut [u8], done: u32) -> u64
     requires { ⌜ length (now state) ≡ stateBytes ⌝ }
-    ensures { λ r. ⌜ exported r (now (state .exit)) ≡ (let s = stepped table (stateIn (now (state .entry))) (not (eqb done 0)) in stepWritten (now (state .entry)) (s .state) (s .given)) ⌝ }
+    ensures { λ r. ⌜ exported r (now (state .exit)) ≡ (let s = stepped table (stateIn (now (state .entry))) (not (eqb done 0)) in stepWritten (now (state .entry)) (s .state) (s .answer)) ⌝ }
 {
     let dispatcher = statebuffer::state_in(state);
     let stepped = dispatcher.step(table, reported(done));
-    let given = stepped.given;
-    match given {
-        Given::Refused(why) => refused(why),
-        Given::Slot(turn) => {
+    let answer = stepped.answer;
+    match answer {
+        SlotAnswer::Refused(why) => refused(why),
+        SlotAnswer::Slot(turn) => {
             let next = stepped.next;
             statebuffer::write_state(state, next, turn);
             turn.owner as u64

@@ -8,8 +8,8 @@ use Rattle.judge.specs.Front.{front, counted}
 use Rattle.judge.proofs.judge.Statement.{statement}
 use Rattle.judge.proofs.judge.Tie as tie
 
-load-requires : tie.Need-load-requires
-load-requires c κs = search needs
+read-requires : tie.Need-read-requires
+read-requires c κs = search needs
 
 enum-known-admission : tie.Need-enum-known-admission
 enum-known-admission c = search needs
@@ -32,7 +32,7 @@ is-pass-requires c κs = search needs
 write-outcome-requires : tie.Need-write-outcome-requires
 write-outcome-requires c κs =
     let told = c .before .before .before .before .before in
-    (few-tasks _ (told .before .before .load .ensures) (told .enum-told .given .1), search needs)
+    (few-tasks _ (told .before .before .read .ensures) (told .enum-told .given .1), search needs)
 
 same-length : tie.Need-same-length
 same-length c = search needs
@@ -42,7 +42,7 @@ returns c =
     let w = c .before .before in
     let known = w .before .before .before in
     let line = w .write-refusal .ensures .0 in
-    (rw (← known .before .before .load .ensures, known .admission .given .1) (front _ _ line), counted (refusalLine (known .admission .given .0 .0)) _ line)
+    (rw (← known .before .before .read .ensures, known .admission .given .1) (front _ _ line), counted (refusalLine (known .admission .given .0 .0)) _ line)
 
 same-length-2 : tie.Need-same-length-2
 same-length-2 c = search needs
@@ -53,18 +53,18 @@ returns-2 c =
     let p = w .before .before in
     let t = p .before .before in
     let told = t .before .before in
-    let loaded = told .before .before .load .ensures in
-    let table = told .before .before .load .result .table in
+    let contents = told .before .before .read .ensures in
+    let table = told .before .before .read .result .table in
     let answer = t .test .result in
     let passed = told-either refusalLine (λ report. report) (table .count) table _ answer (t .test .ensures) (p .before .test2 .ensures) (p .is-pass .ensures) in
     let text = rw passed at (w .write-outcome .ensures .0) in
-    (rw (← loaded, told .enum-told .given .1) (_, t .test .ensures, front _ _ text), counted (outcomeTold refusalLine (λ report. report) (table .count) (quickPass table) answer (answer .outcome)) _ text)
+    (rw (← contents, told .enum-told .given .1) (_, t .test .ensures, front _ _ text), counted (outcomeTold refusalLine (λ report. report) (table .count) (quickPass table) answer (answer .outcome)) _ text)
 
 pub judge-spec : {M : Type 1} → statement M
 judge-spec =
     tie.close
     (tie.spec
-    load-requires
+    read-requires
     enum-known-admission
     write-refusal-requires
     enum-told

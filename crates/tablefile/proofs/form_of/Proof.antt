@@ -1,4 +1,4 @@
--- The invariant is `Loading`: reading on from here makes the form of the file. The measure is what is left of the file.
+-- The invariant is `ReadSoFar`: reading on from here makes the form of the file. The measure is what is left of the file.
 use mathlib.Core.Path.{_≡_, sym, ap, _∙_}
 use mathlib.Core.List.{List}
 use Prim.Native.Nat.{ℕ, _+_, _-_, _<_}
@@ -11,12 +11,12 @@ use Rattle.model.specs.Tasks.{isButton}
 use Rattle.tablefile.specs.declared.Reading.{Reading}
 use Rattle.tablefile.specs.Reading.{recordBytes, record-size, readingAt}
 use Rattle.tablefile.specs.Built.{withTask}
-use Rattle.tablefile.specs.Loading.{Loading, start, within, follows, after-budget, has-room, after-task, after-end}
+use Rattle.tablefile.specs.ReadSoFar.{ReadSoFar, start, within, follows, after-budget, has-room, after-task, after-end}
 use Rattle.tablefile.proofs.form_of.Statement.{statement}
 use Rattle.tablefile.proofs.form_of.Tie as tie
 
 abbrev Inv-loop : tie.InvT-loop
-Inv-loop file budget₀ table₀ at₀ budget table at = Loading file budget table at
+Inv-loop file budget₀ table₀ at₀ budget table at = ReadSoFar file budget table at
 
 abbrev μ-loop : tie.MeasureT-loop
 μ-loop file budget₀ table₀ at₀ budget table at = length file - at
@@ -53,7 +53,7 @@ file-of t = t .before .before .before .args .file .now
 
 budget-read : (c : tie.After-known-told3 Inv-loop μ-loop)
     → let t = c .before .before .before .before .before .before .before in
-    Loading (file-of t) (c .before .record2 .given .0 .0) (t .loop .table) (t .loop .at + budgetBytes)
+    ReadSoFar (file-of t) (c .before .record2 .given .0 .0) (t .loop .table) (t .loop .at + budgetBytes)
 budget-read c =
     after-budget (c .before .before .before .before .before .before .before .loop .inv)
     (ap Reading.Whole (sym (c .before .record2 .given .1))
@@ -86,7 +86,7 @@ task-has-room c = has-room (c .before .before .before .before .before .before .b
 
 task-read : (c : tie.After-known-told4 Inv-loop μ-loop)
     → let t = c .before .before .before .before .before .before .before in
-    Loading (file-of t) (t .loop .budget) (withTask (t .loop .table) (c .before .record3 .given .0 .0)) (t .loop .at + recordBytes (c .before .record3 .given .0 .0))
+    ReadSoFar (file-of t) (t .loop .budget) (withTask (t .loop .table) (c .before .record3 .given .0 .0)) (t .loop .at + recordBytes (c .before .record3 .given .0 .0))
 task-read c = after-task (c .before .before .before .before .before .before .before .loop .inv) (task-found c)
 
 mul-task : tie.Need-mul-task Inv-loop μ-loop

@@ -6,8 +6,8 @@ use Rattle.quick.specs.Answers.{told-either}
 use Rattle.yolizadwa.proofs.check_file.Statement.{statement}
 use Rattle.yolizadwa.proofs.check_file.Tie as tie
 
-load-requires : tie.Need-load-requires
-load-requires c κs = search needs
+read-requires : tie.Need-read-requires
+read-requires c κs = search needs
 
 enum-known-admission : tie.Need-enum-known-admission
 enum-known-admission c = search needs
@@ -30,12 +30,12 @@ is-pass-requires c κs = search needs
 export-answer-requires : tie.Need-export-answer-requires
 export-answer-requires c κs =
     let told = c .before .before .before .before .before in
-    (few-tasks _ (told .before .before .load .ensures) (told .enum-told .given .1), search needs)
+    (few-tasks _ (told .before .before .read .ensures) (told .enum-told .given .1), search needs)
 
 returns : tie.Need-returns
 returns c =
     let known = c .before .before in
-    rw (← known .before .before .load .ensures, known .admission .given .1, c .refused .ensures)
+    rw (← known .before .before .read .ensures, known .admission .given .1, c .refused .ensures)
 
 same-length : tie.Need-same-length
 same-length c = search needs
@@ -46,16 +46,16 @@ returns-2 c =
     let p = e .before .before in
     let t = p .before .before in
     let told = t .before .before in
-    let loaded = told .before .before .load .ensures in
-    let table = told .before .before .load .result .table in
+    let contents = told .before .before .read .ensures in
+    let table = told .before .before .read .result .table in
     let passed = told-either _ _ (table .count) table _ (t .tested .result) (t .tested .ensures) (p .before .test .ensures) (p .is-pass .ensures) in
-    rw (← loaded, told .enum-told .given .1) (_, t .tested .ensures, e .export-answer .ensures ∙ passed)
+    rw (← contents, told .enum-told .given .1) (_, t .tested .ensures, e .export-answer .ensures ∙ passed)
 
 pub check-file-spec : {M : Type 1} → statement M
 check-file-spec =
     tie.close
     (tie.spec
-    load-requires
+    read-requires
     enum-known-admission
     refused-requires
     enum-told

@@ -4,8 +4,8 @@ use Rattle.tablefile.specs.Periodic.{few-periodic}
 use Rattle.yolizadwa.proofs.yolizadwa_eased.Statement.{statement}
 use Rattle.yolizadwa.proofs.yolizadwa_eased.Tie as tie
 
-load-periodic-requires : tie.Need-load-periodic-requires
-load-periodic-requires c κs = search needs
+read-periodic-requires : tie.Need-read-periodic-requires
+read-periodic-requires c κs = search needs
 
 enum-known-admission : tie.Need-enum-known-admission
 enum-known-admission c = search needs
@@ -17,23 +17,23 @@ enum-told : tie.Need-enum-told
 enum-told c = search needs
 
 eased-from-requires : tie.Need-eased-from-requires
-eased-from-requires c κs = few-periodic _ (c .before .before .before .load-periodic .ensures) (c .before .enum-told .given .1)
+eased-from-requires c κs = few-periodic _ (c .before .before .before .read-periodic .ensures) (c .before .enum-told .given .1)
 
 returns : tie.Need-returns
 returns c =
     let known = c .before .before in
-    rw (← known .before .before .load-periodic .ensures, known .admission .given .1) (c .refused-file .ensures)
+    rw (← known .before .before .read-periodic .ensures, known .admission .given .1) (c .refused-file .ensures)
 
 returns-2 : tie.Need-returns-2
 returns-2 c =
     let told = c .before .before in
-    rw (← told .before .before .load-periodic .ensures, told .enum-told .given .1) (c .eased-from .ensures)
+    rw (← told .before .before .read-periodic .ensures, told .enum-told .given .1) (c .eased-from .ensures)
 
 pub yolizadwa-eased-spec : {M : Type 1} → statement M
 yolizadwa-eased-spec =
     tie.close
     (tie.spec
-    load-periodic-requires
+    read-periodic-requires
     enum-known-admission
     refused-file-requires
     enum-told
