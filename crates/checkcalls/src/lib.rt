@@ -1,4 +1,4 @@
-// The check of a table file into a report buffer, by leaps or slot by slot.
+// The check of a table file into a report buffer, by leaps or slot by slot; and whether a report says that the table passes.
 ghost use mathlib.Core.Path.{_≡_};
 ghost use Prim.Native.Nat.{_≤_};
 ghost use lib.ListN.{length};
@@ -6,6 +6,7 @@ ghost use Rattle.model.specs.Limits.{taskLimit, reportBytes};
 ghost use Rattle.model.specs.Verdict.{Permitted};
 ghost use Rattle.model.specs.TableFile.{fileRead};
 ghost use Rattle.model.specs.Report.{Checked};
+ghost use Rattle.model.specs.ReportRead.{passesExported};
 ghost use Rattle.report.specs.Put.{exported};
 ghost use Rattle.checkcalls.specs.Outcomes.{FileExported, exportOf};
 use values::Admission;
@@ -66,4 +67,18 @@ pub fn check(file: &[u8], report: &mut [u8], plainly: bool) -> u64
         return numbers::refused_at(SHORT_BUFFER, report.len());
     }
     check_file(file, report, plainly)
+}
+
+// Any bytes: none is looked at if they are longer than a report, as where a refusal is handed over for a length.
+pub fn passes(report: &[u8]) -> u64
+    ensures { λ r. ⌜ r ≡ passesExported (now (report .entry)) ⌝ }
+{
+    if REPORT_BYTES < report.len() {
+        return 0;
+    }
+    if pieces::has_line(report, b"verdict passes") {
+        1
+    } else {
+        0
+    }
 }

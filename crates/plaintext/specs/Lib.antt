@@ -1,9 +1,6 @@
 -- Pieces of a text by what is looked for, its words, its numbers, its lines; and what is read of the text of a budget and tasks.
-pub mod Marks
-pub mod Pieces
 pub mod Words
 pub mod Numbers
-pub mod Same
 pub mod Lines
 pub mod Canonical
 pub mod Texts

@@ -20,13 +20,9 @@ use Rattle.model.specs.Notation.{text}
 use Rattle.model.specs.TableFile.{tableOf, refuseFile}
 use Rattle.model.specs.PlainText.{isLineFeed, isHash, split, linesOf, withoutReturn, contentOf, wordsOf, numbersFault, number, same, unless, budgetLine, taskIn, buttonIn, taskLine, lineOf, afterLine, readLines, textForm}
 use Rattle.tablefile.specs.Built.{withTask, stored}
-use Rattle.plaintext.specs.Marks.{lengthTo, length-to-le}
-use Rattle.plaintext.specs.Pieces.{split-last, split-more, first-piece}
+use Rattle.pieces.specs.Marks.{lengthTo, length-to-le}
+use Rattle.pieces.specs.Pieces.{split-last, split-more, first-piece}
 use Rattle.plaintext.specs.Numbers.{NumbersRead}
-
--- The part of a list up to a place.
-pub from-front : (l : List ℕ) (n : ℕ) → take (n - 0) (drop 0 l) ≡ take n l
-from-front l n = let all : n - 0 ≡ n = omega arith in rw all
 
 -- A line of no bytes.
 pub no-bytes : (l : List ℕ) → length l ≤ 0 → take (length l) l ≡ withoutReturn l

@@ -11,7 +11,7 @@ use lib.Dec.{leb}
 use lib.ListN.{length, getD, set, drop, length-set}
 use lib.Seq.{drop-cons, drop-drop, getD-drop, getD-set-same, getD-set-other}
 use Rattle.model.specs.PlainText.{isGap, isDigit, wordsOf, allDigits, valueAfter, value, numberFault, orElse, numbersFault, number}
-use Rattle.plaintext.specs.Marks.{lengthTo}
+use Rattle.pieces.specs.Marks.{lengthTo}
 use Rattle.plaintext.specs.Words.{some-word, no-words}
 
 -- A word as a number: its fault, or else its value, which is below the limit.

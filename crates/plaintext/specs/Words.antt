@@ -9,8 +9,8 @@ use borrow.Author.Tests.{not-true}
 use lib.ListN.{length, getD, take, drop, length-drop, drop-of-length-le}
 use lib.Seq.{take-all, drop-cons, drop-drop, length-take-le}
 use Rattle.model.specs.PlainText.{isGap, split, filled, wordsOf}
-use Rattle.plaintext.specs.Marks.{lengthTo, length-to-le, found}
-use Rattle.plaintext.specs.Pieces.{split-last, split-more}
+use Rattle.pieces.specs.Marks.{lengthTo, length-to-le, found}
+use Rattle.pieces.specs.Pieces.{split-last, split-more}
 
 -- What was found of the first word: that there is none, or where it begins and ends and which words follow it.
 pub record NextWord (s : List ℕ) (from to : ℕ) : Type 0 where

@@ -7,17 +7,17 @@ ghost use lib.ListN.{length, take};
 ghost use Rattle.model.specs.Notation.{decimal};
 ghost use Rattle.model.specs.Limits.{taskLimit, longestText};
 ghost use Rattle.model.specs.TableFile.{refuseFile};
-ghost use Rattle.model.specs.PlainText.{isGap, isDigit, withoutReturn, contentOf, wordsOf, allDigits, numbersFault, same, budgetLine, lineOf, textForm, textRead, sortText, taskText, taskTexts, textOf, textWritten, fromText, toText};
+ghost use Rattle.model.specs.PlainText.{isDigit, withoutReturn, contentOf, wordsOf, allDigits, numbersFault, budgetLine, lineOf, textForm, textRead, sortText, taskText, taskTexts, textOf, textWritten, fromText, toText};
 ghost use Rattle.model.specs.Writer.{tasksOf, fitted, budgeted};
 ghost use Rattle.counting.specs.Put.{Put};
 ghost use Rattle.wellformed.specs.Ranges.{Ranged};
 ghost use Rattle.tablefile.specs.Built.{withTask};
 ghost use Rattle.writer.specs.Records.{filled};
-ghost use Rattle.plaintext.specs.Marks.{isMark, lengthTo};
 ghost use Rattle.plaintext.specs.Words.{NextWord};
 ghost use Rattle.plaintext.specs.Numbers.{NumberRead, NumbersRead};
 ghost use Rattle.plaintext.specs.Lines.{numbersDue, taskFrom, WordsFit, sortLine};
 ghost use Rattle.plaintext.specs.Texts.{budgetLineBytes, nameRoom, taskRoom, aside};
+use pieces::Mark;
 use values::Admission;
 use values::Contents;
 use values::Judgement;
@@ -62,66 +62,6 @@ const ANOTHER_BUDGET: u32 = 65;
 
 const ONE_TASK_TOO_MANY: u32 = 66;
 
-// What is looked for: the end of a line, a comment, a gap between words, a word, a byte that is no digit.
-pub enum Mark {
-    LineEnd,
-    Comment,
-    Gap,
-    Word,
-    Stranger,
-}
-
-fn is_gap(byte: u8) -> bool
-    ensures { λ r. ⌜ r ≡ isGap byte ⌝ }
-{
-    byte == b' ' || byte == b'\t'
-}
-
-fn is_digit(byte: u8) -> bool
-    ensures { λ r. ⌜ r ≡ isDigit byte ⌝ }
-{
-    b'0' <= byte && byte <= b'9'
-}
-
-fn is(mark: Mark, byte: u8) -> bool
-    ensures { λ r. ⌜ r ≡ isMark mark byte ⌝ }
-{
-    match mark {
-        Mark::LineEnd => byte == b'\n',
-        Mark::Comment => byte == b'#',
-        Mark::Gap => is_gap(byte),
-        Mark::Word => !is_gap(byte),
-        Mark::Stranger => !is_digit(byte),
-    }
-}
-
-// The bytes before the first such one.
-fn find(s: &[u8], mark: Mark) -> usize
-    ensures { λ r. ⌜ r ≡ lengthTo (isMark mark) (now (s .entry)) ⌝ }
-    ensures { λ r. ⌜ r ≤ length (now (s .entry)) ⌝ }
-{
-    for i in 0..s.len() {
-        if is(mark, s[i]) {
-            return i;
-        }
-    }
-    s.len()
-}
-
-fn same(word: &[u8], name: &[u8]) -> bool
-    ensures { λ r. ⌜ r ≡ same (now (word .entry)) (now (name .entry)) ⌝ }
-{
-    if word.len() != name.len() {
-        return false;
-    }
-    for i in 0..word.len() {
-        if word[i] != name[i] {
-            return false;
-        }
-    }
-    true
-}
-
 // Where the first word begins and ends; they are the same where there is none.
 struct Word {
     from: usize,
@@ -131,11 +71,11 @@ struct Word {
 fn next_word(s: &[u8]) -> Word
     ensures { λ r. ⌜ NextWord (now (s .entry)) (r .from) (r .to) ⌝ }
 {
-    let from = find(s, Mark::Word);
+    let from = pieces::find(s, Mark::Word);
     let rest = &s[from..];
     Word {
         from,
-        to: from + find(rest, Mark::Gap),
+        to: from + pieces::find(rest, Mark::Gap),
     }
 }
 
@@ -149,7 +89,7 @@ fn number_in(word: &[u8], largest: u64) -> Number
     requires { ⌜ 9 ≤ largest ⌝ }
     ensures { λ r. ⌜ NumberRead (suc largest) (now (word .entry)) (r .fault) (r .value) ⌝ }
 {
-    if find(word, Mark::Stranger) < word.len() {
+    if pieces::find(word, Mark::Stranger) < word.len() {
         return Number {
             fault: NO_NUMBER,
             value: 0,
@@ -227,7 +167,7 @@ fn numbers_in(words: &[u8], due: usize, largest: u64) -> Numbers
 fn left_over(left: &[u8]) -> u32
     ensures { λ r. ⌜ r ≡ numbersFault 0 0 (wordsOf (now (left .entry))) ⌝ }
 {
-    if find(left, Mark::Word) < left.len() {
+    if pieces::find(left, Mark::Word) < left.len() {
         return WRONG_COUNT;
     }
     0
@@ -309,13 +249,13 @@ fn line_of(line: &[u8], given: bool, count: usize) -> Line
     }
     let name = &line[from..to];
     let rest = &line[to..];
-    if same(name, b"budget") {
+    if pieces::same(name, b"budget") {
         return budget_line(rest, given);
     }
-    if same(name, b"task") {
+    if pieces::same(name, b"task") {
         return task_line(false, rest, given, count);
     }
-    if same(name, b"button") {
+    if pieces::same(name, b"button") {
         return task_line(true, rest, given, count);
     }
     Line::Fault(UNKNOWN_WORD)
@@ -338,7 +278,7 @@ fn content(line: &[u8]) -> usize
     ensures { λ r. ⌜ (r ≤ length (now (line .entry))) × (take r (now (line .entry)) ≡ contentOf (now (line .entry))) ⌝ }
 {
     let bytes = without_return(line);
-    find(&line[0..bytes], Mark::Comment)
+    pieces::find(&line[0..bytes], Mark::Comment)
 }
 
 fn read_line(line: &[u8], given: bool, count: usize) -> Line
@@ -388,7 +328,7 @@ pub fn form_of(text: &[u8]) -> Contents
     let mut line: u32 = 0;
     let mut left = text;
     loop {
-        let end = find(left, Mark::LineEnd);
+        let end = pieces::find(left, Mark::LineEnd);
         line = next_line(line);
         match read_line(&left[0..end], given, table.count) {
             Line::Nothing => {}

@@ -1,6 +1,7 @@
 // The exported calls, as C makes them: each is a call of its kind, and nothing more.
 ghost use mathlib.Core.Path.{_≡_};
 ghost use Rattle.model.specs.Report.{quickExported, distanceExported, Checked};
+ghost use Rattle.model.specs.ReportRead.{passesExported};
 ghost use Rattle.model.specs.StateBuffer.{startExported, stepExported};
 ghost use Rattle.model.specs.LogBuffer.{logStartExported, logFeedExported, logFinishExported};
 ghost use Rattle.model.specs.Writer.{writeExported};
@@ -21,6 +22,13 @@ pub extern "C" fn yolizadwa_check_plainly(file: &[u8], report: &mut [u8]) -> u64
     ensures { λ r. ⌜ Checked (now (file .entry)) (now (report .entry)) (record { number = r; buffer = now (report .exit) }) ⌝ }
 {
     checkcalls::check(file, report, true)
+}
+
+#[no_mangle]
+pub extern "C" fn yolizadwa_passes(report: &[u8]) -> u64
+    ensures { λ r. ⌜ r ≡ passesExported (now (report .entry)) ⌝ }
+{
+    checkcalls::passes(report)
 }
 
 #[no_mangle]

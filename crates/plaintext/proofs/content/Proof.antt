@@ -4,8 +4,9 @@ use mathlib.Core.List.{List}
 use Prim.Native.Nat.{ℕ}
 use borrow.Author.Needs.{needs}
 use Rattle.model.specs.PlainText.{isHash}
-use Rattle.plaintext.specs.Marks.{lengthTo}
-use Rattle.plaintext.specs.Lines.{from-front, before-comment}
+use Rattle.pieces.specs.Marks.{lengthTo}
+use Rattle.pieces.specs.Pieces.{from-front}
+use Rattle.plaintext.specs.Lines.{before-comment}
 use Rattle.plaintext.proofs.content.Statement.{statement}
 use Rattle.plaintext.proofs.content.Tie as tie
 

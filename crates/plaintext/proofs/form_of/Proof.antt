@@ -9,8 +9,9 @@ use borrow.Rule.Slice.PartAt.{part-to-end}
 use lib.ListN.{length, take, drop, length-drop}
 use Rattle.values.specs.declared.Line.{Line}
 use Rattle.model.specs.PlainText.{isLineFeed, linesOf, wordsOf, contentOf, lineOf}
-use Rattle.plaintext.specs.Marks.{lengthTo}
-use Rattle.plaintext.specs.Lines.{Reached, Follows, start, follows, last-line, later-line, text-ends, from-front}
+use Rattle.pieces.specs.Marks.{lengthTo}
+use Rattle.pieces.specs.Pieces.{from-front}
+use Rattle.plaintext.specs.Lines.{Reached, Follows, start, follows, last-line, later-line, text-ends}
 use Rattle.plaintext.proofs.form_of.Statement.{statement}
 use Rattle.plaintext.proofs.form_of.Tie as tie
 

@@ -1,6 +1,6 @@
 -- What a line says is said by its content.
 use borrow.Author.Needs.{needs}
-use Rattle.plaintext.specs.Lines.{from-front}
+use Rattle.pieces.specs.Pieces.{from-front}
 use Rattle.plaintext.proofs.read_line.Statement.{statement}
 use Rattle.plaintext.proofs.read_line.Tie as tie
 

@@ -8,7 +8,7 @@ use Rattle.model.specs.Writer.{fitted, tasksOf}
 use Rattle.model.specs.PlainText.{textOf}
 use Rattle.writer.specs.Records.{nothing, something}
 use Rattle.plaintext.specs.Texts.{front}
-use Rattle.plaintext.specs.Lines.{from-front}
+use Rattle.pieces.specs.Pieces.{from-front}
 use Rattle.plaintext.proofs.write_text.Statement.{statement}
 use Rattle.plaintext.proofs.write_text.Tie as tie
 

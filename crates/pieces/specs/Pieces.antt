@@ -2,13 +2,13 @@
 use mathlib.Core.Path.{_≡_, refl}
 use mathlib.Core.Bool.{Bool, true, false, cond}
 use mathlib.Core.List.{List, [], _∷_}
-use Prim.Native.Nat.{ℕ, suc, _<_}
+use Prim.Native.Nat.{ℕ, suc, _-_, _<_}
 use native.Mathlib.Decide.{decLt}
 use native.Mathlib.Omega.{arith}
 use lib.ListN.{length, getD, take, drop}
 use lib.Seq.{take-all}
 use Rattle.model.specs.PlainText.{before, split}
-use Rattle.plaintext.specs.Marks.{lengthTo, length-to-le}
+use Rattle.pieces.specs.Marks.{lengthTo, length-to-le}
 
 module _ (p : ℕ → Bool) where
   -- A list in which no byte passes is one piece.
@@ -39,3 +39,7 @@ module _ (p : ℕ → Bool) where
     | yes h ↦ rw (split-more s h)
     | no h ↦ let all : lengthTo p s ≡ length s = omega (arith, length-to-le p s) in rw (split-last s all, take-all (lengthTo p s) s (omega arith))
   ]
+
+-- The part of a list up to a place.
+pub from-front : (l : List ℕ) (n : ℕ) → take (n - 0) (drop 0 l) ≡ take n l
+from-front l n = let all : n - 0 ≡ n = omega arith in rw all

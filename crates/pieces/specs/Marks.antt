@@ -7,7 +7,7 @@ use native.Mathlib.Omega.{arith}
 use lib.ListN.{length, getD, drop}
 use lib.Seq.{drop-cons}
 use Rattle.model.specs.PlainText.{isLineFeed, isHash, isGap, isDigit}
-use Rattle.plaintext.specs.declared.Mark.{Mark}
+use Rattle.pieces.specs.declared.Mark.{Mark}
 
 -- The test of what is looked for.
 abbrev pub isMark : Mark → ℕ → Bool

@@ -4,9 +4,9 @@ use Prim.Native.Nat.{_+_, _-_, _≤_}
 use native.Mathlib.Omega.{arith}
 use borrow.Author.Needs.{needs}
 use lib.ListN.{length, drop}
-use Rattle.plaintext.specs.Marks.{isMark, lengthTo, here, not-here, length-to-le}
-use Rattle.plaintext.proofs.find.Statement.{statement}
-use Rattle.plaintext.proofs.find.Tie as tie
+use Rattle.pieces.specs.Marks.{isMark, lengthTo, here, not-here, length-to-le}
+use Rattle.pieces.proofs.find.Statement.{statement}
+use Rattle.pieces.proofs.find.Tie as tie
 
 abbrev Inv-loop : tie.InvT-loop
 Inv-loop s mark i₀ i-end i = (i-end ≡ length s) × (i ≤ i-end) × (lengthTo (isMark mark) s ≡ i + lengthTo (isMark mark) (drop i s))

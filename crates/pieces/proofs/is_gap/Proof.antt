@@ -1,6 +1,6 @@
 use borrow.Author.Tests.{eq-eqb, ne-eqb}
-use Rattle.plaintext.proofs.is_gap.Statement.{statement}
-use Rattle.plaintext.proofs.is_gap.Tie as tie
+use Rattle.pieces.proofs.is_gap.Statement.{statement}
+use Rattle.pieces.proofs.is_gap.Tie as tie
 
 returns : tie.Need-returns
 returns c = rw (eq-eqb _ _ (c .if1 .taken))

@@ -5,9 +5,9 @@ use native.Mathlib.Omega.{arith}
 use borrow.Author.Needs.{needs}
 use lib.ListN.{length, drop}
 use Rattle.model.specs.PlainText.{same}
-use Rattle.plaintext.specs.Same.{other-length, other-byte, same-byte, same-end}
-use Rattle.plaintext.proofs.same.Statement.{statement}
-use Rattle.plaintext.proofs.same.Tie as tie
+use Rattle.pieces.specs.Same.{other-length, other-byte, same-byte, same-end}
+use Rattle.pieces.proofs.same.Statement.{statement}
+use Rattle.pieces.proofs.same.Tie as tie
 
 abbrev Inv-loop : tie.InvT-loop
 Inv-loop word name i₀ i-end i = (length word ≡ length name) × (i-end ≡ length word) × (i ≤ i-end) × (same word name ≡ same (drop i word) (drop i name))

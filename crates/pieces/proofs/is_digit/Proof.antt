@@ -1,6 +1,6 @@
 use borrow.Author.Tests.{le-leb, lt-leb}
-use Rattle.plaintext.proofs.is_digit.Statement.{statement}
-use Rattle.plaintext.proofs.is_digit.Tie as tie
+use Rattle.pieces.proofs.is_digit.Statement.{statement}
+use Rattle.pieces.proofs.is_digit.Tie as tie
 
 returns : tie.Need-returns
 returns c = rw (le-leb _ _ (c .if1 .taken))

@@ -1,7 +1,7 @@
 -- Each arm is the test of its mark.
 use borrow.Author.Needs.{needs}
-use Rattle.plaintext.proofs.is.Statement.{statement}
-use Rattle.plaintext.proofs.is.Tie as tie
+use Rattle.pieces.proofs.is.Statement.{statement}
+use Rattle.pieces.proofs.is.Tie as tie
 
 enum-told : tie.Need-enum-told
 enum-told c = search needs

@@ -1,0 +1,32 @@
+-- The length decides first, then the line.
+use mathlib.Core.Path.{sym, _∙_}
+use borrow.Author.Needs.{needs}
+use borrow.Author.Tests.{le-leb, lt-leb}
+use Rattle.model.specs.Notation.{text}
+use Rattle.checkcalls.proofs.passes.Statement.{statement}
+use Rattle.checkcalls.proofs.passes.Tie as tie
+
+returns : tie.Need-returns
+returns c = rw (lt-leb _ _ (c .if1 .taken))
+
+slice-aggregate-has-line : tie.Need-slice-aggregate-has-line
+slice-aggregate-has-line c = search needs
+
+has-line-requires : tie.Need-has-line-requires
+has-line-requires c κs = search needs
+
+returns-2 : tie.Need-returns-2
+unfolding text
+returns-2 c =
+    let found = c .before in
+    rw (le-leb _ _ (found .before .before .if1 .left), sym (found .has-line .ensures) ∙ c .if2 .taken)
+
+returns-3 : tie.Need-returns-3
+unfolding text
+returns-3 c =
+    let found = c .before in
+    rw (le-leb _ _ (found .before .before .if1 .left), sym (found .has-line .ensures) ∙ c .if2 .left)
+
+pub passes-spec : {M : Type 1} → statement M
+passes-spec =
+    tie.close (tie.spec returns slice-aggregate-has-line has-line-requires returns-2 returns-3)
