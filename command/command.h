@@ -8,6 +8,8 @@
 
 #include "yolizadwa.h"
 
+#define PROGRAM "yolizadwa 0.2"
+
 /* docs/COMMAND.md promises these numbers. */
 enum status { DONE = 0, TROUBLE = 1, REFUSED = 2, LATE = 3, UNDECIDED = 4 };
 

@@ -14,7 +14,7 @@
 #define KIT "an unknown kit"
 #endif
 
-#define VERSION "yolizadwa 0.2\nbuilt with " KIT "\n"
+#define VERSION PROGRAM "\nbuilt with " KIT "\n"
 
 struct word {
     const char *name;

@@ -1,6 +1,4 @@
 /* Texts of anybody's, a file's name above all, as texts of XML and HTML. */
-#include <string.h>
-
 #include "picture.h"
 
 static int follows(uint8_t byte)
@@ -8,26 +6,31 @@ static int follows(uint8_t byte)
     return byte >= 0x80 && byte < 0xC0;
 }
 
-/* How many bytes the letter has by its first one; 0: none begins so. */
+/* How many bytes a letter has, by its first one; 0: none begins so. */
 static unsigned letter_length(uint8_t first)
 {
-    return first >= ' ' && first <= '~' ? 1 : first >= 0xC2 && first < 0xE0 ? 2 : first >= 0xE0 && first < 0xF0 ? 3
-           : first >= 0xF0 && first < 0xF5                                  ? 4
-                                                                            : 0;
+    if (first < 0x80) {
+        return first >= ' ' && first <= '~';
+    }
+    if (first < 0xC2 || first > 0xF4) {
+        return 0;
+    }
+    return first < 0xE0 ? 2 : first < 0xF0 ? 3 : 4;
 }
 
 /* No control, no letter written too long, no half of a pair, none beyond the last, and neither of the two that XML has not. */
 static int is_letter(const uint8_t *bytes, unsigned length)
 {
+    uint8_t first = bytes[0], second = length > 1 ? bytes[1] : 0;
     switch (length) {
     case 1: return 1;
-    case 2: return follows(bytes[1]) && !(bytes[0] == 0xC2 && bytes[1] < 0xA0);
+    case 2: return follows(second) && !(first == 0xC2 && second < 0xA0);
     case 3:
-        return follows(bytes[1]) && follows(bytes[2]) && !(bytes[0] == 0xE0 && bytes[1] < 0xA0) && !(bytes[0] == 0xED && bytes[1] >= 0xA0) &&
-               !(bytes[0] == 0xEF && bytes[1] == 0xBF && bytes[2] >= 0xBE);
+        return follows(second) && follows(bytes[2]) && !(first == 0xE0 && second < 0xA0) && !(first == 0xED && second >= 0xA0) &&
+               !(first == 0xEF && second == 0xBF && bytes[2] >= 0xBE);
     case 4:
-        return follows(bytes[1]) && follows(bytes[2]) && follows(bytes[3]) && !(bytes[0] == 0xF0 && bytes[1] < 0x90) &&
-               !(bytes[0] == 0xF4 && bytes[1] >= 0x90);
+        return follows(second) && follows(bytes[2]) && follows(bytes[3]) && !(first == 0xF0 && second < 0x90) &&
+               !(first == 0xF4 && second >= 0x90);
     default: return 0;
     }
 }

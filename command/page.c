@@ -21,8 +21,12 @@ static const char head[] =
     ".long { columns: 16em }\n"
     ".wide { overflow-x: auto }\n"
     ".run svg { display: block; width: 100%; min-width: 700px; height: auto }\n"
-    "@media print { body { font-size: 12px; max-width: none; margin: 0; padding: 0 } pre { font-size: 10.5px } .wide, pre { overflow: visible }\n"
-    "  .run svg { min-width: 0 } }\n"
+    "@media print {\n"
+    "  body { font-size: 12px; max-width: none; margin: 0; padding: 0 }\n"
+    "  pre { font-size: 10.5px }\n"
+    "  .wide, pre { overflow: visible }\n"
+    "  .run svg { min-width: 0 }\n"
+    "}\n"
     "</style>\n";
 
 static void put_number(uint64_t number)
@@ -71,8 +75,8 @@ static void put_task(const struct table *table, const struct report *report, uns
 /* Largest is NULL where no worst response and no largest cost is known. */
 static void put_table(const struct table *table, const struct report *report, const uint64_t *largest)
 {
-    printf("<section><h2>The table</h2>\n<div class=\"wide\"><table>\n<thead><tr><th>task</th><th>offset</th><th>cost</th><th>deadline</th><th>%s</th>%s"
-           "</tr></thead>\n<tbody>\n",
+    printf("<section><h2>The table</h2>\n<div class=\"wide\"><table>\n<thead><tr><th>task</th><th>offset</th><th>cost</th>"
+           "<th>deadline</th><th>%s</th>%s</tr></thead>\n<tbody>\n",
            button_count(table) > 0 ? "period or spacing" : "period",
            largest == NULL ? "" : "<th>worst response</th><th>against its deadline</th><th>may take more</th>");
     for (unsigned number = 0; number < task_count(table); number++) {
@@ -80,8 +84,8 @@ static void put_table(const struct table *table, const struct report *report, co
     }
     printf("</tbody></table></div>\n<p>All numbers are slots. The budget is %llu.", (unsigned long long)budget_of(table));
     if (largest != NULL) {
-        printf(" A job of the task ends at most its worst response after its release. It may take so many slots more, all others as they are; "
-               "raise one cost, and ask again before the next.");
+        printf(" No job of a task ends later than its worst response after its release. It may take so many slots more, all others\n"
+               "as they are; raise one cost, and ask again before the next.");
     }
     printf("</p></section>\n");
 }
@@ -95,20 +99,29 @@ static void put_words(const char *words)
     printf("</p>\n");
 }
 
-static void put_assumed(void)
+static const char proved_of_tasks[] =
+    "<li>Proved by machine, for every table: the answers above are right, for ever and not only for the slots that are drawn, and the\n"
+    "dispatcher gives out the slots by its rule.</li>\n"
+    "<li>Assumed of the camera: no job needs more slots than its cost; it makes one step for every slot with this table file, and says\n"
+    "done only of the slot just before.</li>\n";
+
+static const char proved_of_buttons[] =
+    "<li>Proved by machine, for every table: the answer above is right, whenever the buttons are pressed. That some way to give out the\n"
+    "slots keeps every deadline is proved; no dispatcher for buttons is part of it.</li>\n"
+    "<li>Assumed of the camera: no job needs more slots than its cost, and no button is pressed twice within its spacing.</li>\n";
+
+static void put_assumed(const char *proved)
 {
-    printf("<section><h2>What was proved, and what is assumed</h2>\n<ol>\n"
-           "<li>Proved by machine, for every table: the answers above are right, for ever and not only for the slots that are drawn, and the "
-           "dispatcher gives out the slots by its rule.</li>\n"
-           "<li>Assumed of the camera: no job needs more slots than its cost; it makes one step for every slot with this table file, and says "
-           "done only of the slot just before.</li>\n"
-           "<li>Assumed beneath: the prover and its logic, the compiler, the processor. This page and its drawing are made by a program that is "
-           "tested and not proved; it shows what the proved calls said.</li>\n</ol></section>\n");
+    printf("<section><h2>What was proved, and what is assumed</h2>\n<ol>\n%s"
+           "<li>Assumed beneath: the prover and its logic, the compiler, the processor. This page was made by " PROGRAM ", which is\n"
+           "tested and not proved, and shows what the proved calls said.</li>\n</ol></section>\n",
+           proved);
 }
 
 static void put_bytes(const struct table *table)
 {
-    printf("<section><h2>The table file</h2>\n<p>%lu bytes, which a camera hands to the library, in hexadecimal:</p>\n<pre>", (unsigned long)table->len);
+    printf("<section><h2>The table file</h2>\n<p>%lu bytes, which a camera hands to the library, in hexadecimal:</p>\n<pre>",
+           (unsigned long)table->len);
     for (size_t at = 0; at < table->len; at++) {
         if (at % BYTES_OF_A_ROW == 0) {
             printf("%s%04lx ", at == 0 ? "" : "\n", (unsigned long)at);
@@ -131,7 +144,7 @@ static void put_beginning(const char *name, const char *verdict)
 
 static void put_end(const struct table *table)
 {
-    put_assumed();
+    put_assumed(button_count(table) > 0 ? proved_of_buttons : proved_of_tasks);
     put_bytes(table);
     printf("</body>\n</html>\n");
 }

@@ -39,7 +39,7 @@ struct picture {
     struct lane lanes[YOLIZADWA_TASKS];
 };
 
-/* From nothing: the window of the request, if it has one, then the verdict, and then the run; the first tells TROUBLE if it cannot be drawn. */
+/* One after the other: the window of the request, if it has one, or TROUBLE if it cannot be drawn; the verdict; the run. */
 int take_window(struct picture *picture, const struct request *request);
 void take_verdict(struct picture *picture, const struct table *table, const struct report *report);
 void trace_run(struct picture *picture, const struct table *table, int early);

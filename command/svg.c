@@ -344,7 +344,8 @@ static void put_block(const struct block *block)
     put_layers(block);
     put_all_marks(block, "class=\"released\" stroke=\"#000\"", "is released", RELEASED, RELEASED);
     put_all_marks(block, "class=\"due\" stroke=\"#000\"", "is due", DUE | CLOSED, DUE);
-    put_all_marks(block, "class=\"closed\" fill=\"#c00\" stroke=\"#c00\" stroke-width=\"2\"", "is due and late", DUE | CLOSED, DUE | CLOSED);
+    put_all_marks(block, "class=\"closed\" fill=\"#c00\" stroke=\"#c00\" stroke-width=\"2\"", "is due and late", DUE | CLOSED,
+                  DUE | CLOSED);
     put_ticks(block);
     put_numbers(block);
     put_idle(block);
@@ -367,11 +368,13 @@ static void put_legend(const struct picture *picture, unsigned y)
     put_key(480, y, "<path d=\"M13 -12V-2m0 4l-3 -5h6z\" stroke=\"#000\"/>", "is due");
     put_key(610, y, "<circle cx=\"13\" cy=\"-4\" r=\"2.5\" fill=\"#fff\" stroke=\"#000\"/>", "idle: all earlier jobs are over");
     if (picture->any_meant) {
-        put_key(12, y + ROW, "<rect x=\"0\" y=\"-11\" width=\"26\" height=\"13\" fill=\"url(#meant)\" stroke=\"#000\" stroke-width=\"1.6\"/>",
+        put_key(12, y + ROW,
+                "<rect x=\"0\" y=\"-11\" width=\"26\" height=\"13\" fill=\"url(#meant)\" stroke=\"#000\" stroke-width=\"1.6\"/>",
                 "has these slots, and is one of the jobs of the shaded interval");
     }
     if (picture->any_late) {
-        put_key(610, y + ROW, "<rect x=\"0\" y=\"-9\" width=\"26\" height=\"9\" fill=\"url(#missed)\" stroke=\"#c00\" stroke-width=\"1.4\"/>",
+        put_key(610, y + ROW,
+                "<rect x=\"0\" y=\"-9\" width=\"26\" height=\"9\" fill=\"url(#missed)\" stroke=\"#c00\" stroke-width=\"1.4\"/>",
                 "late: so many slots are missing");
     }
     printf("</g>\n");

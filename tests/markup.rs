@@ -192,6 +192,23 @@ pub fn read(document: &[u8], prologue: &str) -> Read<Element> {
 
 /// Of the reader itself: what it must not let through.
 pub const MALFORMED: &[&str] = &[
-    "<a>", "<a></b>", "<a b=\"1\" b=\"2\"/>", "<a b=1/>", "<a>&</a>", "<a>&nbsp;</a>", "<a>\u{1}</a>", "<a>]]></a>", "<a b=\"<\"/>", "<a/><b/>",
-    "<a>&#1;</a>", "<a>&#xFFFF;</a>", "<1/>", "<a>\u{FFFE}</a>", "<a b=\"1\"c=\"2\"/>", "text", "<a><!-- --></a>", "<a>&lt</a>", "",
+    "<a>",
+    "<a></b>",
+    "<a b=\"1\" b=\"2\"/>",
+    "<a b=1/>",
+    "<a>&</a>",
+    "<a>&nbsp;</a>",
+    "<a>\u{1}</a>",
+    "<a>]]></a>",
+    "<a b=\"<\"/>",
+    "<a/><b/>",
+    "<a>&#1;</a>",
+    "<a>&#xFFFF;</a>",
+    "<1/>",
+    "<a>\u{FFFE}</a>",
+    "<a b=\"1\"c=\"2\"/>",
+    "text",
+    "<a><!-- --></a>",
+    "<a>&lt</a>",
+    "",
 ];

@@ -147,7 +147,8 @@ fn axes(drawing: &Element, window: &Window) -> Option<Vec<Axis>> {
     let ((one, x), (other, y)) = (number(marks.first()?)?, number(marks.get(1)?)?);
     let slot = (y - x) / (other - one);
     let left = x - (one - window.from) * slot;
-    let floor = drawing.of_class("floors").first()?.attribute("d").split_once('H')?.1.split('M').next()?.parse::<u64>().ok()?;
+    let floor =
+        drawing.of_class("floors").first()?.attribute("d").split_once('H')?.1.split('M').next()?.parse::<u64>().ok()?;
     let long = (floor - left) / slot;
     let begins = (0..rulers.len() as u64).map(|block| window.from + block * long);
     let axes: Vec<Axis> = begins.map(|begin| Axis { begin, end: (begin + long).min(window.to), left, slot }).collect();
@@ -199,7 +200,8 @@ fn marks(drawing: &Element, class: &str, axes: &[Axis]) -> Option<Places> {
 
 fn rings(drawing: &Element, axes: &[Axis]) -> Option<BTreeSet<u64>> {
     let groups = drawing.of_class("idle");
-    let in_blocks = groups.iter().zip(axes).flat_map(|(group, axis)| group.named("circle").into_iter().map(move |ring| (ring, axis)));
+    let in_blocks =
+        groups.iter().zip(axes).flat_map(|(group, axis)| group.named("circle").into_iter().map(move |ring| (ring, axis)));
     in_blocks.map(|(ring, axis)| axis.instant(ring.number("cx")?)).collect()
 }
 
@@ -221,6 +223,18 @@ impl Shown {
         };
         Some(shown).filter(|_| apart)
     }
+}
+
+/// No box goes on over a release: it is of one job.
+fn jobs_apart(drawing: &Element, axes: &[Axis], released: &Places) -> bool {
+    let apart = |group: &Element, axis: &Axis| {
+        group.elements().all(|shape| {
+            let mut one = Places::new();
+            add_box(&mut one, axis, shape).is_some() && one.iter().skip(1).all(|place| !released.contains(place))
+        })
+    };
+    let all = |class: bool| drawing.of_class("boxes").into_iter().filter(move |group| group.has_class("meant") == class);
+    [true, false].into_iter().all(|class| all(class).zip(axes).all(|(group, axis)| apart(group, axis)))
 }
 
 // What holds of every drawing.
@@ -252,22 +266,29 @@ fn is_whole(drawing: &Element) -> bool {
 
 /// In every block a row for each task: number, cost, deadline, period.
 fn labels_fit(drawing: &Element, tasks: &[Task]) -> bool {
-    let row = |(number, task): (usize, &Task)| [number as u32, task.cost, task.deadline, task.period].map(|number| number.to_string());
+    let row = |(number, task): (usize, &Task)| {
+        [number as u32, task.cost, task.deadline, task.period].map(|number| number.to_string())
+    };
     let rows: Vec<String> = tasks.iter().enumerate().flat_map(row).collect();
-    let labels = |group: &Element| group.elements().filter(|child| child.name == "text").map(|child| child.text()).collect::<Vec<_>>();
+    let labels = |group: &Element| {
+        group.elements().filter(|child| child.name == "text").map(|child| child.text()).collect::<Vec<_>>()
+    };
     drawing.of_class("labels").into_iter().all(|group| labels(group) == rows)
 }
 
 /// The part of the interval that a block has is shaded, under the sum.
 fn shades_fit(drawing: &Element, axes: &[Axis], late: &Option<Late>) -> bool {
     let mut shades = drawing.of_class("late").into_iter();
-    let part = |axis: &Axis| late.map(|late| (late.start.max(axis.begin), late.end.min(axis.end))).filter(|(from, to)| from < to);
+    let part =
+        |axis: &Axis| late.map(|late| (late.start.max(axis.begin), late.end.min(axis.end))).filter(|(from, to)| from < to);
     let sum = late.map_or(String::new(), |late| format!("asks for {}, has {}", late.demand, late.end - late.start));
     let fits = |(axis, (from, to)): (&Axis, (u64, u64))| {
         shades.next().map_or(false, |shade| {
             let shape = shade.named("rect")[0];
             let x = shape.number("x").unwrap_or(0);
-            shade.text().trim() == sum && axis.instant(x) == Some(from) && axis.instant(x + shape.number("width").unwrap_or(0)) == Some(to)
+            shade.text().trim() == sum
+                && axis.instant(x) == Some(from)
+                && axis.instant(x + shape.number("width").unwrap_or(0)) == Some(to)
         })
     };
     axes.iter().filter_map(|axis| part(axis).map(|part| (axis, part))).all(fits) && shades.next().is_none()
@@ -282,14 +303,16 @@ fn horizon_fits(drawing: &Element, tasks: &[Task], window: &Window) -> bool {
 
 /// The slots that a job closed late misses, as they are drawn from its deadline on.
 fn missed_from(shown: &Shown, task: usize, due: u64) -> u64 {
-    let drawn = |slot: &u64| shown.missed.contains(&(task, *slot)) && (*slot == due || !shown.closed.contains(&(task, *slot)));
+    let drawn =
+        |slot: &u64| shown.missed.contains(&(task, *slot)) && (*slot == due || !shown.closed.contains(&(task, *slot)));
     (due..).take_while(drawn).count() as u64
 }
 
 /// If all of the interval is drawn, its boxes and what its jobs miss add up to what it asks for.
 fn sum_fits(shown: &Shown, tasks: &[Task], late: &Option<Late>, window: &Window) -> bool {
     let longest = tasks.iter().map(|task| u64::from(task.cost)).max().unwrap_or(0);
-    let Some(late) = late.filter(|late| late.start >= window.from && late.end + longest <= window.to && !window.early) else {
+    let Some(late) = late.filter(|late| late.start >= window.from && late.end + longest <= window.to && !window.early)
+    else {
         return true;
     };
     let meant = |&&(task, due): &&(usize, u64)| due <= late.end && due >= late.start + u64::from(tasks[task].deadline);
@@ -317,6 +340,7 @@ fn drawing_fits(drawing: &Element, tasks: &[Task], budget: u64, window: &Window)
         && labels_fit(drawing, tasks)
         && shades_fit(drawing, &axes, &late)
         && horizon_fits(drawing, tasks, window)
+        && jobs_apart(drawing, &axes, &expected.released)
         && sum_fits(&expected, tasks, &late, window)
         && Shown::in_drawing(drawing, &axes).map_or(false, |shown| shown == expected)
 }
@@ -354,7 +378,11 @@ fn same_sanitized(words: &[&OsStr], output: &Output) -> bool {
 
 fn table_at(path: &Path) -> Result<(u64, Vec<Task>), reference::Refusal> {
     let bytes = std::fs::read(path).expect("a table");
-    let read = if bytes.first().map_or(true, |&first| first >= 9) { plain::read_text(&bytes) } else { reference::read_file(&bytes) };
+    let read = if bytes.first().map_or(true, |&first| first >= 9) {
+        plain::read_text(&bytes)
+    } else {
+        reference::read_file(&bytes)
+    };
     read.and_then(|(budget, tasks)| reference::judge(&tasks).map(|()| (budget, tasks)))
 }
 
@@ -415,7 +443,10 @@ fn bars_fit(page: &Element, tasks: &[Task], worst: &[u64]) -> bool {
 /// What every page has: texts alone, and the bytes of the table file.
 fn is_a_page(page: &Element, budget: u64, tasks: &[Task]) -> bool {
     let silent = page.all().iter().all(|element| !["script", "link", "img", "iframe"].contains(&element.name.as_str()));
-    silent && page.name == "html" && hex_of(page) == file_of(budget, tasks) && page.text().contains(&format!("The budget is {budget}."))
+    silent
+        && page.name == "html"
+        && hex_of(page) == file_of(budget, tasks)
+        && page.text().contains(&format!("The budget is {budget}."))
 }
 
 fn page_fits(page: &Element, tasks: &[Task], budget: u64) -> bool {
@@ -471,7 +502,9 @@ fn one_table(bench: &mut Bench, path: &Path) {
 
 pub fn of_tables(bench: &mut Bench) {
     for malformed in markup::MALFORMED {
-        bench.count(markup::read(format!("{XML}\n{malformed}\n").as_bytes(), XML).is_err(), || format!("read as XML: {malformed}"));
+        bench.count(markup::read(format!("{XML}\n{malformed}\n").as_bytes(), XML).is_err(), || {
+            format!("read as XML: {malformed}")
+        });
     }
     let entries = std::fs::read_dir("tables").expect("tables/").map(|entry| entry.expect("an entry").path());
     let mut paths: Vec<_> = entries.filter(|path| path.extension() != Some(OsStr::new("md"))).collect();
@@ -523,8 +556,12 @@ pub fn at_random(bench: &mut Bench, rng: &mut Rng) {
         let budget = budget_about(rng, &tasks);
         windowed(bench, rng, &tasks, budget);
         let text = plain::text_of(budget, &tasks);
-        bench.count(is_drawn(&asked(&["draw", "-"], &text), &tasks, budget), || format!("draw of {tasks:?} and budget {budget}"));
-        bench.count(is_paged(&asked(&["page", "-"], &text), &tasks, budget), || format!("page of {tasks:?} and budget {budget}"));
+        bench.count(is_drawn(&asked(&["draw", "-"], &text), &tasks, budget), || {
+            format!("draw of {tasks:?} and budget {budget}")
+        });
+        bench.count(is_paged(&asked(&["page", "-"], &text), &tasks, budget), || {
+            format!("page of {tasks:?} and budget {budget}")
+        });
     }
     bench.end_group("pictures and pages at random");
 }
@@ -551,9 +588,13 @@ fn shown_as(bench: &mut Bench, name: &[u8], shown: &str) {
     for (word, prologue) in [("draw", XML), ("page", HTML)] {
         let words = [OsStr::new(word), path.as_os_str()];
         let output = output_on(&words);
-        let titled = |root: &Element| root.named("title")[0].text() == format!("target/host/{shown}") && !root.text().contains("alert(2)");
-        let good = markup::read(&output.stdout, prologue).map_or(false, |root| titled(&root) && root.named("script").is_empty());
-        bench.count(good && output.status.code() == Some(0), || format!("{word} of a file named {shown}: {}", said(&output)));
+        let titled = |root: &Element| {
+            root.named("title")[0].text() == format!("target/host/{shown}") && !root.text().contains("alert(2)")
+        };
+        let good =
+            markup::read(&output.stdout, prologue).map_or(false, |root| titled(&root) && root.named("script").is_empty());
+        bench
+            .count(good && output.status.code() == Some(0), || format!("{word} of a file named {shown}: {}", said(&output)));
         bench.count(same_sanitized(&words, &output), || format!("{word} of a file named {shown} under sanitizers"));
     }
     std::fs::remove_file(&path).expect("it was there");
