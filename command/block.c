@@ -78,13 +78,13 @@ static void put_excess(const struct block *block)
         return;
     }
     unsigned left = x_of(block, from), right = x_of(block, to), top = block->top + CAPTIONS - 2, middle = (left + right) / 2;
-    unsigned least = LEFT + 80, most = WIDE - 90;
+    unsigned half = DIGIT * (unsigned)(15 + columns_for(excess->demand) + columns_for(excess->end - excess->start)) / 2;
     printf("<g class=\"late\"><rect x=\"%u\" y=\"%u\" width=\"%u\" height=\"%u\" fill=\"#e4e4e4\"/>\n", left, top, right - left,
            axis_of(block) - top);
     put_border(block, left, excess->start == from);
     put_border(block, right, excess->end == to);
     printf("<text x=\"%u\" y=\"%u\" text-anchor=\"middle\" font-weight=\"bold\">asks for %llu, has %llu</text></g>\n",
-           middle < least ? least : middle > most ? most : middle, top - 5, (unsigned long long)excess->demand,
+           middle < LEFT + half ? LEFT + half : middle > WIDE - half ? WIDE - half : middle, top - 5, (unsigned long long)excess->demand,
            (unsigned long long)(excess->end - excess->start));
 }
 

@@ -57,7 +57,7 @@ static void put_heading(const struct picture *picture)
         const char *shown = end_of_name(picture->name, &cut);
         printf("<text x=\"12\" y=\"22\" font-size=\"16\" font-weight=\"bold\">%s", cut ? "..." : "");
         put_text(shown);
-        printf("</text>\n<text x=\"12\" y=\"43\" font-size=\"14\">");
+        printf("</text>\n<text x=\"12\" y=\"43\">");
         put_text(picture->verdict.text);
         printf("</text>\n");
     }
