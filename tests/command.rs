@@ -91,7 +91,7 @@ pub fn asked(words: &[&str], input: &[u8]) -> Output {
     fed(command, input)
 }
 
-pub fn said(output: &Output) -> String {
+fn said(output: &Output) -> String {
     String::from_utf8_lossy(&output.stdout).to_string()
 }
 

@@ -2,7 +2,7 @@
 //! by the reference, and escapes what is anybody's. Sanitized, the command writes the same.
 
 use crate::bench::Bench;
-use crate::command::{asked, said, sanitized, status_of, COMMAND, SANITIZED};
+use crate::command::{asked, sanitized, status_of, COMMAND, SANITIZED};
 use crate::inputs::*;
 use crate::judge::fed;
 use crate::markup::{self, Element};
@@ -360,10 +360,8 @@ fn usual_window(tasks: &[Task], budget: u64) -> Window {
 
 // The tables of tables/.
 
-/// The words with which nothing else is said on standard output than a document.
 fn output_on(words: &[&OsStr]) -> Output {
-    let output = program(COMMAND).args(words).output().expect("the command starts");
-    output
+    program(COMMAND).args(words).output().expect("the command starts")
 }
 
 /// The sanitized command writes the same and ends the same.
@@ -495,7 +493,7 @@ fn one_table(bench: &mut Bench, path: &Path) {
             Ok((budget, tasks)) if word == "draw" => is_drawn(&output, tasks, *budget),
             Ok((budget, tasks)) => is_paged(&output, tasks, *budget),
         };
-        bench.count(good, || format!("{word} {path:?}: {}", said(&output)));
+        bench.count(good, || format!("{word} {path:?} ends with {}", output.status));
         bench.count(same_sanitized(&words, &output), || format!("{word} {path:?} under sanitizers"));
     }
 }
@@ -593,8 +591,9 @@ fn shown_as(bench: &mut Bench, name: &[u8], shown: &str) {
         };
         let good =
             markup::read(&output.stdout, prologue).map_or(false, |root| titled(&root) && root.named("script").is_empty());
-        bench
-            .count(good && output.status.code() == Some(0), || format!("{word} of a file named {shown}: {}", said(&output)));
+        bench.count(good && output.status.code() == Some(0), || {
+            format!("{word} of a file named {shown} ends with {}", output.status)
+        });
         bench.count(same_sanitized(&words, &output), || format!("{word} of a file named {shown} under sanitizers"));
     }
     std::fs::remove_file(&path).expect("it was there");
