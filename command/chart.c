@@ -7,16 +7,13 @@
 #include "command.h"
 
 enum { USUAL_COLUMNS = 80, LEAST_COLUMNS = 20, MOST_COLUMNS = 1000, LABEL_COLUMNS = 8 };
-enum { LEAST_USUAL = 35, MOST_USUAL = 120, RULER_STEP = 5 };
+enum { MOST_USUAL = 120, RULER_STEP = 5 };
 
 struct chart {
-    const struct table *table;
-    unsigned tasks;
+    struct course course;
     unsigned long slots;
-    unsigned wide; /* slots of a block */
-    int early;
-    uint32_t done;
-    struct yolizadwa_state state, ended; /* ended: after the last slot */
+    unsigned wide;                /* slots of a block */
+    struct yolizadwa_state ended; /* after the last slot */
     char rows[YOLIZADWA_TASKS][MOST_COLUMNS]; /* of each slot the instant before it, then the slot */
     struct job late[JOBS_SHOWN];
     unsigned long late_jobs;
@@ -40,13 +37,6 @@ static unsigned slots_of_a_block(void)
     return (columns() - LABEL_COLUMNS - 1) / 2 / RULER_STEP * RULER_STEP;
 }
 
-/* The horizon, within what is good to look at. */
-static unsigned long usual_slots(const struct table *table)
-{
-    uint64_t horizon = horizon_of(table);
-    return horizon < LEAST_USUAL ? LEAST_USUAL : horizon > MOST_USUAL ? MOST_USUAL : (unsigned long)horizon;
-}
-
 /* Whether instants that come every period from the first on fall on this one. */
 static int falls_on(uint64_t instant, uint64_t first, uint64_t period)
 {
@@ -62,44 +52,31 @@ static char mark_of(const struct task *task, uint64_t instant, int late)
 
 static void note_late(struct chart *chart, unsigned number, uint64_t instant, uint32_t missing)
 {
-    struct task task = task_at(chart->table, number);
+    const struct task *task = &chart->course.task[number];
     if (chart->late_jobs < JOBS_SHOWN) {
         struct job *job = &chart->late[chart->late_jobs];
         job->task = number;
         job->due = instant;
-        job->release = instant - task.deadline;
-        job->number = (job->release - task.offset) / task.period;
+        job->release = instant - task->deadline;
+        job->number = (job->release - task->offset) / task->period;
         job->amount = missing;
     }
     chart->late_jobs++;
 }
 
-/* With --early a job says done after half its cost. */
-static uint32_t says_done(const struct chart *chart, uint64_t owner)
-{
-    if (!chart->early || owner >= chart->tasks) {
-        return 0;
-    }
-    struct task task = task_at(chart->table, (unsigned)owner);
-    return task.cost - chart->state.left[owner] >= (task.cost + 1) / 2;
-}
-
 /* One step, drawn at a column. What was left before it is what a job that it closes late had missing. */
 static void draw_slot(struct chart *chart, uint64_t instant, unsigned column)
 {
-    struct yolizadwa_state before = chart->state, *now = &chart->state;
-    uint64_t owner =
-        yolizadwa_step(chart->table->file, chart->table->len, (uint8_t *)now, sizeof *now, chart->done);
-    for (unsigned number = 0; number < chart->tasks; number++) {
-        struct task task = task_at(chart->table, number);
-        int late = now->late >> number & 1;
-        chart->rows[number][column] = mark_of(&task, instant, late);
-        chart->rows[number][column + 1] = owner == number ? '#' : now->left[number] > 0 ? '.' : ' ';
+    struct course *course = &chart->course;
+    uint64_t owner = take_slot(course);
+    for (unsigned number = 0; number < course->tasks; number++) {
+        int late = course->state.late >> number & 1;
+        chart->rows[number][column] = mark_of(&course->task[number], instant, late);
+        chart->rows[number][column + 1] = owner == number ? '#' : course->state.left[number] > 0 ? '.' : ' ';
         if (late) {
-            note_late(chart, number, instant, before.left[number]);
+            note_late(chart, number, instant, course->before.left[number]);
         }
     }
-    chart->done = says_done(chart, owner);
 }
 
 /* What a camera writes of the slot just drawn; the report behind it is what the next step is told. */
@@ -109,12 +86,12 @@ static void log_slot(struct chart *chart)
         return;
     }
     uint8_t *next = chart->log + chart->log_len;
-    int empty = chart->state.last == YOLIZADWA_TASKS;
+    int empty = chart->course.state.last == YOLIZADWA_TASKS;
     *next++ = empty ? YOLIZADWA_LOG_EMPTY : YOLIZADWA_LOG_SLOT;
     if (!empty) {
-        *next++ = (uint8_t)chart->state.last;
+        *next++ = (uint8_t)chart->course.state.last;
     }
-    if (chart->done) {
+    if (chart->course.done) {
         *next++ = YOLIZADWA_LOG_DONE;
     }
     chart->log_len = (size_t)(next - chart->log);
@@ -143,7 +120,7 @@ static void print_block(struct chart *chart, unsigned long begin, unsigned long 
         putchar('\n');
     }
     print_ruler(begin, end);
-    for (unsigned number = 0; number < chart->tasks; number++) {
+    for (unsigned number = 0; number < chart->course.tasks; number++) {
         print_row(number, chart->rows[number], length);
     }
 }
@@ -158,7 +135,7 @@ static void draw_block(struct chart *chart, unsigned long begin)
     }
     /* The instant after the last slot of all is shown too; what follows it is not. */
     if (left == slots) {
-        chart->ended = chart->state;
+        chart->ended = chart->course.state;
         draw_slot(chart, chart->slots, 2 * slots);
     }
     print_block(chart, begin, begin + slots, 2 * slots + (left == slots));
@@ -195,14 +172,14 @@ static void print_accounts(const struct chart *chart)
     char whose[12];
     int wide = columns_for(chart->slots) > 5 ? columns_for(chart->slots) : 5;
     printf("\nwho had the slots, %lu in all:\n   task  %*s    share\n", chart->slots, wide, "slots");
-    for (unsigned number = 0; number < chart->tasks; number++) {
+    for (unsigned number = 0; number < chart->course.tasks; number++) {
         snprintf(whose, sizeof whose, "%u", number);
         print_share(whose, chart->ended.given[number], chart->slots, wide);
     }
     print_share("empty", chart->ended.empty, chart->slots, wide);
 }
 
-static void draw(struct chart *chart)
+static void draw_chart(struct chart *chart)
 {
     for (unsigned long begin = 0; begin < chart->slots && !ferror(stdout); begin += chart->wide) {
         draw_block(chart, begin);
@@ -239,17 +216,14 @@ int run(const struct request *request)
     if (status != DONE) {
         return status;
     }
-    chart.table = &table;
-    chart.tasks = task_count(&table);
-    chart.slots = request->slots > 0 ? request->slots : usual_slots(&table);
+    begin_course(&chart.course, &table, request->early);
+    chart.slots = request->slots > 0 ? request->slots : usual_slots(&table, MOST_USUAL);
     chart.wide = slots_of_a_block();
-    chart.early = request->early;
-    yolizadwa_start(table.file, table.len, (uint8_t *)&chart.state, sizeof chart.state);
     status = begin_log(&chart, request->log);
     if (status != DONE) {
         return status;
     }
-    draw(&chart);
+    draw_chart(&chart);
     status = end_log(&chart, request->log);
     return status != DONE ? status : chart.late_jobs > 0 ? LATE : DONE;
 }

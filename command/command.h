@@ -8,13 +8,15 @@
 
 #include "yolizadwa.h"
 
+#define PROGRAM "yolizadwa 0.2"
+
 /* docs/COMMAND.md promises these numbers. */
 enum status { DONE = 0, TROUBLE = 1, REFUSED = 2, LATE = 3, UNDECIDED = 4 };
 
 /* No text begins with a lower byte: the lowest that a text may begin with is a tab. */
 enum { FIRST_OF_A_TEXT = 9 };
 
-enum { MOST_INPUT = 1 << 24, MOST_SLOTS = 1000000, JOBS_SHOWN = 100 };
+enum { MOST_INPUT = 1 << 24, MOST_SLOTS = 1000000, LEAST_USUAL = 35, JOBS_SHOWN = 100 };
 
 /* What one call of the command asks for; its word says which of these count. */
 struct request {
@@ -24,6 +26,8 @@ struct request {
     int early;
     int plainly;
     unsigned long slots; /* 0: as many as is usual */
+    int from_told;       /* else, without to, a window of the command's own choice */
+    unsigned long from, to; /* to 0: not told */
     int one_task;        /* else of every task */
     uint32_t task;
 };
@@ -56,6 +60,7 @@ struct report {
 /* Files: each says what went wrong on standard error and then tells TROUBLE. */
 void keep_standard_files_apart(void);
 int trouble(const char *format, ...);
+const char *shown_name(const char *name);
 int read_input(const char *name, struct input *input);
 int write_output(const char *name, const uint8_t *bytes, size_t len);
 int write_log(const char *name, const uint8_t *bytes, size_t len);
@@ -85,6 +90,20 @@ void check_table(const struct table *table, int plainly, struct report *report);
 uint64_t report_number(const struct report *report, const char *words);
 int report_verdict(const struct report *report, const char *verdict);
 uint64_t horizon_of(const struct table *table);
+unsigned long usual_slots(const struct table *table, unsigned long most);
+
+/* Of a late verdict the interval that asks for more slots than it has; tells whether there is one. */
+struct excess {
+    uint64_t start, end, demand;
+};
+int report_excess(const struct report *report, struct excess *excess);
+
+/* What a verdict means, and the status that goes with it. */
+struct sentence {
+    char text[256];
+};
+void word_verdict(const struct table *table, const struct report *report, struct sentence *sentence);
+int verdict_status(const struct report *report);
 
 /* A row of jobs, under a heading whose last column is what the caller makes it; times need so many columns. */
 struct job {
@@ -94,6 +113,30 @@ struct job {
 int columns_for(uint64_t largest);
 void print_jobs_heading(const char *amount, int columns);
 void print_job(const struct job *job, int columns);
+
+/* The jobs of a late interval; nothing of another verdict. */
+void list_excess(const struct table *table, const struct report *report, int all);
+
+/* Answers, which may take long, and what they mean: the answer itself, an empty line, and the meaning. */
+const char *quick_words(uint64_t answer);
+uint64_t ask_distance(const struct table *table);
+const char *distance_words(const struct table *table, uint64_t answer);
+int distance_status(uint64_t answer);
+uint64_t ask_largest(const struct table *table, uint32_t first, unsigned rows, uint64_t *told);
+
+/* A run, slot by slot: so many slots taken, and the states before and after the last of them. */
+struct course {
+    const struct table *table;
+    unsigned tasks;
+    struct task task[YOLIZADWA_TASKS];
+    int early;
+    uint32_t done; /* what the next step is told */
+    uint64_t slots;
+    struct yolizadwa_state before, state;
+};
+void begin_course(struct course *course, const struct table *table, int early);
+uint64_t take_slot(struct course *course);
+int is_idle(const struct course *course);
 
 /* The words of the command. */
 int judge(const struct request *request);
@@ -105,6 +148,8 @@ int make(const struct request *request);
 int show(const struct request *request);
 int run(const struct request *request);
 int judge_log(const struct request *request);
+int draw(const struct request *request);
+int page(const struct request *request);
 
 /* Around what may take long: so many checks by the table's budget, and so many walks to an idle instant. */
 void begin_progress(const struct table *table, unsigned checks, unsigned walks, int plainly);

@@ -1,43 +1,51 @@
 /* The word distance: the library's answer from the smallest distances of the tasks, and what it means, for tasks and for buttons. */
 #include "command.h"
 
-static int say_overload(int buttons)
+static const char *overload_words(int buttons)
 {
-    if (buttons) {
-        printf("distance overload\n\noverload: with every button pressed as often as it may be, more slots are asked for than there are, so\n"
-               "some jobs are late sooner or later\n");
-    } else {
-        printf("distance overload\n\noverload: more slots are asked for than there are, so some jobs are late sooner or later\n");
-    }
-    return LATE;
+    return buttons ? "distance overload\n\noverload: with every button pressed as often as it may be, more slots are asked for than there "
+                     "are, so\nsome jobs are late sooner or later\n"
+                   : "distance overload\n\noverload: more slots are asked for than there are, so some jobs are late sooner or later\n";
 }
 
-static int say_pass(int buttons)
+static const char *pass_words(int buttons)
 {
-    if (buttons) {
-        printf("distance pass\n\npass: whenever the buttons are pressed, each at least its spacing apart, the slots can be given out so that\n"
-               "every job is in time\n");
-    } else {
-        printf("distance pass\n\npass: every job is in time\n");
-    }
-    return DONE;
+    return buttons ? "distance pass\n\npass: whenever the buttons are pressed, each at least its spacing apart, the slots can be given out so "
+                     "that\nevery job is in time\n"
+                   : "distance pass\n\npass: every job is in time\n";
 }
 
 /* Buttons alone may come all at once, so of these it is known what becomes of them. */
-static int say_none(int buttons, int tasks)
+static const char *none_words(int buttons, int tasks)
 {
-    printf("distance none\n\n");
     if (!buttons) {
-        printf("no answer: if all tasks came as close behind one of them as each does by itself, a job would be late; they\n"
-               "may never do so all at once, and the table may pass or be late: judge tells\n");
-    } else if (tasks) {
-        printf("no answer: if all tasks came as close behind one of them as each does by itself, and all buttons with it, a job\n"
-               "would be late; they may never do so all at once, and no other test is for tables with buttons\n");
-    } else {
-        printf("none: if all buttons are pressed at once, and again as soon as they may be, a job is late; of buttons alone the\n"
-               "test is exact\n");
+        return "distance none\n\nno answer: if all tasks came as close behind one of them as each does by itself, a job would be late; "
+               "they\nmay never do so all at once, and the table may pass or be late: judge tells\n";
     }
-    return UNDECIDED;
+    return tasks ? "distance none\n\nno answer: if all tasks came as close behind one of them as each does by itself, and all buttons with it, "
+                   "a job\nwould be late; they may never do so all at once, and no other test is for tables with buttons\n"
+                 : "distance none\n\nnone: if all buttons are pressed at once, and again as soon as they may be, a job is late; of buttons "
+                   "alone the\ntest is exact\n";
+}
+
+uint64_t ask_distance(const struct table *table)
+{
+    unsigned tasks = task_count(table) - button_count(table);
+    begin_progress(table, 0, tasks > 0 ? tasks : 1, 0);
+    uint64_t answer = yolizadwa_distance(table->file, table->len);
+    end_progress();
+    return answer;
+}
+
+const char *distance_words(const struct table *table, uint64_t answer)
+{
+    unsigned buttons = button_count(table), tasks = task_count(table) - buttons;
+    return answer == 2 ? overload_words(buttons > 0) : answer == 1 ? pass_words(buttons > 0) : none_words(buttons > 0, tasks > 0);
+}
+
+int distance_status(uint64_t answer)
+{
+    return answer == 2 ? LATE : answer == 1 ? DONE : UNDECIDED;
 }
 
 int distance(const struct request *request)
@@ -47,9 +55,7 @@ int distance(const struct request *request)
     if (status != DONE) {
         return status;
     }
-    unsigned buttons = button_count(&table), tasks = task_count(&table) - buttons;
-    begin_progress(&table, 0, tasks > 0 ? tasks : 1, 0);
-    uint64_t answer = yolizadwa_distance(table.file, table.len);
-    end_progress();
-    return answer == 2 ? say_overload(buttons > 0) : answer == 1 ? say_pass(buttons > 0) : say_none(buttons > 0, tasks > 0);
+    uint64_t answer = ask_distance(&table);
+    fputs(distance_words(&table, answer), stdout);
+    return distance_status(answer);
 }

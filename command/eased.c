@@ -156,7 +156,7 @@ static int open_one(const char *name, const char *which, struct table *table)
 {
     int status = open_periodic(name, stdout, "eased", table);
     if (status == REFUSED) {
-        printf("that is the %s table, %s\n", which, strcmp(name, "-") == 0 ? "standard input" : name);
+        printf("that is the %s table, %s\n", which, shown_name(name));
     }
     return status;
 }

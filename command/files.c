@@ -36,6 +36,11 @@ void keep_standard_files_apart(void)
     }
 }
 
+const char *shown_name(const char *name)
+{
+    return strcmp(name, "-") == 0 ? "standard input" : name;
+}
+
 static int read_all(FILE *in, struct input *input)
 {
     uint8_t *bytes = malloc((size_t)MOST_INPUT + 1);
@@ -62,7 +67,7 @@ int read_input(const char *name, struct input *input)
     int standard = strcmp(name, "-") == 0;
     FILE *in = standard ? stdin : fopen(name, "rb");
     input->given = name;
-    input->name = standard ? "standard input" : name;
+    input->name = shown_name(name);
     input->bytes = NULL;
     input->len = 0;
     if (in == NULL) {

@@ -103,55 +103,27 @@ static void list_jobs(struct interval *interval, int all)
     }
 }
 
-static void explain_late(const struct table *table, const struct report *report, int all)
+void list_excess(const struct table *table, const struct report *report, int all)
 {
+    struct excess excess;
     struct interval interval;
-    unsigned long long start = 0, end = 0, demand = 0;
-    const char *line = strstr(report->text, "\ninterval ");
-    if (line == NULL || sscanf(line, "\ninterval %llu %llu demand %llu", &start, &end, &demand) != 3) {
-        return;
-    }
-    printf("\nlate: the jobs released at %llu or later and due by %llu ask for %llu slots and have %llu:\n", start, end, demand,
-           end - start);
-    interval.table = table;
-    interval.start = start;
-    interval.end = end;
-    list_jobs(&interval, all);
-}
-
-static void explain_overload(const struct report *report)
-{
-    unsigned long long asked = 0, round = 0;
-    const char *line = strstr(report->text, "\nload ");
-    if (line != NULL && sscanf(line, "\nload %llu/%llu", &asked, &round) == 2) {
-        printf("\noverload: the jobs ask for %llu slots in every %llu, so some are late sooner or later\n", asked, round);
+    if (report_excess(report, &excess)) {
+        interval.table = table;
+        interval.start = excess.start;
+        interval.end = excess.end;
+        list_jobs(&interval, all);
     }
 }
 
-static void explain_undecided(const struct table *table, const struct report *report)
+static void explain(const struct table *table, const struct report *report, int all)
 {
-    printf("\nundecided: the budget, %llu, ended before the answer was known; the horizon, %llu, is always enough\n",
-           (unsigned long long)budget_of(table), (unsigned long long)report_number(report, "\nhorizon "));
-    if (strstr(report->text, "\nquick pass\n") != NULL) {
+    struct sentence sentence;
+    word_verdict(table, report, &sentence);
+    printf("\n%s%s\n", sentence.text, report_verdict(report, "late") ? ":" : "");
+    if (report_verdict(report, "undecided") && strstr(report->text, "\nquick pass\n") != NULL) {
         printf("and will give passes, as quick pass says\n");
     }
-}
-
-static int explain(const struct table *table, const struct report *report, int all)
-{
-    if (report_verdict(report, "passes")) {
-        return DONE;
-    }
-    if (report_verdict(report, "undecided")) {
-        explain_undecided(table, report);
-        return UNDECIDED;
-    }
-    if (report_verdict(report, "overload")) {
-        explain_overload(report);
-    } else {
-        explain_late(table, report, all);
-    }
-    return LATE;
+    list_excess(table, report, all);
 }
 
 int judge(const struct request *request)
@@ -166,5 +138,9 @@ int judge(const struct request *request)
     check_table(&table, request->plainly, &report);
     end_progress();
     fputs(report.text, stdout);
-    return explain(&table, &report, request->all);
+    status = verdict_status(&report);
+    if (status != DONE) {
+        explain(&table, &report, request->all);
+    }
+    return status;
 }

@@ -17,7 +17,7 @@ static void print_row(const struct table *table, unsigned number, uint64_t large
 }
 
 /* One call a task. An answer that is no cost is the same for every task of the table, so the first such one is enough. */
-static uint64_t ask(const struct table *table, uint32_t first, unsigned rows, uint64_t *told)
+uint64_t ask_largest(const struct table *table, uint32_t first, unsigned rows, uint64_t *told)
 {
     uint64_t answer = 0;
     begin_progress(table, TESTS * rows, 0, 0);
@@ -55,7 +55,7 @@ int largest(const struct request *request)
     }
     uint32_t first = request->one_task ? request->task : 0;
     unsigned rows = request->one_task ? 1 : task_count(&table);
-    uint64_t answer = ask(&table, first, rows, told);
+    uint64_t answer = ask_largest(&table, first, rows, told);
     if (yolizadwa_refused(answer)) {
         return say_no_task(stdout, &table, first, answer);
     }

@@ -49,7 +49,7 @@ static int read_log(const char *name, struct judging *judging)
     if (in == NULL) {
         return trouble("cannot read %s: %s", name, strerror(errno));
     }
-    int status = feed_all(in, standard ? "standard input" : name, judging);
+    int status = feed_all(in, shown_name(name), judging);
     if (!standard) {
         fclose(in);
     }

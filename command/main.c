@@ -14,7 +14,7 @@
 #define KIT "an unknown kit"
 #endif
 
-#define VERSION "yolizadwa 0.2\nbuilt with " KIT "\n"
+#define VERSION PROGRAM "\nbuilt with " KIT "\n"
 
 struct word {
     const char *name;
@@ -32,6 +32,8 @@ static const struct word words[] = {
     {"eased", "eased OLD NEW", 2, 0, {NULL, NULL, NULL}, eased},
     {"largest", "largest FILE [TASK]", 1, 1, {NULL, NULL, NULL}, largest},
     {"run", "run FILE [--slots N] [--early] [--log LOG]", 1, 0, {"--slots", "--early", "--log"}, run},
+    {"draw", "draw FILE [--from A] [--to B] [--early]", 1, 0, {"--from", "--to", "--early"}, draw},
+    {"page", "page FILE", 1, 0, {NULL, NULL, NULL}, page},
     {"log", "log TABLE LOG", 2, 0, {NULL, NULL, NULL}, judge_log},
     {"show", "show FILE", 1, 0, {NULL, NULL, NULL}, show},
     {"make", "make TEXT FILE", 2, 0, {NULL, NULL, NULL}, make},
@@ -84,11 +86,32 @@ static int take_log(const struct word *word, const char *name, struct request *r
     return 2;
 }
 
+/* An option with a number of slots or an instant, and where that goes. */
+static int take_count(const struct word *word, char **arguments, uint64_t least, uint64_t most, unsigned long *place)
+{
+    char needs[64];
+    uint64_t count;
+    if (arguments[1] == NULL || !read_number(arguments[1], least, most, &count)) {
+        snprintf(needs, sizeof needs, " needs a number from %u to %u", (unsigned)least, (unsigned)most);
+        misuse(word, arguments[0], needs);
+        return 0;
+    }
+    *place = (unsigned long)count;
+    return 2;
+}
+
+static int take_switch(const char *option, struct request *request)
+{
+    request->all |= strcmp(option, "--all") == 0;
+    request->early |= strcmp(option, "--early") == 0;
+    request->plainly |= strcmp(option, "--plainly") == 0;
+    return 1;
+}
+
 /* Tells how many arguments the option is, or 0 if it cannot be taken. */
 static int take_option(const struct word *word, char **arguments, struct request *request)
 {
     const char *option = arguments[0];
-    uint64_t slots;
     if (!takes(word, option)) {
         misuse(word, "there is no such option here: ", option);
         return 0;
@@ -96,18 +119,17 @@ static int take_option(const struct word *word, char **arguments, struct request
     if (strcmp(option, "--log") == 0) {
         return take_log(word, arguments[1], request);
     }
-    if (strcmp(option, "--slots") != 0) {
-        request->all |= strcmp(option, "--all") == 0;
-        request->early |= strcmp(option, "--early") == 0;
-        request->plainly |= strcmp(option, "--plainly") == 0;
-        return 1;
+    if (strcmp(option, "--slots") == 0) {
+        return take_count(word, arguments, 1, MOST_SLOTS, &request->slots);
     }
-    if (arguments[1] == NULL || !read_number(arguments[1], 1, MOST_SLOTS, &slots)) {
-        misuse(word, "--slots needs a number from 1 to 1000000", "");
-        return 0;
+    if (strcmp(option, "--to") == 0) {
+        return take_count(word, arguments, 1, MOST_SLOTS, &request->to);
     }
-    request->slots = (unsigned long)slots;
-    return 2;
+    if (strcmp(option, "--from") == 0) {
+        request->from_told = 1;
+        return take_count(word, arguments, 0, MOST_SLOTS - 1, &request->from);
+    }
+    return take_switch(option, request);
 }
 
 /* Any number that the library takes: it says whether the table has such a task. */
@@ -147,7 +169,7 @@ static int take(const struct word *word, char **arguments, struct request *reque
 
 static int do_word(const struct word *word, char **arguments)
 {
-    struct request request = {{NULL, NULL}, NULL, 0, 0, 0, 0, 0, 0};
+    struct request request = {{NULL, NULL}, NULL, 0, 0, 0, 0, 0, 0, 0, 0, 0};
     int files = 0;
     while (*arguments != NULL) {
         if (strcmp(*arguments, "--help") == 0) {
@@ -171,7 +193,7 @@ static int help(const char *word)
     if (print_page(stdout, word)) {
         return DONE;
     }
-    return trouble("no help for %s; there is help for judge, quick, distance, eased, largest, run, log, show, make and text", word);
+    return trouble("no help for %s; there is help for judge, quick, distance, eased, largest, run, draw, page, log, show, make and text", word);
 }
 
 static int version(void)
@@ -202,7 +224,7 @@ static int obey(char **arguments)
     if (strcmp(first, "--version") == 0) {
         return arguments[1] != NULL ? too_many(arguments[1]) : version();
     }
-    return trouble("%s is none of judge, quick, distance, eased, largest, run, log, show, make, help; to judge a table: yolizadwa judge FILE", first);
+    return trouble("%s is none of judge, quick, distance, eased, largest, run, draw, page, log, show, make, help; to judge a table: yolizadwa judge FILE", first);
 }
 
 int main(int argc, char **argv)

@@ -19,6 +19,9 @@ static const char usage[] =
     "  yolizadwa largest FILE [TASK]              how far a cost may grow\n"
     "  yolizadwa run FILE [--slots N] [--early] [--log LOG]\n"
     "                                             a chart of who has each slot\n"
+    "  yolizadwa draw FILE [--from A] [--to B] [--early]\n"
+    "                                             the run as a picture, in SVG\n"
+    "  yolizadwa page FILE                        all of it on a page, in HTML\n"
     "  yolizadwa log TABLE LOG                    whether a camera's log is the table's\n"
     "  yolizadwa show FILE                        the table as plain text\n"
     "  yolizadwa make TEXT FILE                   the table file of a text\n"
@@ -138,6 +141,40 @@ static const char page_run[] =
     "\n"
     "Ends with 0 if no job was closed late, 3 if one was, 2 if the table is refused.\n";
 
+static const char page_draw[] =
+    "yolizadwa draw FILE [--from A] [--to B] [--early] > run.svg\n"
+    "\n"
+    "Writes the run as a drawing, in SVG, which every browser shows and prints: a\n"
+    "lane for each task, with its number, cost, deadline and period at the left.\n"
+    "\n"
+    "  box           slots that the task has; dots before it: its job waits\n"
+    "  arrow up      a job is released; arrow down: one is due\n"
+    "  red, crossed  a job is late: from its deadline on, as long as what it misses\n"
+    "  ring          on the axis: an idle instant, all earlier jobs are over\n"
+    "\n"
+    "The horizon is a dotted line. If the table is late, its interval is shaded, with\n"
+    "the sum above it, and the boxes of its jobs are hatched. A is the first slot and\n"
+    "B the instant after the last one: at most 2,000 slots, up to 1,000,000. Without\n"
+    "them it shows the late interval and some slots around it, or the first slots,\n"
+    "at most 200; without A it begins at 0, without B it has 200 slots. With --early\n"
+    "every job ends after half its cost. A table with a button is refused.\n"
+    "\n"
+    "Ends as judge does: 0 if the table passes, 2 if it is refused, 3 if it is late\n"
+    "or overloaded, 4 if its budget ends before the answer is known.\n";
+
+static const char page_page[] =
+    "yolizadwa page FILE > table.html\n"
+    "\n"
+    "Writes a page to hand over, in HTML, one file that prints on A4: the verdict in\n"
+    "a sentence, the table, of each task the worst response against its deadline and\n"
+    "how many slots more it may take, the run as draw draws it, the report, the jobs\n"
+    "of a late interval, the quick and the distance answer, what was proved and what\n"
+    "is assumed, and the bytes of the table file. It takes as long as judge, largest\n"
+    "and distance together. Of a table with a button the page has the table, the\n"
+    "distance answer and the bytes.\n"
+    "\n"
+    "Ends as judge does, and of a table with a button as distance does.\n";
+
 static const char page_log[] =
     "yolizadwa log TABLE LOG\n"
     "\n"
@@ -199,7 +236,8 @@ static const char page_text[] =
 
 static const struct page pages[] = {
     {"judge", page_judge}, {"quick", page_quick}, {"distance", page_distance}, {"eased", page_eased}, {"largest", page_largest},
-    {"run", page_run},     {"log", page_log},     {"show", page_show},   {"make", page_make},         {"text", page_text},   {"help", usage},
+    {"run", page_run},     {"draw", page_draw},   {"page", page_page},         {"log", page_log},     {"show", page_show},
+    {"make", page_make},   {"text", page_text},   {"help", usage},
 };
 
 int print_page(FILE *to, const char *word)

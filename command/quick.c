@@ -1,6 +1,13 @@
 /* The word quick: the library's answer with all offsets 0, and what it means for the table. */
 #include "command.h"
 
+const char *quick_words(uint64_t answer)
+{
+    return answer == 1 ? "quick pass\n\npass: every job is in time, with these offsets and with any others\n"
+                       : "quick none\n\nno answer: with all offsets 0 a job is late, or more slots are asked for than there are; judge looks "
+                         "at the\noffsets too\n";
+}
+
 int quick(const struct request *request)
 {
     struct table table;
@@ -11,11 +18,6 @@ int quick(const struct request *request)
     begin_progress(&table, 0, 1, 0);
     uint64_t answer = yolizadwa_quick(table.file, table.len);
     end_progress();
-    if (answer == 1) {
-        printf("quick pass\n\npass: every job is in time, with these offsets and with any others\n");
-        return DONE;
-    }
-    printf("quick none\n\nno answer: with all offsets 0 a job is late, or more slots are asked for than there are; judge looks at the\n"
-           "offsets too\n");
-    return UNDECIDED;
+    fputs(quick_words(answer), stdout);
+    return answer == 1 ? DONE : UNDECIDED;
 }

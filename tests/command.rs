@@ -11,8 +11,8 @@ use crate::reference::{self, Late, State, Task, Verdict, NONE, OVERLOAD, UNDECID
 use std::path::Path;
 use std::process::{Command, Output, Stdio};
 
-const COMMAND: &str = "target/host/yolizadwa";
-const SANITIZED: &str = "target/host/yolizadwa-sanitized";
+pub const COMMAND: &str = "target/host/yolizadwa";
+pub const SANITIZED: &str = "target/host/yolizadwa-sanitized";
 const STORED: &str = "command/expected";
 const TABLES: u64 = 60;
 const PRESSED: u64 = 20;
@@ -25,7 +25,7 @@ const BLOCK: usize = 35;
 // The transcript: its lines after `$ ` are run by a shell, and all that they say must be what stands there.
 
 /// Leaks are not looked for: a process that ends has none, and the search takes seconds on some machines.
-fn sanitized(command: &mut Command) -> &mut Command {
+pub fn sanitized(command: &mut Command) -> &mut Command {
     command.env("BRIDGE", "target/host/bridge").env("ASAN_OPTIONS", "detect_leaks=0")
 }
 
@@ -85,7 +85,7 @@ pub fn launched(bench: &mut Bench) {
 
 // Random tables.
 
-fn asked(words: &[&str], input: &[u8]) -> Output {
+pub fn asked(words: &[&str], input: &[u8]) -> Output {
     let mut command = program(COMMAND);
     command.args(words).env_remove("COLUMNS");
     fed(command, input)
@@ -134,7 +134,7 @@ fn jobs_of(tasks: &[Task], late: &Late) -> Vec<Vec<u64>> {
     jobs
 }
 
-fn status_of(verdict: &Verdict) -> i32 {
+pub fn status_of(verdict: &Verdict) -> i32 {
     match verdict {
         Verdict::Passes(..) => 0,
         Verdict::Overload | Verdict::Late(_) => 3,
@@ -276,11 +276,12 @@ fn has_a_button(bench: &mut Bench, tasks: &[Task], text: &str, places: &[usize],
         &["largest", "-"],
         &["largest", "-", "99"],
         &["run", "-"],
+        &["draw", "-"],
         &["eased", "-", "tables/b.txt"],
     ] {
         for (input, shown) in [(text.as_bytes(), true), (file, false)] {
             let output = asked(words, input);
-            let told = if words[0] == "run" { String::from_utf8_lossy(&output.stderr).to_string() } else { said(&output) };
+            let told = if ["run", "draw"].contains(&words[0]) { String::from_utf8_lossy(&output.stderr).to_string() } else { said(&output) };
             let good = told.starts_with(&begins)
                 && told.contains(&line) == shown
                 && told.contains("\nthe test for it is: yolizadwa distance -\n");
@@ -482,7 +483,7 @@ pub fn junk_under_sanitizers(bench: &mut Bench, rng: &mut Rng) {
     }
     for input in (0..JUNK).map(|_| junk(rng)).collect::<Vec<_>>().into_iter().filter(|input| affordable(input)) {
         let mut command = Command::new(SANITIZED);
-        sanitized(&mut command).args([rng.pick(&["judge", "show", "run", "largest", "distance"]), "-"]);
+        sanitized(&mut command).args([rng.pick(&["judge", "show", "run", "largest", "distance", "draw", "page"]), "-"]);
         let output = fed(command, &input);
         let quiet = !String::from_utf8_lossy(&output.stderr).contains("anitizer");
         let known = output.status.code().map_or(false, |code| [0, 2, 3, 4].contains(&code));

@@ -15,7 +15,9 @@ mod judge;
 mod largest;
 mod logbook;
 mod logs;
+mod markup;
 mod papers;
+mod pictures;
 mod plain;
 mod randoms;
 mod reference;
@@ -117,6 +119,10 @@ fn what_is_shipped(bench: &mut Bench, rng: &mut Rng) {
     command::launched(bench);
     command::at_random(bench, rng);
     command::junk_under_sanitizers(bench, rng);
+    pictures::of_tables(bench);
+    pictures::in_docs(bench);
+    pictures::at_random(bench, rng);
+    pictures::of_anybody(bench);
 }
 
 fn main() -> ExitCode {

@@ -1,0 +1,144 @@
+/* The lanes of a block: boxes, waits, what was missed, and the arrows of releases and deadlines. */
+#include "block.h"
+
+static unsigned box_height(const struct block *block)
+{
+    return block->lane * 4 / 9;
+}
+
+static uint8_t signs_at(const struct block *block, unsigned number, unsigned long instant)
+{
+    return block->picture->lanes[number].signs[instant - block->picture->from];
+}
+
+/* What a layer draws: stretches of slots with these of the signs that it looks at, each up to where one of the breaks stands. */
+struct layer {
+    const char *group;
+    uint8_t looks, signs, breaks;
+    void (*put)(const struct block *block, unsigned number, unsigned long from, unsigned long to);
+};
+
+static unsigned long stretch_end(const struct block *block, unsigned number, unsigned long from, const struct layer *layer)
+{
+    unsigned long to = from + 1;
+    while (to < block->end && (signs_at(block, number, to) & layer->looks) == layer->signs &&
+           (signs_at(block, number, to) & layer->breaks) == 0) {
+        to++;
+    }
+    return to;
+}
+
+static void put_stretches(const struct block *block, unsigned number, const struct layer *layer)
+{
+    unsigned long to;
+    for (unsigned long from = block->begin; from < block->end; from = to) {
+        to = from + 1;
+        if ((signs_at(block, number, from) & layer->looks) == layer->signs) {
+            to = stretch_end(block, number, from, layer);
+            layer->put(block, number, from, to);
+        }
+    }
+}
+
+static void put_layer(const struct block *block, const struct layer *layer)
+{
+    printf("<g %s>\n", layer->group);
+    for (unsigned number = 0; number < block->picture->tasks; number++) {
+        put_stretches(block, number, layer);
+    }
+    printf("</g>\n");
+}
+
+void put_slots(unsigned long from, unsigned long to)
+{
+    if (to - from == 1) {
+        printf("slot %lu", from);
+    } else {
+        printf("slots %lu to %lu", from, to - 1);
+    }
+}
+
+static void put_box(const struct block *block, unsigned number, unsigned long from, unsigned long to)
+{
+    unsigned height = box_height(block);
+    printf("<rect x=\"%u\" y=\"%u\" width=\"%u\" height=\"%u\"><title>task %u: ", x_of(block, from), floor_of(block, number) - height,
+           (unsigned)(to - from) * block->slot, height, number);
+    put_slots(from, to);
+    printf("</title></rect>\n");
+}
+
+static void put_wait(const struct block *block, unsigned number, unsigned long from, unsigned long to)
+{
+    printf("<path d=\"M%u %uH%u\"/>\n", x_of(block, from), floor_of(block, number) - box_height(block) / 2, x_of(block, to));
+}
+
+/* Above the boxes, so that the next job's stay to be seen. */
+static void put_missed(const struct block *block, unsigned number, unsigned long from, unsigned long to)
+{
+    uint32_t missing = block->picture->lanes[number].missing[from - block->picture->from];
+    unsigned top = lane_top(block, number) + 2, height = floor_of(block, number) - box_height(block) - 2 - top;
+    printf("<rect x=\"%u\" y=\"%u\" width=\"%u\" height=\"%u\"><title>task %u", x_of(block, from), top,
+           (unsigned)(to - from) * block->slot, height, number);
+    if (missing > 0) {
+        printf(", due at %lu: late, and %lu missing", from, (unsigned long)missing);
+    }
+    printf("</title></rect>\n");
+}
+
+static const struct layer layers[] = {
+    {"class=\"waits\" stroke=\"#555\" stroke-width=\"2\" stroke-dasharray=\"1 2\"", WAITS, WAITS, RELEASED, put_wait},
+    {"class=\"boxes\" fill=\"#c5d8ea\" stroke=\"#1c3f5e\"", HAS | MEANT, HAS, RELEASED, put_box},
+    {"class=\"boxes meant\" fill=\"url(#meant)\" stroke=\"#000\" stroke-width=\"1.6\"", HAS | MEANT, HAS | MEANT, RELEASED, put_box},
+    {"class=\"missed\" fill=\"url(#missed)\" stroke=\"#c00\" stroke-width=\"1.4\"", MISSED, MISSED, CLOSED, put_missed},
+};
+
+/* An arrow up where a job is released, down where it is due. */
+static void put_mark(const struct block *block, unsigned number, unsigned long instant, uint8_t sign)
+{
+    unsigned x = x_of(block, instant), top = lane_top(block, number) + 1, floor = floor_of(block, number);
+    if (sign == RELEASED) {
+        printf("M%u %uV%um0 -4l-3 5h6z", x, floor, top + 4);
+    } else {
+        printf("M%u %uV%um0 4l-3 -5h6z", x, top, floor - 4);
+    }
+}
+
+/* The marks of a lane that have these of the signs that are looked at, as one path. */
+static void put_marks(const struct block *block, unsigned number, const char *what, uint8_t looks, uint8_t signs)
+{
+    unsigned long last = block->end == block->picture->to ? block->end + 1 : block->end, marks = 0;
+    for (unsigned long instant = block->begin; instant < last; instant++) {
+        if ((signs_at(block, number, instant) & looks) == signs) {
+            printf("%s", marks++ == 0 ? "<path d=\"" : "");
+            put_mark(block, number, instant, signs & RELEASED ? RELEASED : DUE);
+        }
+    }
+    if (marks > 0) {
+        printf("\"><title>task %u %s</title></path>\n", number, what);
+    }
+}
+
+static void put_all_marks(const struct block *block, const char *group, const char *what, uint8_t looks, uint8_t signs)
+{
+    printf("<g %s>\n", group);
+    for (unsigned number = 0; number < block->picture->tasks; number++) {
+        put_marks(block, number, what, looks, signs);
+    }
+    printf("</g>\n");
+}
+
+static void put_layers(const struct block *block)
+{
+    for (size_t at = 0; at < sizeof layers / sizeof layers[0]; at++) {
+        put_layer(block, &layers[at]);
+    }
+}
+
+void put_lanes(const struct block *block)
+{
+    put_layers(block);
+    put_all_marks(block, "class=\"released\" stroke=\"#000\"", "is released", RELEASED, RELEASED);
+    put_all_marks(block, "class=\"due\" stroke=\"#000\"", "is due", DUE | CLOSED, DUE);
+    put_all_marks(block, "class=\"closed\" fill=\"#c00\" stroke=\"#c00\" stroke-width=\"2\"", "is due and late", DUE | CLOSED,
+                  DUE | CLOSED);
+}

@@ -1,0 +1,64 @@
+/* Texts of anybody's, a file's name above all, as texts of XML and HTML. */
+#include "picture.h"
+
+static int follows(uint8_t byte)
+{
+    return byte >= 0x80 && byte < 0xC0;
+}
+
+/* How many bytes a letter has, by its first one; 0: none begins so. */
+static unsigned letter_length(uint8_t first)
+{
+    if (first < 0x80) {
+        return first >= ' ' && first <= '~';
+    }
+    if (first < 0xC2 || first > 0xF4) {
+        return 0;
+    }
+    return first < 0xE0 ? 2 : first < 0xF0 ? 3 : 4;
+}
+
+/* No control, no letter written too long, no half of a pair, none beyond the last, and neither of the two that XML has not. */
+static int is_letter(const uint8_t *bytes, unsigned length)
+{
+    uint8_t first = bytes[0], second = length > 1 ? bytes[1] : 0;
+    switch (length) {
+    case 1: return 1;
+    case 2: return follows(second) && !(first == 0xC2 && second < 0xA0);
+    case 3:
+        return follows(second) && follows(bytes[2]) && !(first == 0xE0 && second < 0xA0) && !(first == 0xED && second >= 0xA0) &&
+               !(first == 0xEF && second == 0xBF && bytes[2] >= 0xBE);
+    case 4:
+        return follows(second) && follows(bytes[2]) && follows(bytes[3]) && !(first == 0xF0 && second < 0x90) &&
+               !(first == 0xF4 && second >= 0x90);
+    default: return 0;
+    }
+}
+
+static void put_letter(const uint8_t *bytes, unsigned length)
+{
+    switch (bytes[0]) {
+    case '<': fputs("&lt;", stdout); break;
+    case '>': fputs("&gt;", stdout); break;
+    case '&': fputs("&amp;", stdout); break;
+    case '"': fputs("&quot;", stdout); break;
+    case '\'': fputs("&#39;", stdout); break;
+    default: fwrite(bytes, 1, length, stdout);
+    }
+}
+
+/* A zero byte ends the text and follows nothing, so that no letter reads beyond it. */
+void put_text(const char *text)
+{
+    const uint8_t *bytes = (const uint8_t *)text;
+    while (*bytes != 0) {
+        unsigned length = letter_length(*bytes);
+        if (is_letter(bytes, length)) {
+            put_letter(bytes, length);
+            bytes += length;
+        } else {
+            fputs(*bytes == '\n' ? "\n" : "?", stdout);
+            bytes++;
+        }
+    }
+}
