@@ -42,10 +42,10 @@ a-digit : (d : ℕ) → d < 10 → isDigit (48 + d) ≡ true
 a-digit d h = rw (le-leb 48 (48 + d) (omega arith), le-leb (48 + d) 57 (omega arith))
 
 -- A word of digits that has this value.
-record Means (w : List ℕ) (n : ℕ) : Type 0 where
-  digits : allDigits w ≡ true
-  back : value w ≡ n
-  some : 0 < length w
+pub record Means (w : List ℕ) (n : ℕ) : Type 0 where
+  pub digits : allDigits w ≡ true
+  pub back : value w ≡ n
+  pub some : 0 < length w
 
 means-below : (e n : ℕ) → n < e → Means (decimal n) n
 unfolding allDigits valueAfter
@@ -63,7 +63,7 @@ means-below (suc e) n h = elim (decLe 10 n) [
   | no l ↦ rw (one-digit n (omega arith)) (record { digits = rw (a-digit n (omega arith)); back = omega arith; some = omega arith })
 ]
 
-means : (n : ℕ) → Means (decimal n) n
+pub means : (n : ℕ) → Means (decimal n) n
 means n = means-below (suc n) n (omega arith)
 
 -- It has no fault below a limit that it keeps.
