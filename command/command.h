@@ -54,6 +54,7 @@ struct task {
 };
 
 struct report {
+    uint64_t length;                       /* as the check returned it, or its refusal: then the text is empty */
     char text[YOLIZADWA_REPORT_BYTES + 1]; /* ended by a zero byte, which the library does not write */
 };
 
@@ -88,6 +89,7 @@ int say_no_task(FILE *to, const struct table *table, uint32_t task, uint64_t res
 /* Reports. */
 void check_table(const struct table *table, int plainly, struct report *report);
 uint64_t report_number(const struct report *report, const char *words);
+int report_passes(const struct report *report);
 int report_verdict(const struct report *report, const char *verdict);
 uint64_t horizon_of(const struct table *table);
 unsigned long usual_slots(const struct table *table, unsigned long most);

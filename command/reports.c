@@ -7,9 +7,9 @@
 void check_table(const struct table *table, int plainly, struct report *report)
 {
     uint8_t *text = (uint8_t *)report->text;
-    uint64_t length = plainly ? yolizadwa_check_plainly(table->file, table->len, text, YOLIZADWA_REPORT_BYTES)
-                              : yolizadwa_check(table->file, table->len, text, YOLIZADWA_REPORT_BYTES);
-    report->text[yolizadwa_refused(length) ? 0 : length] = '\0';
+    report->length = plainly ? yolizadwa_check_plainly(table->file, table->len, text, YOLIZADWA_REPORT_BYTES)
+                             : yolizadwa_check(table->file, table->len, text, YOLIZADWA_REPORT_BYTES);
+    report->text[yolizadwa_refused(report->length) ? 0 : report->length] = '\0';
 }
 
 /* The number that comes after these words in the report; 0 if they do not stand there. */
@@ -19,6 +19,12 @@ uint64_t report_number(const struct report *report, const char *words)
     return found == NULL ? 0 : strtoull(found + strlen(words), NULL, 10);
 }
 
+int report_passes(const struct report *report)
+{
+    return yolizadwa_passes((const uint8_t *)report->text, (size_t)report->length) == 1;
+}
+
+/* Of the other verdicts, which decide no more than the words and the status. */
 int report_verdict(const struct report *report, const char *verdict)
 {
     static const char words[] = "\nverdict ";
@@ -40,7 +46,7 @@ int report_excess(const struct report *report, struct excess *excess)
 
 int verdict_status(const struct report *report)
 {
-    return report_verdict(report, "passes") ? DONE : report_verdict(report, "undecided") ? UNDECIDED : LATE;
+    return report_passes(report) ? DONE : report_verdict(report, "undecided") ? UNDECIDED : LATE;
 }
 
 static void word_late(const struct report *report, struct sentence *sentence)
@@ -68,7 +74,7 @@ static void word_overload(const struct report *report, struct sentence *sentence
 void word_verdict(const struct table *table, const struct report *report, struct sentence *sentence)
 {
     sentence->text[0] = '\0';
-    if (report_verdict(report, "passes")) {
+    if (report_passes(report)) {
         snprintf(sentence->text, sizeof sentence->text, "passes: every job meets its deadline for ever");
     } else if (report_verdict(report, "undecided")) {
         snprintf(sentence->text, sizeof sentence->text,

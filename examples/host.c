@@ -28,19 +28,6 @@ static int refused(uint64_t result)
     return REFUSED;
 }
 
-/* Whether `verdict passes` is a line of the report. */
-static int passes(const uint8_t *report, size_t len)
-{
-    static const char line[] = "\nverdict passes\n";
-    const size_t line_len = sizeof line - 1;
-    for (size_t at = 0; at + line_len <= len; at++) {
-        if (memcmp(report + at, line, line_len) == 0) {
-            return 1;
-        }
-    }
-    return 0;
-}
-
 static int read_file(const char *path, uint8_t *file, size_t *len)
 {
     FILE *in = fopen(path, "rb");
@@ -134,7 +121,7 @@ static int judge_and_run(const uint8_t *file, size_t len, int anyway, unsigned l
         return refused(result);
     }
     fwrite(report, 1, (size_t)result, stdout);
-    if (!anyway && !passes(report, (size_t)result)) {
+    if (!anyway && !yolizadwa_passes(report, (size_t)result)) {
         printf("not run: the table does not pass\n");
         return NOT_RUN;
     }

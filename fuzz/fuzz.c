@@ -47,6 +47,17 @@ static void put_word(uint8_t *b, size_t at, uint32_t w) {
     for (int i = 0; i < 4; i++) b[at + i] = w >> 8 * i;
 }
 
+// Whether a line of so few bytes says so, looked for here.
+static int says_passes(const uint8_t *b, size_t len) {
+    static const char line[] = "verdict passes";
+    const size_t line_len = sizeof line - 1;
+    for (size_t at = 0; at + line_len <= len && len <= REPORT; at++) {
+        int begins = at == 0 || b[at - 1] == '\n', ends = at + line_len == len || b[at + line_len] == '\n';
+        if (begins && ends && memcmp(b + at, line, line_len) == 0) return 1;
+    }
+    return 0;
+}
+
 // A report buffer of this size, filled with this byte: the result, and the report in `out`.
 static uint64_t check(const uint8_t *file, size_t len, size_t bytes, int with, uint8_t *out) {
     uint8_t *report = block(bytes, with);
@@ -56,10 +67,12 @@ static uint64_t check(const uint8_t *file, size_t len, size_t bytes, int with, u
         HOLDS(r <= REPORT && r > 0);
         HOLDS(all(report, r, bytes, with));
         HOLDS(report[r - 1] == '\n');
+        HOLDS(yolizadwa_passes(report, r) == (uint64_t)says_passes(report, r));
         if (out) memcpy(out, report, r);
     } else {
         HOLDS(all(report, 0, bytes, with));
         HOLDS(r >> 16 <= 30 && r >> 16 != 2);
+        HOLDS(yolizadwa_passes(report, r) == 0);
     }
     free(report);
     return r;
@@ -87,13 +100,29 @@ static uint64_t step(const uint8_t *file, size_t len, uint8_t *state, uint32_t d
     return r;
 }
 
+// Any bytes as a report, and a report with bytes of theirs put in.
+static void try_report(const char *text, const uint8_t *more, size_t more_len) {
+    size_t len = strlen(text), at = more_len ? more[0] % (len + 1) : 0, some = more_len > 1 ? more[1] % 4 : 0;
+    if (some > more_len) some = more_len;
+    uint8_t *any = block(more_len, 0), *changed = block(len + some, 0);
+    memcpy(any, more, more_len);
+    memcpy(changed, text, at);
+    memcpy(changed + at, more + more_len - some, some);
+    memcpy(changed + at + some, text + at, len - at);
+    HOLDS(yolizadwa_passes(any, more_len) == (uint64_t)says_passes(any, more_len));
+    HOLDS(yolizadwa_passes(changed, len + some) == (uint64_t)says_passes(changed, len + some));
+    HOLDS(yolizadwa_passes(changed, at) == (uint64_t)says_passes(changed, at));
+    free(changed);
+    free(any);
+}
+
 static int passes(const uint8_t *file, size_t len, size_t cost_at, uint32_t cost) {
     uint8_t *changed = block(len, 0), text[REPORT + 1] = {0};
     memcpy(changed, file, len);
     put_word(changed, cost_at, cost);
-    check(changed, len, REPORT, 0xa5, text);
+    uint64_t r = check(changed, len, REPORT, 0xa5, text);
     free(changed);
-    return strstr((char *)text, "verdict passes\n") != 0;
+    return yolizadwa_passes(text, r) == 1;
 }
 
 // Of a table that passes a cost that does too, and no larger one that is tried; of any other what its report says.
@@ -210,6 +239,8 @@ static void try_file(const uint8_t *bytes, size_t len, const uint8_t *more, size
     check(file, len, REPORT - 1, 0xa5, 0);
     check(file, len, more_len ? more[0] : 0, 0xa5, 0);
 
+    try_report((char *)text, more, more_len);
+
     // the quick test refuses alike, and says what the report says
     uint64_t q = yolizadwa_quick(file, len);
     if (r >= REFUSED) HOLDS(q == r);
@@ -272,7 +303,7 @@ static void try_file(const uint8_t *bytes, size_t len, const uint8_t *more, size
         HOLDS(s == r);
         HOLDS(all(state, 0, STATE, 0xee));
     } else {
-        int passes = strstr((char *)text, "verdict passes\n") != 0;
+        int passes = yolizadwa_passes(text, r) == 1;
         size_t tasks = (len - 10) / 17;
         uint64_t slots = 0;
         for (int i = 0; i < 200; i++) {

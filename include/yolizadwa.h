@@ -2,13 +2,14 @@
  * Yolizadwa for C (from C99 on) and C++: judge a table of tasks, then give out time slot by slot.
  * The rules are those of docs/SPECIFICATION.md; its section 9 has the calls.
  *
- * Fourteen calls, in the static library that `rt staticlib yolizadwa` writes for x86-64:
+ * Fifteen calls, in the static library that `rt staticlib yolizadwa` writes for x86-64:
  *
  *   yolizadwa_write          writes a table file from the numbers of its tasks
  *   yolizadwa_from_text      writes the table file of a table in plain text
  *   yolizadwa_to_text        writes the plain text of a table file
  *   yolizadwa_check          judges a table file and writes its report as text
  *   yolizadwa_check_plainly  does the same slot by slot
+ *   yolizadwa_passes         tells whether a report says that the table passes
  *   yolizadwa_quick          judges it in short, with all tasks started at once: pass, or no answer
  *   yolizadwa_distance       judges it in short, with its offsets and with buttons: pass, overload, or no answer
  *   yolizadwa_eased          tells whether a table file is an easing of another one, and so needs no new test
@@ -19,17 +20,17 @@
  *   yolizadwa_log_feed       judges the next piece of it, cut anywhere
  *   yolizadwa_log_finish     says what is found of the whole log
  *
- * What holds for all fourteen:
+ * What holds for all fifteen:
  *   - They keep nothing between calls, allocate nothing, and may run in several threads at once on different buffers.
  *   - Of the C library they need memcpy and memset alone. The host tests hold the stack of each call to 16 KiB.
  *   - A result below 65,536 is an answer. Any other is a refusal: 65,536 x number + place. A refusal changes no byte.
  *     (yolizadwa_eased tells of two files, and has results of its own: yolizadwa_refused does not fit them. Of a log's calls
  *     only a result below 2^32 goes to yolizadwa_refused: what is found stands from there on.)
  *   - No pointer may be NULL, not even with length 0.
- *   - What a call only reads (the const pointer: file, text or words) is read where it lies and never written, and must not
+ *   - What a call only reads (the const pointer: file, report, text or words) is read where it lies and never written, and must not
  *     overlap what the call writes. Words lie aligned, as a uint32_t does; nothing else needs to.
- *   - Any bytes may be handed over as a file or a state. What is no good file is refused. Of a state only what refusals
- *     8 and 9 list is refused: a state of another table may be taken.
+ *   - Any bytes may be handed over as a file, a state or a report. What is no good file is refused. Of a state only what
+ *     refusals 8 and 9 list is refused: a state of another table may be taken. Of a report nothing is: see yolizadwa_passes.
  */
 #ifndef YOLIZADWA_H
 #define YOLIZADWA_H
@@ -61,7 +62,7 @@ extern "C" {
  * its spacing, and as a task it is counted and named by its number.
  *
  * Files and texts with buttons are read and written by yolizadwa_write, yolizadwa_from_text and yolizadwa_to_text, and judged by
- * yolizadwa_distance. Every other call needs a table without buttons and refuses one by 11.
+ * yolizadwa_distance. Every other call that reads a file needs a table without buttons and refuses one by 11.
  */
 enum yolizadwa_kind {
     YOLIZADWA_KIND_BUDGET = 1,
@@ -186,8 +187,8 @@ uint64_t yolizadwa_to_text(const uint8_t *file, size_t file_len, uint8_t *text, 
  * Late has in place of the last two `interval 8 15 demand 8`: the jobs that are released at 8 or later and due by 15 ask
  * for 8 slots. Undecided: the budget ended before the answer was known; `settled` is the budget.
  *
- * A camera runs a table only if the report has the line `verdict passes`; only then does what is said of the worst
- * responses hold.
+ * A camera runs a table only if the report has the line `verdict passes`, which yolizadwa_passes tells; only then does
+ * what is said of the worst responses hold.
  *
  * The time needed grows with the releases and finishes up to `settled`, which is at most the budget and at most 2,000,000,060,000,
  * and with those that the quick test looks at (see yolizadwa_quick), which the budget does not bound. No call can stop a check.
@@ -207,6 +208,26 @@ uint64_t yolizadwa_check(const uint8_t *file, size_t file_len, uint8_t *report, 
  * is there for comparison alone. A slot took about 2 ns with 1 task and 19 to 43 ns with 16.
  */
 uint64_t yolizadwa_check_plainly(const uint8_t *file, size_t file_len, uint8_t *report, size_t report_len);
+
+/*
+ * Whether a report says that the table passes, so that no host searches its text by itself. The result is 1 if the bytes are at
+ * most 1,024 and one of their lines is `verdict passes`, and 0 if not. Line feeds part lines: what follows the last one is a line
+ * too. The line is these 14 bytes and no other: a blank before them or a carriage return behind them makes it another line.
+ *
+ * Hand over the report buffer and what the check returned, be it a length or a refusal:
+ *
+ *   uint8_t report[YOLIZADWA_REPORT_BYTES];
+ *   uint64_t length = yolizadwa_check(file, file_len, report, sizeof report);
+ *   if (yolizadwa_passes(report, length)) {
+ *       run(file, file_len);
+ *   }
+ *
+ * A refusal is 65,536 or more, and so longer than any report: then no byte is read, and the result is 0. The length must be of the
+ * check that wrote the report: a check that is refused leaves in the buffer what it finds there, be it the report on another table.
+ *
+ * It never refuses: of any bytes the result is 1 or 0. Who wrote them it cannot tell.
+ */
+uint64_t yolizadwa_passes(const uint8_t *report, size_t length);
 
 /*
  * The quick test: lets all tasks start at 0, whatever their offsets, and looks at the slots up to the first instant after 0

@@ -23,9 +23,10 @@ pub enum Call {
     LogStart,
     LogFeed,
     LogFinish,
+    Passes,
 }
 
-pub const CALLS: [(Call, &str); 14] = [
+pub const CALLS: [(Call, &str); 15] = [
     (Call::Check, "check"),
     (Call::Start, "start"),
     (Call::Step, "step"),
@@ -40,16 +41,18 @@ pub const CALLS: [(Call, &str); 14] = [
     (Call::LogStart, "log start"),
     (Call::LogFeed, "log feed"),
     (Call::LogFinish, "log finish"),
+    (Call::Passes, "passes"),
 ];
 
 #[derive(Clone, Debug)]
 pub struct Request {
     pub call: Call,
-    /// What is read: a file, a text, to write the bytes of the words, or a file and behind it the piece of a log.
+    /// What is read: a file, a text, a report, to write the bytes of the words, or a file and behind it the piece of a log.
     pub file: Vec<u8>,
     /// What is written, or the second file that is read, and then must stay.
     pub buffer: Vec<u8>,
-    /// A step's done, the budget to write, the task that is asked for, where the file ends before the piece of a log.
+    /// A step's done, the budget to write, the task that is asked for, where the file ends before the piece of a log, the length that is
+    /// told of a report.
     pub number: u64,
 }
 
@@ -110,6 +113,11 @@ impl Request {
 
     pub fn log_finish(file: Vec<u8>, log: Vec<u8>) -> Request {
         Request { call: Call::LogFinish, file, buffer: log, number: 0 }
+    }
+
+    /// A report buffer, and what the check returned: the report's length, or a refusal, which is longer than the buffer.
+    pub fn passes(report: Vec<u8>, told: u64) -> Request {
+        Request { call: Call::Passes, file: report, buffer: Vec::new(), number: told }
     }
 }
 

@@ -30,7 +30,7 @@ pub const TOO_LONG: Rows = &[(0, 1, 4_093, 4_093), (0, 1, 8_779, 8_779), (0, 1, 
 const TOO_LONG_TOO: Rows = &[(0, 1, 279, 279), (0, 1, 59_780, 59_780), (0, 1, 59_957, 59_957)];
 
 /// Tables with a budget and the report they give.
-const REPORTS: &[(Rows, u64, &str)] = &[
+pub const REPORTS: &[(Rows, u64, &str)] = &[
     (A, 1_000, "tasks 1\nload 1/1\nquick pass\nhorizon 2\nverdict passes\nsettled 2\nworst 0 1\nidle 1\n"),
     (B, 1_000, "tasks 2\nload 11/15\nquick none\nhorizon 38\nverdict passes\nsettled 38\nworst 0 7\nworst 1 2\nidle 2\n"),
     (B, 38, "tasks 2\nload 11/15\nquick none\nhorizon 38\nverdict passes\nsettled 38\nworst 0 7\nworst 1 2\nidle 2\n"),

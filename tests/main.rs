@@ -17,6 +17,7 @@ mod logbook;
 mod logs;
 mod markup;
 mod papers;
+mod passes;
 mod pictures;
 mod plain;
 mod randoms;
@@ -61,6 +62,10 @@ fn judging(bench: &mut Bench, rng: &mut Rng, count: u64) {
     files::buffers(bench, rng);
     randoms::checks(bench, rng, count);
     randoms::quick_tests(bench, rng, count);
+    passes::by_hand(bench);
+    passes::damaged(bench);
+    passes::lengths(bench);
+    passes::at_random(bench, rng, count);
     arrivals::runs(bench, rng, count / 10);
     arrivals::calls(bench, rng, count / 20);
     arrivals::without_buttons(bench, rng, count / 10);
@@ -113,6 +118,7 @@ fn what_is_shipped(bench: &mut Bench, rng: &mut Rng) {
     papers::promises(bench);
     papers::edits(bench);
     papers::refusals(bench);
+    papers::calls(bench);
     judge::inputs_by_hand(bench);
     judge::inputs_at_random(bench, rng);
     command::by_hand(bench);

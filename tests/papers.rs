@@ -1,7 +1,9 @@
 //! What docs/PROMISES.md says of the tree: each law that it names is promised, each law that is promised is told, and so is each
-//! edit. Each file of the theory has one headline. And the list of refusals in docs/SPECIFICATION.md has its copies.
+//! edit. Each file of the theory has one headline. The list of refusals in docs/SPECIFICATION.md has its copies, and every list of the
+//! calls has those that the library exports.
 
 use crate::bench::Bench;
+use crate::whole;
 use std::fs;
 use std::path::Path;
 
@@ -160,4 +162,30 @@ pub fn refusals(bench: &mut Bench) {
     copied(bench, &refusals, &numbers_declared(between(&header, "enum yolizadwa_refusal {", "};")), HEADER);
     copied(bench, &findings, &numbers_declared(between(&header, "enum yolizadwa_log_answer {", "};")), HEADER);
     bench.end_group("refusals that the papers list");
+}
+
+/// The calls that these lines begin with, behind a mark; in order.
+fn calls_in(part: &str, mark: &str) -> Vec<String> {
+    let names = part.lines().filter_map(|line| line.strip_prefix(mark)).filter(|name| name.starts_with("yolizadwa_"));
+    let mut names: Vec<String> = names.filter_map(|name| Some(name.split(['(', '`', ' ']).next()?.to_string())).collect();
+    names.sort();
+    names
+}
+
+/// What the library exports is what the header declares and lists, and what README and the specification list.
+pub fn calls(bench: &mut Bench) {
+    let (paper, readme, header) = (read(SPECIFICATION), read(README), read(HEADER));
+    let quoted = between(&readme, "## Link it", "\n## ").replace('`', "\n");
+    let lists = [
+        ("is declared", calls_in(&header, "uint64_t ")),
+        ("stands in the header's list", calls_in(between(&header, "/*", "*/"), " *   ")),
+        ("stands in README", calls_in(&quoted, "")),
+        ("stands in the specification", calls_in(between(&paper, "## 9. ", "\n## "), "| `")),
+    ];
+    let exported = whole::symbols("--defined-only");
+    bench.count(!exported.is_empty(), || "nothing is exported".to_string());
+    for (what, list) in lists {
+        bench.count(list == exported, || format!("exported: {exported:?}, but what {what}: {list:?}"));
+    }
+    bench.end_group("calls that the papers list");
 }

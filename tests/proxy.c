@@ -101,6 +101,13 @@ uint64_t yolizadwa_check_plainly(const uint8_t *file, size_t file_len, uint8_t *
     return forward(CHECK_PLAINLY, file, file_len, report, report_len, 0);
 }
 
+/* Of a length that no report has nothing is read here either. */
+uint64_t yolizadwa_passes(const uint8_t *report, size_t length)
+{
+    uint8_t nothing = 0;
+    return forward(PASSES, report, length > YOLIZADWA_REPORT_BYTES ? 0 : length, &nothing, 0, length);
+}
+
 uint64_t yolizadwa_start(const uint8_t *file, size_t file_len, uint8_t *state, size_t state_len)
 {
     return forward(START, file, file_len, state, state_len, 0);

@@ -635,6 +635,18 @@ pub fn report(tasks: &[Task], budget: u64) -> String {
     )
 }
 
+/// Whether a report says that the table passes: one of its lines, which line feeds part, is `verdict passes`. Of more bytes than a report
+/// has none is looked at, nor need they be there.
+fn says_passes(bytes: &[u8], length: u64) -> bool {
+    length <= REPORT_BYTES as u64 && bytes[..length as usize].split(|&byte| byte == 10).any(|line| line == b"verdict passes")
+}
+
+/// Whether a check finds that the table passes, by the verdict and not by the report.
+pub fn passes(check: &Request) -> bool {
+    let verdict = read_table(check).map(|(budget, tasks)| decide(&tasks, budget).verdict);
+    matches!(verdict, Ok(Verdict::Passes(..)))
+}
+
 // The dispatcher.
 
 #[derive(Clone, Copy, PartialEq, Eq, Debug)]
@@ -877,6 +889,7 @@ fn answered(request: &Request) -> Result<(u64, Vec<u8>), Refusal> {
             }
             Ok((log.told(), log.to_bytes()))
         }
+        Call::Passes => Ok((u64::from(says_passes(&request.file, request.number)), Vec::new())),
     }
 }
 

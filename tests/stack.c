@@ -59,6 +59,7 @@ uint64_t plain_call(uint32_t call, const uint8_t *file, size_t file_len, uint8_t
     case LOG_START: return yolizadwa_log_start(file, file_len, buffer, buffer_len);
     case LOG_FEED: return yolizadwa_log_feed(file, (size_t)number, buffer, buffer_len, file + number, file_len - (size_t)number);
     case LOG_FINISH: return yolizadwa_log_finish(file, file_len, buffer, buffer_len);
+    case PASSES: return yolizadwa_passes(file, (size_t)number);
     default: return yolizadwa_check_plainly(file, file_len, buffer, buffer_len);
     }
 }

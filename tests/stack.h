@@ -5,11 +5,11 @@
 #include <stddef.h>
 #include <stdint.h>
 
-enum call { CHECK, START, STEP, WRITE, FROM_TEXT, TO_TEXT, QUICK, DISTANCE, CHECK_PLAINLY, EASED, LARGEST, LOG_START, LOG_FEED, LOG_FINISH };
+enum call { CHECK, START, STEP, WRITE, FROM_TEXT, TO_TEXT, QUICK, DISTANCE, CHECK_PLAINLY, EASED, LARGEST, LOG_START, LOG_FEED, LOG_FINISH, PASSES };
 
 /*
- * What is read, what is written or read too, and a number besides: a step's done, the budget to write, a task, or where in what is read
- * the table's file ends and the piece of a log begins.
+ * What is read, what is written or read too, and a number besides: a step's done, the budget to write, a task, where in what is read the
+ * table's file ends and the piece of a log begins, or the length that is told of a report, which may be a refusal.
  */
 typedef uint64_t call_maker(uint32_t call, const uint8_t *file, size_t file_len, uint8_t *buffer, size_t buffer_len,
                             uint64_t number);

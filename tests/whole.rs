@@ -4,6 +4,7 @@ use crate::bench::Bench;
 use crate::calls::Request;
 use crate::inputs::{file_of, rows_of};
 use crate::logbook::{camera_log, Log};
+use crate::passes;
 use crate::plain;
 use crate::program;
 use crate::reference::{self, button, periodic, Task, LONGEST_FILE, TASKS};
@@ -82,6 +83,7 @@ pub fn stack(bench: &mut Bench) {
     let writes: Vec<Request> = hard_tables().iter().flat_map(|tasks| hard_writes(tasks)).collect();
     deepest(bench, "check", &checks);
     deepest(bench, "check plainly", &checks.into_iter().map(Request::plainly).collect::<Vec<_>>());
+    deepest(bench, "passes", &passes::hard_ones());
     deepest(bench, "quick", &files.iter().cloned().map(Request::quick).collect::<Vec<_>>());
     deepest(bench, "distance", &files.iter().cloned().map(Request::distance).collect::<Vec<_>>());
     deepest(bench, "eased", &hard_pairs(&files));
@@ -178,16 +180,22 @@ fn hard_texts() -> Vec<Request> {
     texts.into_iter().map(Request::from_text).collect()
 }
 
-/// What nm finds undefined must be what the header says. gcc's binutils bring nm; on Arm it reads the archive too.
-pub fn needs(bench: &mut Bench) {
-    let output = Command::new("nm").args(["-u", "target/staticlib/libyolizadwa.a"]).output().expect("nm starts");
+/// The library's global symbols of a sort, in order. gcc's binutils bring nm; on Arm it reads the archive too. None if it cannot tell.
+pub fn symbols(sort: &str) -> Vec<String> {
+    let output = Command::new("nm").args(["-g", sort, "target/staticlib/libyolizadwa.a"]).output().expect("nm starts");
     let told = String::from_utf8_lossy(&output.stdout);
-    let mut names: Vec<&str> = told.lines().filter_map(|line| line.trim().split_once(' ')).map(|symbol| symbol.1).collect();
+    let names = told.lines().filter_map(|line| line.trim().rsplit_once(' ')).map(|symbol| symbol.1.to_string());
+    let mut names: Vec<String> = names.filter(|_| output.status.success()).collect();
     names.sort();
     names.dedup();
-    let words = format!("Of the C library they need {} alone.", names.join(" and "));
+    names
+}
+
+/// What nm finds undefined must be what the header says.
+pub fn needs(bench: &mut Bench) {
+    let words = format!("Of the C library they need {} alone.", symbols("--undefined-only").join(" and "));
     let header = std::fs::read_to_string("include/yolizadwa.h").expect("the header is there");
-    bench.count(output.status.success() && header.contains(&words), || format!("not in the header: {words}"));
+    bench.count(header.contains(&words), || format!("not in the header: {words}"));
     bench.end_group("what the library needs of the C library");
 }
 
