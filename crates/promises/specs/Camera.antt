@@ -1,6 +1,6 @@
 -- DEMANDS 1 and 3 at the exported start and step: one permitted result for every file and buffer, a refusal changes no byte,
 -- and a camera's own loop in a lent buffer is the dispatcher's history, of which Demand3 speaks.
-use mathlib.Core.Path.{_≡_, refl, sym, ap, _∙_}
+use mathlib.Core.Path.{_≡_, sym, ap, _∙_}
 use mathlib.Core.Logic.{_⊎_, inl, inr}
 use mathlib.Core.List.{List}
 use mathlib.Core.Bool.{Bool, false, not}
@@ -17,9 +17,9 @@ use Rattle.values.specs.declared.Turn.{Turn}
 use Rattle.values.specs.declared.SlotAnswer.{SlotAnswer}
 use Rattle.model.specs.Limits.{taskLimit, slotCountLimit}
 use Rattle.model.specs.Values.{refusal}
-use Rattle.model.specs.Notation.{sum, largest, count, first}
-use Rattle.model.specs.Tasks.{taskFault, firstFaulty, firstButton, round, load, horizon, judgedMixed, judged}
-use Rattle.model.specs.TableFile.{eight, readFrom, formOf, periodicFrom}
+use Rattle.model.specs.Notation.{count}
+use Rattle.model.specs.Tasks.{judged}
+use Rattle.model.specs.TableFile.{eight, formOf, periodicFrom}
 use Rattle.model.specs.Dispatcher.{admitted, turn, started, stepped}
 use Rattle.model.specs.Report.{Exported, refused}
 use Rattle.model.specs.Examples.{table-g, file-g}
@@ -28,6 +28,7 @@ use Rattle.model.specs.StateBuffer.{countsAt, stateBytes, bufferOf, stateIn, qu
 use Rattle.tablefile.specs.Admitted.{periodic-for}
 use Rattle.statebuffer.specs.Loop as loop
 use Rattle.statebuffer.specs.Told.{start-apart, step-apart}
+use Rattle.telling.specs.Examples.{g-formed}
 
 -- Starting and stepping in a buffer have one permitted result each, for every file and buffer.
 pub one-camera-start : (file buffer : List ℕ) (a b : Exported) → a ≡ startExported file buffer → b ≡ startExported file buffer → a ≡ b
@@ -91,10 +92,6 @@ module _ (file : List ℕ) (t : Table) (m : Measure) (formed : formOf file .admi
   camera-counts = loop.counts file t m formed held well lent size done
 
 -- What is asked of the file is met by table g's.
-g-formed : (formOf file-g .admission ≡ Admission.Admitted) × (formOf file-g .table ≡ table-g) × (judged table-g ≡ Judgement.WellFormed (record { round = 4; load = 4; horizon = 8 }))
-unfolding formOf readFrom judged judgedMixed firstButton firstFaulty taskFault first round load horizon largest sum count
-g-formed = (refl, refl, refl)
-
 pub g-camera : (done : ℕ → ℕ) (n : ℕ) → n < slotCountLimit → (startExported file-g (replicate stateBytes 0) .number ≡ 0) × (stepExported file-g (handed file-g (replicate stateBytes 0) done n) (done n) .number ≡ ownerAt table-g (λ k. not (eqb (done k) 0)) n)
 g-camera done n h =
     let lent = replicate {A = ℕ} stateBytes 0 in

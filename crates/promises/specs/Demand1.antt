@@ -8,35 +8,31 @@ use mathlib.Core.List.{List, [], _∷_}
 use mathlib.Core.Bool.{Bool, true, false, cond}
 use Prim.Native.Nat.{ℕ, suc, _+_, _/_, _%_, _≤_, _<_, _∣_}
 use native.Mathlib.Omega.{arith}
-use borrow.Author.Tests.{ltb-true, lt-ltb, le-ltb, eq-eqb, ne-eqb}
-use lib.Dec.{ltb, eqb}
+use borrow.Author.Tests.{lt-ltb, le-ltb, eq-eqb, ne-eqb}
+use lib.Dec.{ltb}
 use lib.ListN.{length, getD, take}
 use Rattle.values.specs.declared.Task.{Task}
 use Rattle.values.specs.declared.Table.{Table}
 use Rattle.values.specs.declared.Refusal.{Refusal}
 use Rattle.values.specs.declared.Measure.{Measure}
 use Rattle.values.specs.declared.Judgement.{Judgement}
-use Rattle.values.specs.declared.Verdict.{Verdict}
 use Rattle.values.specs.declared.Outcome.{Outcome}
 use Rattle.values.specs.declared.Admission.{Admission}
 use Rattle.values.specs.declared.SlotAnswer.{SlotAnswer}
 use Rattle.values.specs.declared.Answer.{Answer}
 use Rattle.values.specs.declared.Contents.{Contents}
-use Rattle.model.specs.Limits.{taskLimit, slotCountLimit, sumPlace, slotLimit, roundLimit, reportBytes, budgetLimit, budgetBytes, taskBytes, buttonBytes, longestFile}
+use Rattle.model.specs.Limits.{taskLimit, slotCountLimit, sumPlace, roundLimit, reportBytes, budgetLimit, budgetBytes, taskBytes, buttonBytes, longestFile}
 use Rattle.model.specs.Values.{refusal, refusalSaid, judgementSaid, admissionSaid, slotSaid, outcomeSaid}
-use Rattle.model.specs.Tasks.{task, isButton, offset, round, measure, judgedMixed, judged, load, horizon}
-use Rattle.model.specs.Verdict.{verdict, brief, Permitted}
+use Rattle.model.specs.Tasks.{task, isButton, round, measure, judgedMixed, judged, load, horizon}
+use Rattle.model.specs.Verdict.{brief, Permitted}
 use Rattle.model.specs.TableFile.{budgetKind, eight, admit, taskRecord, taskRecords, fileOf, formOf, fileRead, periodicFrom}
-use Rattle.model.specs.Dispatcher as model
-use Rattle.model.specs.Dispatcher.{State, slotCount, firstStrange, lastStrange, admitted as stateAdmitted, turn, after, stepAdmitted, started, stepped, isLate, ownerNow}
+use Rattle.model.specs.Dispatcher.{State, slotCount, firstStrange, lastStrange, admitted as stateAdmitted, turn, after, started, stepped, isLate, ownerNow}
 use Rattle.dispatch.specs.declared.Dispatcher.{Dispatcher}
 use Rattle.dispatch.specs.declared.Started.{Started}
 use Rattle.dispatch.specs.declared.Stepped.{Stepped}
 use Rattle.dispatch.specs.State.{stateOf, startedOf, steppedOf, one-started, one-stepped}
-use Rattle.model.specs.Patterns.{quickPass}
-use Rattle.model.specs.Report.{reportOf, Exported, refused, written, outcomeTold, FileTold, Checked, refusalLine, Printed}
+use Rattle.model.specs.Report.{Exported, refused, written, FileTold, Checked, refusalLine, Printed}
 use Rattle.model.specs.Notation.{count, first, bits}
-use Rattle.wellformed.specs.Ranges.{InRange, Ranged}
 use Rattle.wellformed.specs.Round.{round-pos, period-divides, round-least}
 use Rattle.wellformed.specs.WellFormed.{mixed-iff, judged-iff, periodic-iff, refused-both}
 use Rattle.backlog.specs.Unique.{permitted-unique}
@@ -47,14 +43,16 @@ use Rattle.tablefile.specs.declared.Reading.{Reading}
 use Rattle.tablefile.specs.Reading.{readingAt}
 use Rattle.tablefile.specs.Said.{recordSaid, numbersAt, Has, record-said}
 use Rattle.tablefile.specs.Admitted.{admitted}
-use Rattle.tablefile.specs.Periodic.{periodic-refused, periodic-read}
+use Rattle.tablefile.specs.Periodic.{periodic-refused}
 use Rattle.tablefile.specs.Longer.{first-form, first-bytes}
-use Rattle.tablefile.specs.Refused.{AdmissionTellable, read-tellable}
 use Rattle.tablefile.specs.Written as tablefile
 use Rattle.tablefile.specs.Written.{AllFit, form-length, records-le, written-read, read-written}
-use Rattle.report.specs.Permitted.{Fitting, permitted-fits}
-use Rattle.statebuffer.specs.Told.{Apart}
-use Rattle.promises.specs.Demand2.{answer-exactly}
+pub use Rattle.telling.specs.Ranges.{InRanges, KeepsRanges}
+pub use Rattle.telling.specs.Reported.{reportOn, Reported}
+use Rattle.telling.specs.Ranges.{ranges-iff}
+use Rattle.telling.specs.FileTold.{told-once, told-some, told-refused, button-refused}
+use Rattle.telling.specs.Reported.{taken, reported-or-refused, reported}
+use Rattle.telling.specs.Steps.{refused-stays}
 
 -- Judging a table, reading a file's form, reading it, starting and stepping have one permitted result each, for every input.
 pub one-judgement : (t : Table) (a b : Judgement) → a ≡ judged t → b ≡ judged t → a ≡ b
@@ -79,25 +77,11 @@ pub one-step : (t : Table) (d : Dispatcher) (done : Bool) (a b : Stepped) → st
 one-step t d done a b e f = one-stepped a b (e ∙ sym f)
 
 -- A table is well-formed exactly if it has 1 to `taskLimit` tasks, each of them keeps its ranges, and H keeps its limit.
-abbrev pub InRanges : Task → Type 0
-InRanges k = (1 ≤ k .period) × (k .period ≤ slotLimit) × (1 ≤ k .deadline) × (k .deadline ≤ k .period) × (1 ≤ k .cost) × (k .cost ≤ k .deadline) × (offset k ≤ slotLimit)
-
-abbrev pub KeepsRanges : Table → Type 0
-KeepsRanges t = (1 ≤ t .count) × (t .count ≤ taskLimit) × ((i : ℕ) → i < t .count → InRanges (task t i))
-
-ranged-of : (t : Table) → KeepsRanges t → Ranged t
-ranged-of t (some, few, each) = record { some = some; few = few; each = λ i l. ranges (each i l) }
-  where
-    ranges : {k : Task} → InRanges k → InRange k
-    ranges (a, b, c, d, e, f, g) = record { period-pos = a; period-le = b; deadline-pos = c; deadline-le = d; cost-pos = e; cost-le = f; offset-le = g }
-
 pub well-formed-exactly : (t : Table) (m : Measure) → (judgedMixed t ≡ Judgement.WellFormed m) ↔ (KeepsRanges t × (round t ≤ roundLimit) × (m ≡ measure t))
-well-formed-exactly t m = (fwd, λ (keeps, h, same). mixed-iff t m .1 (ranged-of t keeps, h, same))
-  where
-    fwd : judgedMixed t ≡ Judgement.WellFormed m → KeepsRanges t × (round t ≤ roundLimit) × (m ≡ measure t)
-    fwd e =
-        let (r, h, same) = mixed-iff t m .0 e in
-        ((r .some, r .few, λ i l. let k = r .each i l in (k .period-pos, k .period-le, k .deadline-pos, k .deadline-le, k .cost-pos, k .cost-le, k .offset-le)), h, same)
+well-formed-exactly t m = (
+  λ e. let (r, h, same) = mixed-iff t m .0 e in (ranges-iff t .1 r, h, same),
+  λ (keeps, h, same). mixed-iff t m .1 (ranges-iff t .0 keeps, h, same),
+)
 
 -- Where only periodic tasks are allowed, it must also have no button.
 pub periodic-exactly : (t : Table) (m : Measure) → (judged t ≡ Judgement.WellFormed m) ↔ ((judgedMixed t ≡ Judgement.WellFormed m) × ((i : ℕ) → i < t .count → isButton (task t i) ≡ false))
@@ -112,7 +96,7 @@ well-mixed-said t m e = let (r, h, same) = mixed-iff t m .0 e in rw (e, same) re
 
 -- H of a table that keeps its ranges, refused by 7 or not, is the least number above 0 that each period divides.
 pub round-is-least : (t : Table) → KeepsRanges t → (0 < round t) × ((i : ℕ) → i < t .count → task t i .period ∣ round t) × ((x : ℕ) → 0 < x → ((i : ℕ) → i < t .count → task t i .period ∣ x) → round t ≤ x)
-round-is-least t keeps = let r = ranged-of t keeps in (round-pos t r, period-divides t r, round-least t r)
+round-is-least t keeps = let r = ranges-iff t .0 keeps in (round-pos t r, period-divides t r, round-least t r)
 
 -- The exact test has one permitted answer to every table and budget.
 pub one-answer : (t : Table) (budget : ℕ) (a b : Answer) → Permitted t budget a → Permitted t budget b → a ≡ b
@@ -121,28 +105,6 @@ one-answer = permitted-unique
 pub some-answer : (t : Table) (budget : ℕ) → (a : Answer) × Permitted t budget a
 some-answer t budget = (answerOf t budget, computed t budget)
 
--- What is told of a file is one thing only, and there is always something to tell; of a refused file it is its refusal.
-told-once : {A : Type 0} (refuse : Refusal → A) (tell : List ℕ → A) (l : Contents) (x y : A) (a : Admission) → FileTold refuse tell l x a → FileTold refuse tell l y a → x ≡ y
-told-once refuse tell l x y (Admission.Refused r) e f = e ∙ sym f
-told-once refuse tell l x y Admission.Admitted (a, p, e) (b, q, f) = let s : a ≡ b = permitted-unique (l .table) (l .budget) a b p q in e ∙ rw s (sym f)
-
-told-some : {A : Type 0} (refuse : Refusal → A) (tell : List ℕ → A) (l : Contents) (a : Admission) → (x : A) × FileTold refuse tell l x a
-told-some refuse tell l (Admission.Refused r) = (refuse r, refl)
-told-some refuse tell l Admission.Admitted = let a = answerOf (l .table) (l .budget) in (outcomeTold refuse tell (l .table .count) (quickPass (l .table)) a (a .outcome), (a, computed (l .table) (l .budget), refl))
-
-told-refused : {A : Type 0} (refuse : Refusal → A) (tell : List ℕ → A) (l : Contents) (x : A) (r : Refusal) (a : Admission) → a ≡ Admission.Refused r → FileTold refuse tell l x a → x ≡ refuse r
-told-refused refuse tell l x r (Admission.Refused w) q e = let s : w ≡ r = cc in e ∙ rw s
-told-refused refuse tell l x r Admission.Admitted q e = let z : _≡_ {A = ℕ} 0 1 = cc in absurd (omega arith)
-
-button-refused : {A : Type 0} (refuse : Refusal → A) (tell : List ℕ → A) (l : Contents) (x : A) (r : Refusal) (a : Admission) → a ≡ Admission.Admitted → judged (l .table) ≡ Judgement.Refused r → FileTold refuse tell l x a → x ≡ refuse r
-unfolding Permitted
-button-refused refuse tell l x r (Admission.Refused w) q j e = let z : _≡_ {A = ℕ} 0 1 = cc in absurd (omega arith)
-button-refused refuse tell l x r Admission.Admitted q j (a, p, e) = let b = rw j at p in e ∙ rw b
-
--- Whether a buffer and a file are taken: the buffer is looked at first.
-abbrev taken : List ℕ → List ℕ → Admission
-taken file buffer = cond (ltb (length buffer) reportBytes) (Admission.Refused (refusal 30 (length buffer))) (fileRead file .admission)
-
 -- The exported call has one permitted result, number and buffer, for every file and buffer.
 pub one-export : (file buffer : List ℕ) (e f : Exported) → Checked file buffer e → Checked file buffer f → e ≡ f
 one-export file buffer e f = told-once (λ r. refused r buffer) (λ s. written s buffer) (fileRead file) e f (taken file buffer)
@@ -150,45 +112,14 @@ one-export file buffer e f = told-once (λ r. refused r buffer) (λ s. written s
 pub some-export : (file buffer : List ℕ) → (e : Exported) × Checked file buffer e
 some-export file buffer = told-some (λ r. refused r buffer) (λ s. written s buffer) (fileRead file) (taken file buffer)
 
--- What is returned and left is that of the report on the permitted answer.
-abbrev pub Reported : Contents → List ℕ → Exported → Type 0
-Reported l buffer e = (a : Answer) × (v : Verdict) × Permitted (l .table) (l .budget) a × (a .outcome ≡ Outcome.Tested v) × (e ≡ written (reportOf (l .table .count) (quickPass (l .table)) a v) buffer) × (length (reportOf (l .table .count) (quickPass (l .table)) a v) ≤ reportBytes)
-
-outcome-apart : (l : Contents) (buffer : List ℕ) (a : Answer) → Permitted (l .table) (l .budget) a → (o : Outcome) → a .outcome ≡ o → Fitting (l .table .count) (quickPass (l .table)) a o → Apart (Reported l buffer) buffer (outcomeTold (λ r. refused r buffer) (λ s. written s buffer) (l .table .count) (quickPass (l .table)) a o)
-outcome-apart l buffer a p (Outcome.Refused r) q h = inr (r, refl, h)
-outcome-apart l buffer a p (Outcome.Tested v) q h = inl (a, v, p, q, refl, h)
-
-told-apart : (buffer : List ℕ) (l : Contents) (e : Exported) (a : Admission) → AdmissionTellable a → FileTold (λ r. refused r buffer) (λ s. written s buffer) l e a → Apart (Reported l buffer) buffer e
-told-apart buffer l e (Admission.Refused r) h q = inr (r, q, h)
-told-apart buffer l e Admission.Admitted h (a, p, q) = rw q (outcome-apart l buffer a p (a .outcome) refl (permitted-fits (l .table) (l .budget) (quickPass (l .table)) a p))
-
 -- The exported call writes the report on the permitted answer, of at most `reportBytes`, and returns its length, or it refuses by a
 -- number above 0 and a place below 65,536 and changes no byte.
 pub report-or-refusal : (file buffer : List ℕ) (e : Exported) → Checked file buffer e → Reported (fileRead file) buffer e ⊎ ((r : Refusal) × (e ≡ refused r buffer) × ((0 < r .number) × (r .place < 65536)))
-report-or-refusal file buffer e = told-apart buffer (fileRead file) e (taken file buffer) (tellable (ltb (length buffer) reportBytes) refl)
-  where
-    tellable : (short : Bool) → ltb (length buffer) reportBytes ≡ short → AdmissionTellable (cond short (Admission.Refused (refusal 30 (length buffer))) (fileRead file .admission))
-    tellable true q = (omega arith, omega (arith, ltb-true (length buffer) reportBytes q))
-    tellable false q = read-tellable file
+report-or-refusal = reported-or-refused
 
 -- It reports on every file that is read and has no button, if the buffer is not short.
 pub reported-export : (file buffer : List ℕ) (e : Exported) → ltb (length buffer) reportBytes ≡ false → periodicFrom file .admission ≡ Admission.Admitted → Checked file buffer e → Reported (fileRead file) buffer e
-reported-export file buffer e long good = told (taken file buffer) (rw long (periodic-read file good .0))
-  where
-    l : Contents
-    l = fileRead file
-
-    tested : (a : Answer) → Permitted (l .table) (l .budget) a → a .outcome ≡ Outcome.Tested (verdict (l .table) (l .budget))
-    tested a p = let (read, same, (m, well)) = periodic-read file good in answer-exactly (l .table) m well (l .budget) a p .outcome
-
-    report : (a : Answer) (v : Verdict) → Permitted (l .table) (l .budget) a → a .outcome ≡ Outcome.Tested v → e ≡ outcomeTold (λ r. refused r buffer) (λ s. written s buffer) (l .table .count) (quickPass (l .table)) a (a .outcome) → Reported l buffer e
-    report a v p o q =
-        let fit : Fitting (l .table .count) (quickPass (l .table)) a (Outcome.Tested v) = subst (Fitting (l .table .count) (quickPass (l .table)) a) o (permitted-fits (l .table) (l .budget) (quickPass (l .table)) a p) in
-        (a, v, p, o, q ∙ ap (outcomeTold (λ r. refused r buffer) (λ s. written s buffer) (l .table .count) (quickPass (l .table)) a) o, fit)
-
-    told : (a : Admission) → a ≡ Admission.Admitted → FileTold (λ r. refused r buffer) (λ s. written s buffer) l e a → Reported l buffer e
-    told (Admission.Refused r) q h = let z : _≡_ {A = ℕ} 0 1 = cc in absurd (omega arith)
-    told Admission.Admitted q (a, p, h) = report a _ p (tested a p) h
+reported-export = reported
 
 -- What an exported call returns of such a refusal tells its number and its place.
 pub told-from-number : (r : Refusal) (buffer : List ℕ) → r .place < 65536 → (refused r buffer .number / 65536 ≡ r .number) × (refused r buffer .number % 65536 ≡ r .place)
@@ -347,13 +278,4 @@ taken-next t m d done well waits lefts gives each ran =
 
 -- A refused step hands the state back as it came.
 pub refused-step : (t : Table) (d : State) (done : Bool) (r : Refusal) → stepped t d done .answer ≡ SlotAnswer.Refused r → stepped t d done .state ≡ d
-unfolding stepped
-refused-step t d done r = go (stateAdmitted t d)
-  where
-    test : (full : Bool) (x y : model.Stepped) → x .state ≡ d → (y .answer ≡ SlotAnswer.Refused r → ⊥) → cond full x y .answer ≡ SlotAnswer.Refused r → cond full x y .state ≡ d
-    test true x y p n e = p
-    test false x y p n e = absurd (n e)
-
-    go : (a : Admission) → stepAdmitted t d done a .answer ≡ SlotAnswer.Refused r → stepAdmitted t d done a .state ≡ d
-    go (Admission.Refused w) e = refl
-    go Admission.Admitted e = test (eqb (slotCount t d) slotCountLimit) _ _ refl (λ q. let z : _≡_ {A = ℕ} 0 1 = cc in absurd (omega arith)) e
+refused-step = refused-stays

@@ -1,7 +1,7 @@
 -- DEMAND 2: the test passes a table exactly when some schedule is good for all time; else overload, or the first late deadline
 -- with its shortest interval; with exact worst responses; a short budget gives undecided and a longer one alters no other verdict.
 -- What asks for a well-formed table says so: `judged t ≡ Judgement.WellFormed m`.
-use mathlib.Core.Path.{_≡_, refl, sym, ap, subst, _∙_}
+use mathlib.Core.Path.{_≡_, ap, _∙_}
 use native.Mathlib.Omega.{arith}
 use mathlib.Core.Logic.{_↔_, _⊎_, _≢_}
 use Prim.Native.Nat.{ℕ, _≤_, _<_}
@@ -20,12 +20,11 @@ use Rattle.model.specs.Demand.{demand, asksTooMuch, lateAt}
 use Rattle.model.specs.Schedule.{none, job, Schedule, given, Good}
 use Rattle.model.specs.Run.{Order, tieOrder, run}
 use Rattle.model.specs.Idle.{firstIdle}
-use Rattle.model.specs.Verdict.{needed, lateStart, verdict, settledBy, Worsts, Answers, PermittedBy, Permitted}
+use Rattle.model.specs.Verdict.{needed, lateStart, verdict, settledBy, Worsts, Permitted}
 use Rattle.wellformed.specs.WellFormed.{well-formed}
 use Rattle.backlog.specs.Sufficient.{sufficient}
-use Rattle.backlog.specs.Needed.{needed-le, needed-is, none-before, none-within}
-use Rattle.backlog.specs.LateStart.{start-asks, start-largest}
-use Rattle.backlog.specs.Verdicts.{is-overload, is-undecided, is-late, is-passed, overload-iff, undecided-iff, late-needed, passes-needed-iff}
+use Rattle.backlog.specs.Needed.{needed-le, needed-is, none-within}
+use Rattle.backlog.specs.Verdicts.{is-overload, is-undecided, is-late, is-passed, overload-iff, undecided-iff, passes-needed-iff}
 use Rattle.backlog.specs.Longer.{longer}
 use Rattle.backlog.specs.RunRule.{run-rule}
 use Rattle.backlog.specs.Worst.{worst-range}
@@ -36,6 +35,9 @@ use Rattle.backlog.specs.Unique.{permitted-unique}
 use Rattle.backlog.specs.AnswersSay.{answers-say}
 use Rattle.patterns.specs.IdleInstants.{idle-iff}
 use Rattle.patterns.specs.FirstIdle.{passed-idle}
+use Rattle.telling.specs.Late.{late-named}
+use Rattle.telling.specs.Passed.{passing}
+use Rattle.telling.specs.Longer.{still-permitted}
 
 module _ (t : Table) (m : Measure) (well : judged t ≡ Judgement.WellFormed m) where
   -- With a budget that reaches the horizon it passes exactly if some schedule is good.
@@ -88,18 +90,8 @@ pub record LateRight (t : Table) (from to asked : ℕ) : Type 0 where
 
 pub late-exactly : (t : Table) (budget from to asked : ℕ) → verdict t budget ≡ Verdict.Late from to asked → LateRight t from to asked × (settledBy t budget ≡ to)
 late-exactly t budget from to asked e =
-    let (l, q, n) = late-needed t budget from to asked e in
-    let f : lateStart t (needed t) ≡ from = cc in
-    let k : needed t ≡ to = cc in
-    let d : demand t (lateStart t (needed t)) (needed t) ≡ asked = cc in (
-      record {
-        smallest = (subst (λ (u : ℕ). T (lateAt t u)) k l, λ u m h. none-before t u (omega arith) h);
-        asks = subst (λ (x : ℕ). T (asksTooMuch t x to)) f (subst (λ (u : ℕ). T (asksTooMuch t (lateStart t (needed t)) u)) k (start-asks t (needed t) l));
-        largest-start = λ later m h. start-largest t (needed t) later (omega arith) (subst (λ (u : ℕ). T (asksTooMuch t later u)) (sym k) h);
-        demands = sym d ∙ rw (f, k);
-      },
-      n ∙ k,
-    )
+    let (least, asks, largest, demands, settled) = late-named t budget from to asked e in
+    (record { smallest = least; asks = asks; largest-start = largest; demands = demands }, settled)
 
 -- And it is said wherever there is one within the horizon and the budget, and no overload.
 pub late-said : (t : Table) (budget to : ℕ) → load t ≤ round t → Least (λ u. T (lateAt t u)) to → to ≤ horizon t → to ≤ budget → verdict t budget ≡ Verdict.Late (lateStart t to) to (demand t (lateStart t to) to)
@@ -121,19 +113,8 @@ answer-exactly t m well budget a h =
     record { outcome = o; said = ap outcomeSaid o; settled = s; measures = k }
 
 -- The worst responses of a passing answer are exact, for all jobs for ever, and its idle instant is the run's first after 0.
-answered : (t : Table) (budget : ℕ) (m : Measure) (a : Answer) (v : Verdict) → Answers t budget m a v → a .outcome ≡ Outcome.Tested Verdict.Passes → (v ≡ Verdict.Passes) × Worsts t (a .worst) × (a .idle ≡ firstIdle t (tieOrder t))
-answered t budget m a Verdict.Passes (w, p, e) o = let q : a .worst ≡ w = ap (λ (x : Answer). x .worst) e in (refl, subst (Worsts t) (sym q) p, ap (λ (x : Answer). x .idle) e)
-answered t budget m a Verdict.Overload e o = let z : _≡_ {A = ℕ} 0 1 = cc (ap (λ (x : Answer). x .outcome) e) in absurd (omega arith)
-answered t budget m a (Verdict.Late f k d) e o = let z : _≡_ {A = ℕ} 0 1 = cc (ap (λ (x : Answer). x .outcome) e) in absurd (omega arith)
-answered t budget m a Verdict.Undecided e o = let z : _≡_ {A = ℕ} 0 1 = cc (ap (λ (x : Answer). x .outcome) e) in absurd (omega arith)
-
-judged-passed : (t : Table) (budget : ℕ) (a : Answer) (j : Judgement) → PermittedBy t budget a j → a .outcome ≡ Outcome.Tested Verdict.Passes → (verdict t budget ≡ Verdict.Passes) × Worsts t (a .worst) × (a .idle ≡ firstIdle t (tieOrder t))
-judged-passed t budget a (Judgement.Refused r) e o = let z : _≡_ {A = ℕ} 0 1 = cc (ap (λ (x : Answer). x .outcome) e) in absurd (omega arith)
-judged-passed t budget a (Judgement.WellFormed m) h o = answered t budget m a (verdict t budget) h o
-
 pub passed-exactly : (t : Table) (budget : ℕ) (a : Answer) → Permitted t budget a → a .outcome ≡ Outcome.Tested Verdict.Passes → (verdict t budget ≡ Verdict.Passes) × Worsts t (a .worst) × (a .idle ≡ firstIdle t (tieOrder t))
-unfolding Permitted
-passed-exactly t budget a = judged-passed t budget a (judged t)
+passed-exactly t budget a p o = passing t budget a o p
 
 -- By u every job that was released strictly before u is finished. A job that is released at u does not matter.
 abbrev AllFinished : Table → ℕ → Type 0
@@ -155,21 +136,8 @@ worst-by-deadline t m well budget a p o i l =
     worst-range (tieSystem t r) (met-of-passed t r budget v _) i l (getD (a .worst) i 0) (w .worst i l)
 
 -- A longer budget alters no answer but undecided.
-longer-answers : (t : Table) (budget more : ℕ) (m : Measure) (a : Answer) (v : Verdict) → settledBy t more ≡ settledBy t budget → Answers t budget m a v → Answers t more m a v
-longer-answers t budget more m a Verdict.Passes s (w, p, e) = (w, p, rw s e)
-longer-answers t budget more m a Verdict.Overload s e = rw s e
-longer-answers t budget more m a (Verdict.Late f k d) s e = rw s e
-longer-answers t budget more m a Verdict.Undecided s e = rw s e
-
-longer-judged : (t : Table) (budget more : ℕ) (a : Answer) (j : Judgement) → budget ≤ more → a .outcome ≢ Outcome.Tested Verdict.Undecided → PermittedBy t budget a j → PermittedBy t more a j
-longer-judged t budget more a (Judgement.Refused r) l u h = h
-longer-judged t budget more a (Judgement.WellFormed m) l u h =
-    let (v, s) = longer t budget more l (λ e. u (answers-say t budget m a (verdict t budget) h .0 ∙ ap Outcome.Tested e)) in
-    subst (Answers t more m a) (sym v) (longer-answers t budget more m a (verdict t budget) s h)
-
 pub longer-same-answer : (t : Table) (budget more : ℕ) (a b : Answer) → budget ≤ more → a .outcome ≢ Outcome.Tested Verdict.Undecided → Permitted t budget a → Permitted t more b → a ≡ b
-unfolding Permitted
-longer-same-answer t budget more a b l u p = permitted-unique t more a b (longer-judged t budget more a (judged t) l u p)
+longer-same-answer t budget more a b l u p = permitted-unique t more a b (still-permitted t budget more a l u p)
 
 -- The run that the responses are taken from is that of section 3.3 of the specification: each slot goes to the released, unfinished job with
 -- the earliest deadline, ties to the shorter period and then to the lower task number, and to none only if no such job is there.

@@ -28,7 +28,7 @@ use Rattle.model.specs.Report.{Exported, refusalNumber, refused}
 use Rattle.model.specs.StateBuffer.{onFile}
 use Rattle.model.specs.Log as model
 use Rattle.model.specs.Log.{readAll, atEnd, miscounted, logAdmitted, logStarted, fed, logFinished, feeds, logJudged}
-use Rattle.model.specs.LogMeaning.{Final, Begins, Found, good}
+use Rattle.model.specs.LogMeaning.{Final, Begins, Found}
 use Rattle.model.specs.LogBuffer.{logBytes, answerNumber, logBufferOf, logIn, logStartExported, logFeedExported, logFinishExported, judgedIn}
 use Rattle.tablefile.specs.Admitted.{periodic-for}
 use Rattle.logbook.specs.declared.Log.{Log}
@@ -38,6 +38,7 @@ use Rattle.logbook.specs.Fits.{Sized}
 use Rattle.logbook.specs.Cuts as cuts
 use Rattle.logbook.specs.Answers as answers
 use Rattle.logbuffer.specs.Judging as judging
+use Rattle.telling.specs.GoodLogs.{good-written}
 use Rattle.promises.specs.Demand3.{all-in-time}
 
 -- Starting, feeding and finishing have one permitted result each, for every table, log and piece.
@@ -98,10 +99,9 @@ module _ (t : Table) (m : Measure) (well : judged t ≡ Judgement.WellFormed m) 
   -- response ends within these slots was finished by then. The report after the last slot, which step n would be given, counts.
   pub good-in-time : (budget : ℕ) (a : Answer) → Permitted t budget a → a .outcome ≡ Outcome.Tested Verdict.Passes → (pieces : List (List ℕ)) → logJudged t pieces .log .found ≡ Finding.Good
       → (n : ℕ) × (b : Begins t (flatten pieces) n (19 ∷ [])) × ((i j : ℕ) → i < t .count → release (task t i) j + getD (a .worst) i 0 ≤ n → Finished t (b .done) i j (release (task t i) j + getD (a .worst) i 0))
-  good-in-time budget a answer pass pieces e = go (each-answer pieces Finding.Good .0 e)
-    where
-      go : Found t (flatten pieces) Finding.Good → (n : ℕ) × (b : Begins t (flatten pieces) n (19 ∷ [])) × ((i j : ℕ) → i < t .count → release (task t i) j + getD (a .worst) i 0 ≤ n → Finished t (b .done) i j (release (task t i) j + getD (a .worst) i 0))
-      go (good {n} b h) = (n, b, λ i j l w. all-in-time t m well (b .done) budget a answer pass i j l)
+  good-in-time budget a answer pass pieces e =
+      let (n, b) = good-written t (flatten pieces) (each-answer pieces Finding.Good .0 e) in
+      (n, b, λ i j l w. all-in-time t m well (b .done) budget a answer pass i j l)
 
 -- The exported calls: one permitted result each, for every file, buffer and piece.
 pub one-exported-log-start : (file buffer : List ℕ) (a b : Exported) → a ≡ logStartExported file buffer → b ≡ logStartExported file buffer → a ≡ b

@@ -4,12 +4,11 @@ use mathlib.Core.Path.{_≡_, ap}
 use mathlib.Core.Logic.{_↔_}
 use mathlib.Core.Bool.{Bool, cond, not, _&&_, _||_}
 use Prim.Native.Nat.{ℕ}
-use native.Mathlib.Nat.{le-refl}
 use Rattle.values.specs.declared.Table.{Table}
 use Rattle.values.specs.declared.Measure.{Measure}
 use Rattle.values.specs.declared.Judgement.{Judgement}
 use Rattle.model.specs.Notation.{some, every}
-use Rattle.model.specs.Tasks.{task, isButton, horizon, judgedMixed, judged}
+use Rattle.model.specs.Tasks.{task, isButton, judgedMixed, judged}
 use Rattle.model.specs.Schedule.{Good}
 use Rattle.model.specs.Run.{Order, run}
 use Rattle.model.specs.Idle.{idleAt, firstIdle, missedAt}
@@ -21,7 +20,7 @@ use Rattle.patterns.specs.Missed.{missed-any-order}
 use Rattle.patterns.specs.Calm.{calm-any-order}
 use Rattle.patterns.specs.Quick.{simultaneous-ranged}
 use Rattle.patterns.specs.DistancePass.{patterns-any-order}
-use Rattle.promises.specs.Demand2.{passes-exactly, run-is-good}
+use Rattle.telling.specs.AnyOrder.{good-any-order}
 
 -- Alike in two orders of a table's tasks: whether the run is good, whether it has missed a deadline by u, whether u is idle, and the first idle instant.
 pub record Alike (t : Table) (rank other : Order) : Type 0 where
@@ -31,14 +30,11 @@ pub record Alike (t : Table) (rank other : Order) : Type 0 where
   pub first-idle : firstIdle t rank ≡ firstIdle t other
 
 module _ (t : Table) (m : Measure) (well : judged t ≡ Judgement.WellFormed m) where
-  good-any-order : (rank other : Order) → Good t (run t rank) → Good t (run t other)
-  good-any-order rank other g = run-is-good t m well (horizon t) (passes-exactly t m well (horizon t) (le-refl (horizon t)) .1 (run t rank, g)) other
-
   pub ties-alter-nothing-else : (rank other : Order) → Alike t rank other
   ties-alter-nothing-else rank other =
       let r = well-formed t m well .ranged in
       record {
-        good = (good-any-order rank other, good-any-order other rank);
+        good = (good-any-order t r rank other, good-any-order t r other rank);
         missed = missed-any-order t r rank other;
         idle = idle-any-order t r rank other;
         first-idle = first-any-order t r rank other;
