@@ -1,7 +1,7 @@
 -- DEMAND 1: each bad input is refused by number and place and changes nothing, and every call has one permitted result.
--- That no call traps or runs on is what being proved means, and is not said again. Each contract is an equation with, or a
--- permission by, the model's own word, for every input; so the theorems here speak of these words (`one-start`
--- and `one-step` of dispatch's too, `record-read`, `written-is-read` and `read-was-written` of tablefile's).
+-- That no call traps or runs on is what being proved means, and is not said again. Each contract is an equation with,
+-- or a permission by, the model's own word, for every input; so the theorems here speak of these words (`one-start` and
+-- `one-step` of dispatch's too, `record-read`, `written-is-read` and `read-was-written` of tablefile's).
 use mathlib.Core.Path.{_≡_, refl, sym, ap, subst, _∙_}
 use mathlib.Core.Logic.{_↔_, _⊎_, inl, inr}
 use mathlib.Core.List.{List, [], _∷_}
@@ -21,12 +21,15 @@ use Rattle.values.specs.declared.Admission.{Admission}
 use Rattle.values.specs.declared.SlotAnswer.{SlotAnswer}
 use Rattle.values.specs.declared.Answer.{Answer}
 use Rattle.values.specs.declared.Contents.{Contents}
-use Rattle.model.specs.Limits.{taskLimit, slotCountLimit, sumPlace, roundLimit, reportBytes, budgetLimit, budgetBytes, taskBytes, buttonBytes, longestFile}
+use Rattle.model.specs.Limits.{taskLimit, slotCountLimit, sumPlace, roundLimit, reportBytes, budgetLimit, budgetBytes}
+use Rattle.model.specs.Limits.{taskBytes, buttonBytes, longestFile}
 use Rattle.model.specs.Values.{refusal, refusalSaid, judgementSaid, admissionSaid, slotSaid, outcomeSaid}
 use Rattle.model.specs.Tasks.{task, isButton, round, measure, judgedMixed, judged, load, horizon}
 use Rattle.model.specs.Verdict.{brief, Permitted}
-use Rattle.model.specs.TableFile.{budgetKind, eight, admit, taskRecord, taskRecords, fileOf, formOf, fileRead, periodicFrom}
-use Rattle.model.specs.Dispatcher.{State, slotCount, firstStrange, lastStrange, admitted as stateAdmitted, turn, after, started, stepped, isLate, ownerNow}
+use Rattle.model.specs.TableFile.{budgetKind, eight, admit, taskRecord, taskRecords, fileOf, formOf, fileRead}
+use Rattle.model.specs.TableFile.{periodicFrom}
+use Rattle.model.specs.Dispatcher.{State, slotCount, firstStrange, lastStrange, admitted as stateAdmitted, turn, after}
+use Rattle.model.specs.Dispatcher.{started, stepped, isLate, ownerNow}
 use Rattle.dispatch.specs.declared.Dispatcher.{Dispatcher}
 use Rattle.dispatch.specs.declared.Started.{Started}
 use Rattle.dispatch.specs.declared.Stepped.{Stepped}
@@ -54,7 +57,8 @@ use Rattle.telling.specs.FileTold.{told-once, told-some, told-refused, button-r
 use Rattle.telling.specs.Reported.{taken, reported-or-refused, reported}
 use Rattle.telling.specs.Steps.{refused-stays}
 
--- Judging a table, reading a file's form, reading it, starting and stepping have one permitted result each, for every input.
+-- Judging a table, reading a file's form, reading it,
+-- starting and stepping have one permitted result each, for every input.
 pub one-judgement : (t : Table) (a b : Judgement) → a ≡ judged t → b ≡ judged t → a ≡ b
 one-judgement t a b e f = e ∙ sym f
 
@@ -73,29 +77,38 @@ one-periodic-reading file a b e f = e ∙ sym f
 pub one-start : (t : Table) (a b : Started) → startedOf a ≡ started t → startedOf b ≡ started t → a ≡ b
 one-start t a b e f = one-started a b (e ∙ sym f)
 
-pub one-step : (t : Table) (d : Dispatcher) (done : Bool) (a b : Stepped) → steppedOf a ≡ stepped t (stateOf d) done → steppedOf b ≡ stepped t (stateOf d) done → a ≡ b
+pub one-step : (t : Table) (d : Dispatcher) (done : Bool) (a b : Stepped)
+    → steppedOf a ≡ stepped t (stateOf d) done → steppedOf b ≡ stepped t (stateOf d) done → a ≡ b
 one-step t d done a b e f = one-stepped a b (e ∙ sym f)
 
--- A table is well-formed exactly if it has 1 to `taskLimit` tasks, each of them keeps its ranges, and H keeps its limit.
-pub well-formed-exactly : (t : Table) (m : Measure) → (judgedMixed t ≡ Judgement.WellFormed m) ↔ (KeepsRanges t × (round t ≤ roundLimit) × (m ≡ measure t))
+-- A table is well-formed exactly if it keeps its ranges (it has 1 to `taskLimit` tasks,
+-- each `InRanges`), and H its limit.
+pub well-formed-exactly : (t : Table) (m : Measure)
+    → (judgedMixed t ≡ Judgement.WellFormed m) ↔ (KeepsRanges t × (round t ≤ roundLimit) × (m ≡ measure t))
 well-formed-exactly t m = (
   λ e. let (r, h, same) = mixed-iff t m .0 e in (ranges-iff t .1 r, h, same),
   λ (keeps, h, same). mixed-iff t m .1 (ranges-iff t .0 keeps, h, same),
 )
 
 -- Where only periodic tasks are allowed, it must also have no button.
-pub periodic-exactly : (t : Table) (m : Measure) → (judged t ≡ Judgement.WellFormed m) ↔ ((judgedMixed t ≡ Judgement.WellFormed m) × ((i : ℕ) → i < t .count → isButton (task t i) ≡ false))
+pub periodic-exactly : (t : Table) (m : Measure)
+    → (judged t ≡ Judgement.WellFormed m)
+    ↔ ((judgedMixed t ≡ Judgement.WellFormed m) × ((i : ℕ) → i < t .count → isButton (task t i) ≡ false))
 periodic-exactly = periodic-iff
 
 -- Either judge then says 0 with H, load and horizon.
-pub well-formed-said : (t : Table) (m : Measure) → judged t ≡ Judgement.WellFormed m → judgementSaid (judged t) ≡ 0 ∷ round t ∷ load t ∷ horizon t ∷ []
+pub well-formed-said : (t : Table) (m : Measure) → judged t ≡ Judgement.WellFormed m
+    → judgementSaid (judged t) ≡ 0 ∷ round t ∷ load t ∷ horizon t ∷ []
 well-formed-said t m e = let (r, h, same, none) = judged-iff t m .0 e in rw (e, same) refl
 
-pub well-mixed-said : (t : Table) (m : Measure) → judgedMixed t ≡ Judgement.WellFormed m → judgementSaid (judgedMixed t) ≡ 0 ∷ round t ∷ load t ∷ horizon t ∷ []
+pub well-mixed-said : (t : Table) (m : Measure) → judgedMixed t ≡ Judgement.WellFormed m
+    → judgementSaid (judgedMixed t) ≡ 0 ∷ round t ∷ load t ∷ horizon t ∷ []
 well-mixed-said t m e = let (r, h, same) = mixed-iff t m .0 e in rw (e, same) refl
 
 -- H of a table that keeps its ranges, refused by 7 or not, is the least number above 0 that each period divides.
-pub round-is-least : (t : Table) → KeepsRanges t → (0 < round t) × ((i : ℕ) → i < t .count → task t i .period ∣ round t) × ((x : ℕ) → 0 < x → ((i : ℕ) → i < t .count → task t i .period ∣ x) → round t ≤ x)
+pub round-is-least : (t : Table) → KeepsRanges t
+    → (0 < round t) × ((i : ℕ) → i < t .count → task t i .period ∣ round t)
+    × ((x : ℕ) → 0 < x → ((i : ℕ) → i < t .count → task t i .period ∣ x) → round t ≤ x)
 round-is-least t keeps = let r = ranges-iff t .0 keeps in (round-pos t r, period-divides t r, round-least t r)
 
 -- The exact test has one permitted answer to every table and budget.
@@ -107,22 +120,27 @@ some-answer t budget = (answerOf t budget, computed t budget)
 
 -- The exported call has one permitted result, number and buffer, for every file and buffer.
 pub one-export : (file buffer : List ℕ) (e f : Exported) → Checked file buffer e → Checked file buffer f → e ≡ f
-one-export file buffer e f = told-once (λ r. refused r buffer) (λ s. written s buffer) (fileRead file) e f (taken file buffer)
+one-export file buffer e f =
+    told-once (λ r. refused r buffer) (λ s. written s buffer) (fileRead file) e f (taken file buffer)
 
 pub some-export : (file buffer : List ℕ) → (e : Exported) × Checked file buffer e
 some-export file buffer = told-some (λ r. refused r buffer) (λ s. written s buffer) (fileRead file) (taken file buffer)
 
--- The exported call writes the report on the permitted answer, of at most `reportBytes`, and returns its length, or it refuses by a
--- number above 0 and a place below 65,536 and changes no byte.
-pub report-or-refusal : (file buffer : List ℕ) (e : Exported) → Checked file buffer e → Reported (fileRead file) buffer e ⊎ ((r : Refusal) × (e ≡ refused r buffer) × ((0 < r .number) × (r .place < 65536)))
+-- The exported call writes the report on the permitted answer (`Reported`), of at most `reportBytes`,
+-- and returns its length, or it refuses by a number above 0 and a place below 65,536 and changes no byte.
+pub report-or-refusal : (file buffer : List ℕ) (e : Exported) → Checked file buffer e
+    → Reported (fileRead file) buffer e
+    ⊎ ((r : Refusal) × (e ≡ refused r buffer) × ((0 < r .number) × (r .place < 65536)))
 report-or-refusal = reported-or-refused
 
 -- It reports on every file that is read and has no button, if the buffer is not short.
-pub reported-export : (file buffer : List ℕ) (e : Exported) → ltb (length buffer) reportBytes ≡ false → periodicFrom file .admission ≡ Admission.Admitted → Checked file buffer e → Reported (fileRead file) buffer e
+pub reported-export : (file buffer : List ℕ) (e : Exported) → ltb (length buffer) reportBytes ≡ false
+    → periodicFrom file .admission ≡ Admission.Admitted → Checked file buffer e → Reported (fileRead file) buffer e
 reported-export = reported
 
 -- What an exported call returns of such a refusal tells its number and its place.
-pub told-from-number : (r : Refusal) (buffer : List ℕ) → r .place < 65536 → (refused r buffer .number / 65536 ≡ r .number) × (refused r buffer .number % 65536 ≡ r .place)
+pub told-from-number : (r : Refusal) (buffer : List ℕ) → r .place < 65536
+    → (refused r buffer .number / 65536 ≡ r .number) × (refused r buffer .number % 65536 ≡ r .place)
 told-from-number r buffer h = (omega arith, omega arith)
 
 -- The program too has one permitted output for every input.
@@ -137,35 +155,47 @@ pub whole-input : (input out : List ℕ) → Printed (take (suc longestFile) inp
 whole-input input out = subst (λ (l : Contents). FileTold refusalLine (λ s. s) l out (l .admission)) (first-bytes input)
 
 -- Nor does what the calls read of a file, its form and its table, depend on any byte behind these.
-pub whole-file : (file : List ℕ) → (formOf (take (suc longestFile) file) ≡ formOf file) × (fileRead (take (suc longestFile) file) ≡ fileRead file)
+pub whole-file : (file : List ℕ)
+    → (formOf (take (suc longestFile) file) ≡ formOf file) × (fileRead (take (suc longestFile) file) ≡ fileRead file)
 whole-file file = (first-form file, first-bytes file)
 
 -- A file is read exactly if its form is good and its table well-formed, and is then as its form has it.
-pub read-exactly : (file : List ℕ) → (fileRead file .admission ≡ Admission.Admitted) ↔ ((formOf file .admission ≡ Admission.Admitted) × ((m : Measure) × (judgedMixed (formOf file .table) ≡ Judgement.WellFormed m)))
+pub read-exactly : (file : List ℕ)
+    → (fileRead file .admission ≡ Admission.Admitted)
+    ↔ ((formOf file .admission ≡ Admission.Admitted)
+    × ((m : Measure) × (judgedMixed (formOf file .table) ≡ Judgement.WellFormed m)))
 unfolding fileRead
-read-exactly file = (λ h. let (same, well) = admitted file h in (ap (λ (l : Contents). l .admission) (sym same) ∙ h, well), λ (good, (m, well)). rw (good, well) refl)
+read-exactly file = (
+  λ h. let (same, well) = admitted file h in (ap (λ (l : Contents). l .admission) (sym same) ∙ h, well),
+  λ (good, (m, well)). rw (good, well) refl,
+)
 
 pub read-as-formed : (file : List ℕ) → fileRead file .admission ≡ Admission.Admitted → fileRead file ≡ formOf file
 read-as-formed file h = admitted file h .0
 
 -- A file that is read, and a start on a well-formed table, say 0.
-pub read-said : (file : List ℕ) (m : Measure) → formOf file .admission ≡ Admission.Admitted → judgedMixed (formOf file .table) ≡ Judgement.WellFormed m → admissionSaid (fileRead file .admission) ≡ 0 ∷ []
+pub read-said : (file : List ℕ) (m : Measure) → formOf file .admission ≡ Admission.Admitted
+    → judgedMixed (formOf file .table) ≡ Judgement.WellFormed m → admissionSaid (fileRead file .admission) ≡ 0 ∷ []
 read-said file m good well = ap admissionSaid (read-exactly file .1 (good, (m, well)))
 
-pub started-said : (t : Table) (m : Measure) → judged t ≡ Judgement.WellFormed m → admissionSaid (started t .admission) ≡ 0 ∷ []
+pub started-said : (t : Table) (m : Measure) → judged t ≡ Judgement.WellFormed m
+    → admissionSaid (started t .admission) ≡ 0 ∷ []
 unfolding started
 started-said t m well = rw well refl
 
--- The file of any budget of eight bytes above 0 and of at most `taskLimit` tasks, each number below 2^32, has a good form and holds these.
+-- The file of any budget of eight bytes above 0 and of at most `taskLimit` tasks, each number below 2^32,
+-- has a good form and holds these.
 pub written-is-read : (b : ℕ) (ks : List Task) → 0 < b → b < budgetLimit → AllFit ks → length ks ≤ taskLimit
     → formOf (fileOf b ks) ≡ admit b ks
 written-is-read = written-read
 
--- A list of bytes whose form is good is the file of its budget and of the tasks of its table: there is no other good form.
+-- A list of bytes whose form is good is the file of its budget and of the tasks of its table:
+-- there is no other good form.
 pub read-was-written : (file : List ℕ) → ((i : ℕ) → getD file i 0 < 256) → formOf file .admission ≡ Admission.Admitted
     → (0 < formOf file .budget)
     × (formOf file .budget < budgetLimit)
-    × ((ks : List Task) × (length ks ≤ taskLimit) × AllFit ks × (file ≡ fileOf (formOf file .budget) ks) × (formOf file ≡ admit (formOf file .budget) ks))
+    × ((ks : List Task) × (length ks ≤ taskLimit) × AllFit ks
+    × (file ≡ fileOf (formOf file .budget) ks) × (formOf file ≡ admit (formOf file .budget) ks))
 read-was-written = read-written
 
 -- A file that begins with a whole budget of 0 is refused by 27 at 0, whatever follows.
@@ -174,9 +204,11 @@ pub nothing-read : (file : List ℕ) → getD file 0 0 ≡ budgetKind → budget
 unfolding fileRead
 nothing-read file kind long none = rw (tablefile.nothing-read file kind long none) (refl, refl)
 
--- A file whose form is good has the bytes of a budget, of each task, by its sort, and of the end, and so no more than the longest legal file.
+-- A file whose form is good has the bytes of a budget, of each task, by its sort, and of the end,
+-- and so no more than the longest legal file.
 pub legal-length : (file : List ℕ) → formOf file .admission ≡ Admission.Admitted
-    → (ks : List Task) × (length ks ≤ taskLimit) × (formOf file ≡ admit (formOf file .budget) ks) × (length file ≡ budgetBytes + length (taskRecords ks) + 1) × (length file ≤ longestFile)
+    → (ks : List Task) × (length ks ≤ taskLimit) × (formOf file ≡ admit (formOf file .budget) ks)
+    × (length file ≡ budgetBytes + length (taskRecords ks) + 1) × (length file ≤ longestFile)
 legal-length file h =
     let (ks, few, same, size) = form-length file h in
     let whole = tablefile.file-length (formOf file .budget) ks in
@@ -186,54 +218,70 @@ pub record-bytes : (k : Task) → length (taskRecord k) ≡ cond (isButton k) bu
 record-bytes = tablefile.record-length
 
 -- A refused file, or one with a button, leaves the report buffer as it was.
-pub refused-export : (file buffer : List ℕ) (e : Exported) (r : Refusal) → ltb (length buffer) reportBytes ≡ false → periodicFrom file .admission ≡ Admission.Refused r → Checked file buffer e → e ≡ refused r buffer
+pub refused-export : (file buffer : List ℕ) (e : Exported) (r : Refusal) → ltb (length buffer) reportBytes ≡ false
+    → periodicFrom file .admission ≡ Admission.Refused r → Checked file buffer e → e ≡ refused r buffer
 refused-export file buffer e r long q checked = elim (periodic-refused file r q) [
-  | inl f ↦ told-refused (λ r. refused r buffer) (λ s. written s buffer) (fileRead file) e r (taken file buffer) (rw long f) checked
-  | inr (f, j) ↦ button-refused (λ r. refused r buffer) (λ s. written s buffer) (fileRead file) e r (taken file buffer) (rw long f) j checked
+  | inl f ↦ told-refused (λ r. refused r buffer) (λ s. written s buffer)
+      (fileRead file) e r (taken file buffer) (rw long f) checked
+  | inr (f, j) ↦ button-refused (λ r. refused r buffer) (λ s. written s buffer)
+      (fileRead file) e r (taken file buffer) (rw long f) j checked
 ]
 
 -- A short buffer is refused by 30 at its length, before the file is looked at, and stays as it was.
-pub short-buffer : (file buffer : List ℕ) (e : Exported) → ltb (length buffer) reportBytes ≡ true → Checked file buffer e → e ≡ refused (refusal 30 (length buffer)) buffer
-short-buffer file buffer e short = told-refused (λ r. refused r buffer) (λ s. written s buffer) (fileRead file) e (refusal 30 (length buffer)) (taken file buffer) (rw short)
+pub short-buffer : (file buffer : List ℕ) (e : Exported)
+    → ltb (length buffer) reportBytes ≡ true → Checked file buffer e → e ≡ refused (refusal 30 (length buffer)) buffer
+short-buffer file buffer e short =
+    told-refused (λ r. refused r buffer) (λ s. written s buffer)
+    (fileRead file) e (refusal 30 (length buffer)) (taken file buffer) (rw short)
 
 -- The refusal of a table is handed on as it is: by its judge, of a file whose form is good, by a start and by a step.
-pub refused-table : (t : Table) (r : Refusal) → judged t ≡ Judgement.Refused r → judgementSaid (judged t) ≡ refusalSaid r
+pub refused-table : (t : Table) (r : Refusal) → judged t ≡ Judgement.Refused r
+    → judgementSaid (judged t) ≡ refusalSaid r
 refused-table t r e = rw e refl
 
-pub refused-mixed-table : (t : Table) (r : Refusal) → judgedMixed t ≡ Judgement.Refused r → (judgementSaid (judgedMixed t) ≡ refusalSaid r) × (judgementSaid (judged t) ≡ refusalSaid r)
+pub refused-mixed-table : (t : Table) (r : Refusal) → judgedMixed t ≡ Judgement.Refused r
+    → (judgementSaid (judgedMixed t) ≡ refusalSaid r) × (judgementSaid (judged t) ≡ refusalSaid r)
 refused-mixed-table t r e = (rw e refl, rw (refused-both t r e) refl)
 
-pub refused-read : (file : List ℕ) (r : Refusal) → formOf file .admission ≡ Admission.Admitted → judgedMixed (formOf file .table) ≡ Judgement.Refused r → admissionSaid (fileRead file .admission) ≡ refusalSaid r
+pub refused-read : (file : List ℕ) (r : Refusal) → formOf file .admission ≡ Admission.Admitted
+    → judgedMixed (formOf file .table) ≡ Judgement.Refused r → admissionSaid (fileRead file .admission) ≡ refusalSaid r
 unfolding fileRead
 refused-read file r good e = rw (good, e) refl
 
-pub refused-start : (t : Table) (r : Refusal) → judged t ≡ Judgement.Refused r → admissionSaid (started t .admission) ≡ refusalSaid r
+pub refused-start : (t : Table) (r : Refusal) → judged t ≡ Judgement.Refused r
+    → admissionSaid (started t .admission) ≡ refusalSaid r
 unfolding started
 refused-start t r e = rw e refl
 
-pub refused-table-step : (t : Table) (d : State) (done : Bool) (r : Refusal) → judged t ≡ Judgement.Refused r → slotSaid (stepped t d done .answer) ≡ refusalSaid r
+pub refused-table-step : (t : Table) (d : State) (done : Bool) (r : Refusal)
+    → judged t ≡ Judgement.Refused r → slotSaid (stepped t d done .answer) ≡ refusalSaid r
 unfolding stepped stateAdmitted
 refused-table-step t d done r e = rw e refl
 
 -- A file whose form is bad is refused for it, whatever its table.
-pub refused-form : (file : List ℕ) (r : Refusal) → formOf file .admission ≡ Admission.Refused r → admissionSaid (fileRead file .admission) ≡ refusalSaid r
+pub refused-form : (file : List ℕ) (r : Refusal) → formOf file .admission ≡ Admission.Refused r
+    → admissionSaid (fileRead file .admission) ≡ refusalSaid r
 unfolding fileRead
 refused-form file r e = rw e refl
 
 -- A record that is read has the numbers that stand in the file: its kind byte, and those of its body.
-pub record-read : (s : List ℕ) (at n : ℕ) (k : Record) → readingAt s at n ≡ Reading.Whole k → recordSaid k ≡ numbersAt s at
+pub record-read : (s : List ℕ) (at n : ℕ) (k : Record)
+    → readingAt s at n ≡ Reading.Whole k → recordSaid k ≡ numbersAt s at
 record-read s at n k e = subst (Has (numbersAt s at)) e (record-said s at n)
 
 -- A table that is refused is refused by the test with the same number and place, and nothing else is told.
-pub refused-answer : (t : Table) (budget : ℕ) (r : Refusal) (a : Answer) → judged t ≡ Judgement.Refused r → Permitted t budget a → a ≡ brief (Outcome.Refused r) (record { round = 0; load = 0; horizon = 0 }) 0
+pub refused-answer : (t : Table) (budget : ℕ) (r : Refusal) (a : Answer) → judged t ≡ Judgement.Refused r
+    → Permitted t budget a → a ≡ brief (Outcome.Refused r) (record { round = 0; load = 0; horizon = 0 }) 0
 unfolding Permitted
 refused-answer t budget r a e p = rw e at p
 
-pub refused-answer-said : (t : Table) (budget : ℕ) (r : Refusal) (a : Answer) → judged t ≡ Judgement.Refused r → Permitted t budget a → outcomeSaid (a .outcome) ≡ refusalSaid r
+pub refused-answer-said : (t : Table) (budget : ℕ) (r : Refusal) (a : Answer)
+    → judged t ≡ Judgement.Refused r → Permitted t budget a → outcomeSaid (a .outcome) ≡ refusalSaid r
 refused-answer-said t budget r a e p = ap (λ (x : Answer). outcomeSaid (x .outcome)) (refused-answer t budget r a e p)
 
--- A state that does not belong to a well-formed table is refused by 8 with the first such task, with `taskLimit` for the last-run number, or
--- with `sumPlace` for more slots than can be counted; one that can count no slot more is refused by 9.
+-- A state that does not belong to a well-formed table is refused by 8 with the first such task,
+-- with `taskLimit` for the last-run number, or with `sumPlace` for more slots than can be counted;
+-- one that can count no slot more is refused by 9.
 module _ (t : Table) (m : Measure) (d : State) (done : Bool) (well : judged t ≡ Judgement.WellFormed m) where
   pub strange-state : firstStrange t d < t .count → slotSaid (stepped t d done .answer) ≡ 8 ∷ firstStrange t d ∷ []
   unfolding stepped stateAdmitted
@@ -244,32 +292,53 @@ module _ (t : Table) (m : Measure) (d : State) (done : Bool) (well : judged t �
     unfolding stepped stateAdmitted
     strange-last last = rw (well, le-ltb (firstStrange t d) (t .count) each, last) refl
 
-    pub strange-sum : lastStrange t d ≡ false → slotCountLimit < slotCount t d → slotSaid (stepped t d done .answer) ≡ 8 ∷ sumPlace ∷ []
+    pub strange-sum : lastStrange t d ≡ false → slotCountLimit < slotCount t d
+        → slotSaid (stepped t d done .answer) ≡ 8 ∷ sumPlace ∷ []
     unfolding stepped stateAdmitted
-    strange-sum last more = rw (well, le-ltb (firstStrange t d) (t .count) each, last, lt-ltb slotCountLimit (slotCount t d) more) refl
+    strange-sum last more =
+        rw (well, le-ltb (firstStrange t d) (t .count) each, last, lt-ltb slotCountLimit (slotCount t d) more) refl
 
-    pub full-state : lastStrange t d ≡ false → slotCount t d ≡ slotCountLimit → slotSaid (stepped t d done .answer) ≡ 9 ∷ 0 ∷ []
+    pub full-state : lastStrange t d ≡ false → slotCount t d ≡ slotCountLimit
+        → slotSaid (stepped t d done .answer) ≡ 9 ∷ 0 ∷ []
     unfolding stepped stateAdmitted
     full-state last full =
-        rw (well, le-ltb (firstStrange t d) (t .count) each, last, le-ltb slotCountLimit (slotCount t d) (omega arith), eq-eqb (slotCount t d) slotCountLimit full) refl
+        rw (
+          well,
+          le-ltb (firstStrange t d) (t .count) each,
+          last,
+          le-ltb slotCountLimit (slotCount t d) (omega arith),
+          eq-eqb (slotCount t d) slotCountLimit full,
+        ) refl
 
     -- Every other state is taken.
-    pub taken-state : lastStrange t d ≡ false → slotCount t d < slotCountLimit → stepped t d done ≡ record { answer = SlotAnswer.Slot (turn t d done); state = after t d done }
+    pub taken-state : lastStrange t d ≡ false → slotCount t d < slotCountLimit
+        → stepped t d done ≡ record { answer = SlotAnswer.Slot (turn t d done); state = after t d done }
     unfolding stepped stateAdmitted
     taken-state last room =
-        rw (well, le-ltb (firstStrange t d) (t .count) each, last, le-ltb slotCountLimit (slotCount t d) (omega arith), ne-eqb (slotCount t d) slotCountLimit (λ e. absurd (omega arith))) refl
+        rw (
+          well,
+          le-ltb (firstStrange t d) (t .count) each,
+          last,
+          le-ltb slotCountLimit (slotCount t d) (omega arith),
+          ne-eqb (slotCount t d) slotCountLimit (λ e. absurd (omega arith)),
+        ) refl
 
-    -- The answer is then 0 with the owner, the tasks closed late as a set of bits, how many, and the lowest of them or none.
+    -- The answer is then 0 with the owner, the tasks closed late as a set of bits, how many,
+    -- and the lowest of them or none.
     pub taken-said : lastStrange t d ≡ false → slotCount t d < slotCountLimit
-        → slotSaid (stepped t d done .answer) ≡ 0 ∷ ownerNow t d done ∷ bits (isLate t d done) taskLimit ∷ count (isLate t d done) taskLimit ∷ first (isLate t d done) 0 taskLimit ∷ []
+        → slotSaid (stepped t d done .answer) ≡ 0 ∷ ownerNow t d done ∷ bits (isLate t d done) taskLimit
+        ∷ count (isLate t d done) taskLimit ∷ first (isLate t d done) 0 taskLimit ∷ []
     unfolding turn
     taken-said last room = rw (taken-state last room) refl
 
--- A state that is taken leads to one that counts one slot more and that 8 does not refuse, whoever made it: once a step is not refused, none
--- after it is until no slot more can be counted. A state has `taskLimit` entries in each list.
+-- A state that is taken leads to one that counts one slot more and that 8 does not refuse, whoever made it: once a step
+-- is not refused, none after it is until no slot more can be counted. A state has `taskLimit` entries in each list.
 pub taken-next : (t : Table) (m : Measure) (d : State) (done : Bool) → judged t ≡ Judgement.WellFormed m
-    → length (d .wait) ≡ taskLimit → length (d .left) ≡ taskLimit → length (d .given) ≡ taskLimit → t .count ≤ firstStrange t d → lastStrange t d ≡ false
-    → let next = after t d done in (length (next .wait) ≡ taskLimit) × (length (next .left) ≡ taskLimit) × (length (next .given) ≡ taskLimit) × (t .count ≤ firstStrange t next) × (lastStrange t next ≡ false) × (slotCount t next ≡ slotCount t d + 1)
+    → length (d .wait) ≡ taskLimit → length (d .left) ≡ taskLimit
+    → length (d .given) ≡ taskLimit → t .count ≤ firstStrange t d → lastStrange t d ≡ false
+    → let next = after t d done in
+    (length (next .wait) ≡ taskLimit) × (length (next .left) ≡ taskLimit) × (length (next .given) ≡ taskLimit)
+    × (t .count ≤ firstStrange t next) × (lastStrange t next ≡ false) × (slotCount t next ≡ slotCount t d + 1)
 taken-next t m d done well waits lefts gives each ran =
     let r = judged-iff t m .0 well .0 in
     let belongs : Belongs t d = record { waits = waits; lefts = lefts; gives = gives; each = each; ran = ran } in
@@ -277,5 +346,6 @@ taken-next t m d done well waits lefts gives each ran =
     (b .waits, b .lefts, b .gives, b .each, b .ran, slots-after t r d done belongs)
 
 -- A refused step hands the state back as it came.
-pub refused-step : (t : Table) (d : State) (done : Bool) (r : Refusal) → stepped t d done .answer ≡ SlotAnswer.Refused r → stepped t d done .state ≡ d
+pub refused-step : (t : Table) (d : State) (done : Bool) (r : Refusal)
+    → stepped t d done .answer ≡ SlotAnswer.Refused r → stepped t d done .state ≡ d
 refused-step = refused-stays

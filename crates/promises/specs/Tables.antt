@@ -1,4 +1,5 @@
--- The specification's tables a to j, the budgets that it names, and the lamp (section 10): one statement over a list of them, by one computed test and a law.
+-- The specification's tables a to j, the budgets that it names, and the lamp (section 10):
+-- one statement over a list of them, by one computed test and a law.
 use mathlib.Core.Path.{_≡_, refl}
 use mathlib.Core.List.{List, [], _∷_, map}
 use Prim.Native.Nat.{ℕ}
@@ -16,7 +17,8 @@ use Rattle.model.specs.Idle.{idleAt, firstIdle}
 use Rattle.model.specs.Verdict.{needed, lateStart, verdict, settledBy, brief}
 use Rattle.model.specs.Dispatcher.{startOf, ownerNow, after}
 use Rattle.model.specs.History.{stateAt}
-use Rattle.model.specs.Examples.{padded, table-a, table-b, table-c, table-d, table-e, table-f, table-g, table-h, table-i, table-j, table-lamp}
+use Rattle.model.specs.Examples.{padded, table-a, table-b, table-c, table-d, table-e, table-f, table-g, table-h}
+use Rattle.model.specs.Examples.{table-i, table-j, table-lamp}
 use Rattle.backlog.specs.WalkWorst.{worstBy}
 use Rattle.backlog.specs.Computed.{answerOf}
 pub use Rattle.telling.specs.Rows.{Row, AllPermitted}
@@ -26,7 +28,8 @@ abbrev measured : ℕ → ℕ → ℕ → Measure
 measured round load horizon = record { round = round; load = load; horizon = horizon }
 
 abbrev passes : Measure → List ℕ → ℕ → Answer
-passes m worst idle = record { outcome = Outcome.Tested Verdict.Passes; measure = m; settled = m .horizon; worst = worst; idle = idle }
+passes m worst idle =
+    record { outcome = Outcome.Tested Verdict.Passes; measure = m; settled = m .horizon; worst = worst; idle = idle }
 
 abbrev told : Verdict → Measure → ℕ → Answer
 told v m settled = brief (Outcome.Tested v) m settled
@@ -55,12 +58,15 @@ rows =
 
 -- Every row's answer is the one permitted.
 pub tables-answered : AllPermitted rows
-unfolding answerOf judged judgedMixed firstButton firstFaulty taskFault first last round load horizon largest sum count verdict settledBy needed lateStart lateAt demand arrivedIn worstBy stateAt startOf after ownerNow choose fill firstIdle idleAt ownerOf served
+unfolding answerOf judged judgedMixed firstButton firstFaulty taskFault first last round load horizon
+    largest sum count verdict settledBy needed lateStart lateAt demand arrivedIn worstBy stateAt
+    startOf after ownerNow choose fill firstIdle idleAt ownerOf served
 tables-answered = all-permitted rows refl
 
 -- In the specification's numbers: 4 passes, 3 late with its interval and demand, 2 undecided, 1 overload.
 pub tables-said :
     map (λ r. outcomeSaid (r .answer .outcome)) rows
-    ≡ (4 ∷ []) ∷ (4 ∷ []) ∷ (3 ∷ 8 ∷ 15 ∷ 8 ∷ []) ∷ (3 ∷ 0 ∷ 7 ∷ 9 ∷ []) ∷ (4 ∷ []) ∷ (3 ∷ 0 ∷ 1 ∷ 2 ∷ []) ∷ (4 ∷ []) ∷ (3 ∷ 4 ∷ 7 ∷ 4 ∷ []) ∷ (1 ∷ []) ∷ (4 ∷ [])
+    ≡ (4 ∷ []) ∷ (4 ∷ []) ∷ (3 ∷ 8 ∷ 15 ∷ 8 ∷ []) ∷ (3 ∷ 0 ∷ 7 ∷ 9 ∷ []) ∷ (4 ∷ [])
+    ∷ (3 ∷ 0 ∷ 1 ∷ 2 ∷ []) ∷ (4 ∷ []) ∷ (3 ∷ 4 ∷ 7 ∷ 4 ∷ []) ∷ (1 ∷ []) ∷ (4 ∷ [])
     ∷ (2 ∷ []) ∷ (4 ∷ []) ∷ (2 ∷ []) ∷ (3 ∷ 8 ∷ 15 ∷ 8 ∷ []) ∷ (4 ∷ []) ∷ []
 tables-said = refl

@@ -1,4 +1,5 @@
--- THE ANSWER, COMPUTED (`only-answer`): an answer that is permitted is the computed one, and the other way (`permitted-of`).
+-- THE ANSWER, COMPUTED (`only-answer`): an answer that is permitted is the computed one,
+-- and the other way (`permitted-of`).
 use mathlib.Core.Path.{_≡_, subst}
 use Prim.Native.Nat.{ℕ}
 use Rattle.values.specs.declared.Table.{Table}

@@ -1,4 +1,5 @@
--- THE DISTANCE ANSWER (`distance-words`): to a well-formed table it is overload, pass or no answer, and is told so in words and as a number.
+-- THE DISTANCE ANSWER (`distance-words`): to a well-formed table it is overload, pass or no answer,
+-- and is told so in words and as a number.
 use mathlib.Core.Path.{_≡_, refl}
 use mathlib.Core.List.{[], _∷_}
 use mathlib.Core.Bool.{Bool, true, false, cond}
@@ -39,14 +40,19 @@ one-by false b n = absurd (omega arith)
 heavy-by : (t : Table) (a : Bool) → light t ≡ a → (b : Bool) → told a b ≡ DistanceAnswer.Overload → round t < load t
 heavy-by t true q true e = let z : _≡_ {A = ℕ} 0 1 = cc in absurd (omega arith)
 heavy-by t true q false e = let z : _≡_ {A = ℕ} 0 1 = cc in absurd (omega arith)
-heavy-by t false q b e = elim (decLt (round t) (load t)) [ yes l ↦ l | no l ↦ let z : T (light t) = omega tests in absurd (rw q at z) ]
+heavy-by t false q b e = elim (decLt (round t) (load t)) [
+  | yes l ↦ l
+  | no l ↦ let z : T (light t) = omega tests in absurd (rw q at z)
+]
 
-pub distance-refuses : (t : Table) (r : Refusal) → judgedMixed t ≡ Judgement.Refused r → distanceNumber (distanceAnswer t) ≡ refusalNumber r
+pub distance-refuses : (t : Table) (r : Refusal) → judgedMixed t ≡ Judgement.Refused r
+    → distanceNumber (distanceAnswer t) ≡ refusalNumber r
 unfolding distanceAnswer
 distance-refuses t r e = rw e refl
 
 module _ (t : Table) (m : Measure) (well : judgedMixed t ≡ Judgement.WellFormed m) where
-  pub distance-words : distanceSaid (distanceAnswer t) ≡ cond (light t) (cond (distancePass t) (0 ∷ 1 ∷ []) (0 ∷ 0 ∷ [])) (0 ∷ 2 ∷ [])
+  pub distance-words :
+      distanceSaid (distanceAnswer t) ≡ cond (light t) (cond (distancePass t) (0 ∷ 1 ∷ []) (0 ∷ 0 ∷ [])) (0 ∷ 2 ∷ [])
   unfolding distanceAnswer
   distance-words = rw well (said-by (light t) (distancePass t))
 

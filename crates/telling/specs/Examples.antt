@@ -1,4 +1,5 @@
--- EXAMPLES (`g-formed`): the file of table g has a good form and a well-formed table; a longer deadline alone is an easing (`due-eased`).
+-- EXAMPLES (`g-formed`): the file of table g has a good form and a well-formed table;
+-- a longer deadline alone is an easing (`due-eased`).
 use mathlib.Core.Path.{_≡_, refl}
 use Prim.Native.Nat.{zero, suc}
 use native.Mathlib.Omega.{arith}
@@ -13,7 +14,8 @@ use Rattle.model.specs.Examples.{table-g, file-g, two-due}
 
 pub g-formed : (formOf file-g .admission ≡ Admission.Admitted) × (formOf file-g .table ≡ table-g)
     × (judged table-g ≡ Judgement.WellFormed (record { round = 4; load = 4; horizon = 8 }))
-unfolding formOf readFrom judged judgedMixed firstButton firstFaulty taskFault first round load horizon largest sum count
+unfolding formOf readFrom judged judgedMixed firstButton firstFaulty
+    taskFault first round load horizon largest sum count
 g-formed = (refl, refl, refl)
 
 pub due-eased : Eased (two-due 1) (two-due 3)
@@ -23,6 +25,11 @@ due-eased = record {
   of-before = λ i l. l;
   each = λ i. elim i [
     | zero ↦ λ l. record { same-offset = refl; same-period = refl; lower-cost = lit≤ tt; longer-deadline = lit≤ tt }
-    | suc k ↦ λ l. record { same-offset = refl; same-period = refl; lower-cost = omega arith; longer-deadline = omega arith }
+    | suc k ↦ λ l. record {
+      same-offset = refl;
+      same-period = refl;
+      lower-cost = omega arith;
+      longer-deadline = omega arith;
+    }
   ];
 }

@@ -1,5 +1,5 @@
--- WHAT IS TOLD OF A FILE (`told-once`): it is one thing only; there is always something to tell (`told-some`); and of a refused file, or of
--- one with a button, it is its refusal (`told-refused`, `button-refused`).
+-- WHAT IS TOLD OF A FILE (`told-once`): it is one thing only; there is always something to tell (`told-some`);
+-- and of a refused file, or of one with a button, it is its refusal (`told-refused`, `button-refused`).
 use mathlib.Core.Path.{_≡_, refl, sym, _∙_}
 use mathlib.Core.List.{List}
 use Prim.Native.Nat.{ℕ}
@@ -24,14 +24,18 @@ module _ {A : Type 0} (refuse : Refusal → A) (tell : List ℕ → A) (l : Cont
   pub told-some : (a : Admission) → (x : A) × FileTold refuse tell l x a
   told-some (Admission.Refused r) = (refuse r, refl)
   told-some Admission.Admitted =
-      let a = answerOf (l .table) (l .budget) in
-      (outcomeTold refuse tell (l .table .count) (quickPass (l .table)) a (a .outcome), (a, computed (l .table) (l .budget), refl))
+      let a = answerOf (l .table) (l .budget) in (
+        outcomeTold refuse tell (l .table .count) (quickPass (l .table)) a (a .outcome),
+        (a, computed (l .table) (l .budget), refl),
+      )
 
-  pub told-refused : (x : A) (r : Refusal) (a : Admission) → a ≡ Admission.Refused r → FileTold refuse tell l x a → x ≡ refuse r
+  pub told-refused : (x : A) (r : Refusal) (a : Admission)
+      → a ≡ Admission.Refused r → FileTold refuse tell l x a → x ≡ refuse r
   told-refused x r (Admission.Refused w) q e = let s : w ≡ r = cc in e ∙ rw s
   told-refused x r Admission.Admitted q e = let z : _≡_ {A = ℕ} 0 1 = cc in absurd (omega arith)
 
-  pub button-refused : (x : A) (r : Refusal) (a : Admission) → a ≡ Admission.Admitted → judged (l .table) ≡ Judgement.Refused r
+  pub button-refused : (x : A) (r : Refusal) (a : Admission)
+      → a ≡ Admission.Admitted → judged (l .table) ≡ Judgement.Refused r
       → FileTold refuse tell l x a → x ≡ refuse r
   unfolding Permitted
   button-refused x r (Admission.Refused w) q j e = let z : _≡_ {A = ℕ} 0 1 = cc in absurd (omega arith)

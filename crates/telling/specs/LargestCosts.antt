@@ -1,5 +1,5 @@
--- A LARGEST COST (`cost-case`): it is told only of a task of a table that passes, and is the largest cost there is; what is told is told apart
--- as a number (`cost-apart`).
+-- A LARGEST COST (`cost-case`): it is told only of a task of a table that passes, and is the largest cost there is;
+-- what is told is told apart as a number (`cost-apart`).
 use mathlib.Core.Path.{_≡_, refl, subst}
 use mathlib.Core.Logic.{_⊎_, inl, inr}
 use mathlib.Core.Bool.{Bool, true, false, cond}
@@ -30,7 +30,8 @@ by-number true a r c e = (refl, e)
 by-number false a r c e = let z : _≡_ {A = ℕ} 0 1 = cc in absurd (omega arith)
 
 module _ (t : Table) (i budget c : ℕ) where
-  by-verdict : (v : Verdict) → costTold t i budget v ≡ LargestCost.Cost c → (v ≡ Verdict.Passes) × (largestCost t i budget ≡ c)
+  by-verdict : (v : Verdict) → costTold t i budget v ≡ LargestCost.Cost c
+      → (v ≡ Verdict.Passes) × (largestCost t i budget ≡ c)
   by-verdict Verdict.Passes e = let q : largestCost t i budget ≡ c = cc in (refl, q)
   by-verdict Verdict.Overload e = let z : _≡_ {A = ℕ} 0 1 = cc in absurd (omega arith)
   by-verdict (Verdict.Late from to asked) e = let z : _≡_ {A = ℕ} 0 1 = cc in absurd (omega arith)
@@ -64,12 +65,14 @@ module _ (t : Table) (i budget : ℕ) (l : i < 65536) where
   none-refused r (Verdict.Late from to asked) f = let z : _≡_ {A = ℕ} 0 1 = cc in omega arith
   none-refused r Verdict.Undecided f = let z : _≡_ {A = ℕ} 0 1 = cc in omega arith
 
-  task-tellable : (r : Refusal) (p : Bool) → cond p (costTold t i budget (verdict t budget)) (LargestCost.Refused (refusal 12 i)) ≡ LargestCost.Refused r
+  task-tellable : (r : Refusal) (p : Bool)
+      → cond p (costTold t i budget (verdict t budget)) (LargestCost.Refused (refusal 12 i)) ≡ LargestCost.Refused r
       → Tellable r
   task-tellable r true f = absurd (none-refused r (verdict t budget) f)
   task-tellable r false f = let q : refusal 12 i ≡ r = cc in subst Tellable q (lit< tt, l)
 
-  table-tellable : (r : Refusal) (j : Judgement) → JudgementTellable j → costJudged t i budget j ≡ LargestCost.Refused r → Tellable r
+  table-tellable : (r : Refusal) (j : Judgement)
+      → JudgementTellable j → costJudged t i budget j ≡ LargestCost.Refused r → Tellable r
   table-tellable r (Judgement.Refused w) h f = let q : w ≡ r = cc in subst Tellable q h
   table-tellable r (Judgement.WellFormed m) h f = task-tellable r (ltb i (t .count)) f
 

@@ -1,4 +1,5 @@
--- A LATE VERDICT (`late-named`): it names the smallest late deadline, the largest start that asks too much up to there, and that interval's demand.
+-- A LATE VERDICT (`late-named`): it names the smallest late deadline, the largest start that asks too much up to there,
+-- and that interval's demand.
 use mathlib.Core.Path.{_≡_, sym, _∙_}
 use Prim.Native.Nat.{ℕ, _<_}
 use lib.Dec.{T}
@@ -14,8 +15,10 @@ use Rattle.backlog.specs.Verdicts.{late-needed}
 -- The deadline is the needed count, and the start the one that belongs to it.
 at-needed : (t : Table) → T (lateAt t (needed t))
     → let to = needed t in let from = lateStart t to in
-    Least (λ u. T (lateAt t u)) to × T (asksTooMuch t from to) × ((later : ℕ) → from < later → T (asksTooMuch t later to) → ⊥)
-at-needed t l = ((l, λ u m h. none-before t u m h), start-asks t (needed t) l, λ later m h. start-largest t (needed t) later m h)
+    Least (λ u. T (lateAt t u)) to × T (asksTooMuch t from to)
+    × ((later : ℕ) → from < later → T (asksTooMuch t later to) → ⊥)
+at-needed t l =
+    ((l, λ u m h. none-before t u m h), start-asks t (needed t) l, λ later m h. start-largest t (needed t) later m h)
 
 pub late-named : (t : Table) (budget from to asked : ℕ) → verdict t budget ≡ Verdict.Late from to asked
     → Least (λ u. T (lateAt t u)) to × T (asksTooMuch t from to)

@@ -14,7 +14,8 @@ use Rattle.backlog.specs.Longer.{longer}
 use Rattle.backlog.specs.AnswersSay.{answers-say}
 
 module _ (t : Table) (budget more : ℕ) (a : Answer) where
-  longer-answers : (m : Measure) (v : Verdict) → settledBy t more ≡ settledBy t budget → Answers t budget m a v → Answers t more m a v
+  longer-answers : (m : Measure) (v : Verdict)
+      → settledBy t more ≡ settledBy t budget → Answers t budget m a v → Answers t more m a v
   longer-answers m Verdict.Passes s (w, p, e) = (w, p, rw s e)
   longer-answers m Verdict.Overload s e = rw s e
   longer-answers m (Verdict.Late f k d) s e = rw s e
@@ -24,7 +25,8 @@ module _ (t : Table) (budget more : ℕ) (a : Answer) where
     longer-judged : (j : Judgement) → PermittedBy t budget a j → PermittedBy t more a j
     longer-judged (Judgement.Refused r) h = h
     longer-judged (Judgement.WellFormed m) h =
-        let (v, s) = longer t budget more l (λ e. u (answers-say t budget m a (verdict t budget) h .0 ∙ ap Outcome.Tested e)) in
+        let tested = answers-say t budget m a (verdict t budget) h .0 in
+        let (v, s) = longer t budget more l (λ e. u (tested ∙ ap Outcome.Tested e)) in
         subst (Answers t more m a) (sym v) (longer-answers m (verdict t budget) s h)
 
     pub still-permitted : Permitted t budget a → Permitted t more a

@@ -1,4 +1,5 @@
--- A PASSING ANSWER (`passing`): it is given only of a table that passes, its worst responses are exact, and its idle instant is the run's first after 0.
+-- A PASSING ANSWER (`passing`): it is given only of a table that passes, its worst responses are exact,
+-- and its idle instant is the run's first after 0.
 use mathlib.Core.Path.{_≡_, refl, sym, ap, subst}
 use Prim.Native.Nat.{ℕ}
 use native.Mathlib.Omega.{arith}
@@ -20,15 +21,21 @@ Passing t a v = (v ≡ Verdict.Passes) × Worsts t (a .worst) × (a .idle ≡ fi
 module _ (t : Table) (budget : ℕ) (a : Answer) (o : a .outcome ≡ Outcome.Tested Verdict.Passes) where
   by-verdict : (m : Measure) (v : Verdict) → Answers t budget m a v → Passing t a v
   by-verdict m Verdict.Passes (w, p, e) =
-      let q : a .worst ≡ w = ap (λ (x : Answer). x .worst) e in (refl, subst (Worsts t) (sym q) p, ap (λ (x : Answer). x .idle) e)
-  by-verdict m Verdict.Overload e = let z : _≡_ {A = ℕ} 0 1 = cc (ap (λ (x : Answer). x .outcome) e) in absurd (omega arith)
-  by-verdict m (Verdict.Late f k d) e = let z : _≡_ {A = ℕ} 0 1 = cc (ap (λ (x : Answer). x .outcome) e) in absurd (omega arith)
-  by-verdict m Verdict.Undecided e = let z : _≡_ {A = ℕ} 0 1 = cc (ap (λ (x : Answer). x .outcome) e) in absurd (omega arith)
+      let q : a .worst ≡ w = ap (λ (x : Answer). x .worst) e in
+      (refl, subst (Worsts t) (sym q) p, ap (λ (x : Answer). x .idle) e)
+  by-verdict m Verdict.Overload e =
+      let z : _≡_ {A = ℕ} 0 1 = cc (ap (λ (x : Answer). x .outcome) e) in absurd (omega arith)
+  by-verdict m (Verdict.Late f k d) e =
+      let z : _≡_ {A = ℕ} 0 1 = cc (ap (λ (x : Answer). x .outcome) e) in absurd (omega arith)
+  by-verdict m Verdict.Undecided e =
+      let z : _≡_ {A = ℕ} 0 1 = cc (ap (λ (x : Answer). x .outcome) e) in absurd (omega arith)
 
   by-judgement : (j : Judgement) → PermittedBy t budget a j → Passing t a (verdict t budget)
-  by-judgement (Judgement.Refused r) e = let z : _≡_ {A = ℕ} 0 1 = cc (ap (λ (x : Answer). x .outcome) e) in absurd (omega arith)
+  by-judgement (Judgement.Refused r) e =
+      let z : _≡_ {A = ℕ} 0 1 = cc (ap (λ (x : Answer). x .outcome) e) in absurd (omega arith)
   by-judgement (Judgement.WellFormed m) h = by-verdict m (verdict t budget) h
 
-  pub passing : Permitted t budget a → (verdict t budget ≡ Verdict.Passes) × Worsts t (a .worst) × (a .idle ≡ firstIdle t (tieOrder t))
+  pub passing : Permitted t budget a
+      → (verdict t budget ≡ Verdict.Passes) × Worsts t (a .worst) × (a .idle ≡ firstIdle t (tieOrder t))
   unfolding Permitted
   passing = by-judgement (judged t)

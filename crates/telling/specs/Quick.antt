@@ -1,4 +1,5 @@
--- THE QUICK ANSWER (`quick-either`): to a well-formed table it is pass or no answer, and is told so in words and as a number.
+-- THE QUICK ANSWER (`quick-either`): to a well-formed table it is pass or no answer,
+-- and is told so in words and as a number.
 use mathlib.Core.Path.{_≡_, refl}
 use mathlib.Core.Logic.{_⊎_, inl, inr}
 use mathlib.Core.List.{[], _∷_}
@@ -31,7 +32,8 @@ low-by : (b : Bool) → quickNumber (told b) ≤ 1
 low-by true = omega arith
 low-by false = omega arith
 
-pub quick-refuses : (t : Table) (r : Refusal) → judged t ≡ Judgement.Refused r → quickNumber (quickAnswer t) ≡ refusalNumber r
+pub quick-refuses : (t : Table) (r : Refusal) → judged t ≡ Judgement.Refused r
+    → quickNumber (quickAnswer t) ≡ refusalNumber r
 unfolding quickAnswer
 quick-refuses t r e = rw e refl
 

@@ -1,4 +1,5 @@
--- THE RANGES (`ranges-iff`): that a table keeps its ranges, told as products, is that it keeps them as the laws have it.
+-- THE RANGES (`ranges-iff`): that a table keeps its ranges, told as products,
+-- is that it keeps them as the laws have it.
 use mathlib.Core.Logic.{_↔_}
 use Prim.Native.Nat.{ℕ, _≤_, _<_}
 use Rattle.values.specs.declared.Task.{Task}

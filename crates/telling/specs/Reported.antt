@@ -1,5 +1,6 @@
--- A CHECK REPORTS OR REFUSES (`reported-or-refused`): what the exported check returns and leaves is that of the report on the permitted answer, or
--- of a refusal that changes no byte; and of a file that is read and has no button it is the report's (`reported`).
+-- A CHECK REPORTS OR REFUSES (`reported-or-refused`):
+-- what the exported check returns and leaves is that of the report on the permitted answer,
+-- or of a refusal that changes no byte; and of a file that is read and has no button it is the report's (`reported`).
 use mathlib.Core.Path.{_≡_, refl, ap, subst, _∙_}
 use mathlib.Core.Logic.{inl, inr}
 use mathlib.Core.List.{List}
@@ -66,12 +67,14 @@ module _ (buffer : List ℕ) (l : Contents) where
   told-apart e Admission.Admitted h (a, p, q) = rw q (outcome-apart a p (a .outcome) refl (fits a p))
 
   -- The answer to a well-formed table is a tested one, and so a report is told.
-  tested : (m : Measure) → judged (l .table) ≡ Judgement.WellFormed m → (a : Answer) → Permitted (l .table) (l .budget) a
+  tested : (m : Measure) → judged (l .table) ≡ Judgement.WellFormed m → (a : Answer)
+      → Permitted (l .table) (l .budget) a
       → a .outcome ≡ Outcome.Tested (verdict (l .table) (l .budget))
   unfolding Permitted
   tested m well a p = answers-say (l .table) (l .budget) m a (verdict (l .table) (l .budget)) (rw well at p) .0
 
-  told-reported : (m : Measure) → judged (l .table) ≡ Judgement.WellFormed m → (e : Exported) (a : Admission) → a ≡ Admission.Admitted
+  told-reported : (m : Measure)
+      → judged (l .table) ≡ Judgement.WellFormed m → (e : Exported) (a : Admission) → a ≡ Admission.Admitted
       → FileTold (λ r. refused r buffer) (λ s. written s buffer) l e a → Reported l buffer e
   told-reported m well e (Admission.Refused r) q h = let z : _≡_ {A = ℕ} 0 1 = cc in absurd (omega arith)
   told-reported m well e Admission.Admitted q (a, p, h) =
@@ -86,7 +89,8 @@ taken-tellable file buffer = go (ltb (length buffer) reportBytes) refl
     go true q = (omega arith, omega (arith, ltb-true (length buffer) reportBytes q))
     go false q = read-tellable file
 
-pub reported-or-refused : (file buffer : List ℕ) (e : Exported) → Checked file buffer e → Apart (Reported (fileRead file) buffer) buffer e
+pub reported-or-refused : (file buffer : List ℕ) (e : Exported)
+    → Checked file buffer e → Apart (Reported (fileRead file) buffer) buffer e
 reported-or-refused file buffer e = told-apart buffer (fileRead file) e (taken file buffer) (taken-tellable file buffer)
 
 pub reported : (file buffer : List ℕ) (e : Exported) → ltb (length buffer) reportBytes ≡ false

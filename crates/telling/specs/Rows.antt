@@ -1,4 +1,5 @@
--- ROWS (`all-permitted`): of a list of tables with budgets and answers, the answers are the permitted ones if they are the computed ones.
+-- ROWS (`all-permitted`): of a list of tables with budgets and answers,
+-- the answers are the permitted ones if they are the computed ones.
 use mathlib.Core.Path.{_≡_}
 use mathlib.Core.List.{List, [], _∷_, map}
 use Prim.Native.Nat.{ℕ}
@@ -19,7 +20,8 @@ abbrev pub AllPermitted : List Row → Type 0
 AllPermitted [] = Unit {0}
 AllPermitted (r ∷ rs) = Permitted (r .table) (r .budget) (r .answer) × AllPermitted rs
 
-pub all-permitted : (rs : List Row) → map (λ r. answerOf (r .table) (r .budget)) rs ≡ map (λ r. r .answer) rs → AllPermitted rs
+pub all-permitted : (rs : List Row)
+    → map (λ r. answerOf (r .table) (r .budget)) rs ≡ map (λ r. r .answer) rs → AllPermitted rs
 all-permitted [] e = tt
 all-permitted (r ∷ rs) e =
     let h : answerOf (r .table) (r .budget) ≡ r .answer = cc in

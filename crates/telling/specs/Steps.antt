@@ -17,7 +17,8 @@ module _ (t : Table) (d : State) (done : Bool) (r : Refusal) where
   either true x y p n e = p
   either false x y p n e = absurd (n e)
 
-  by-admission : (a : Admission) → stepAdmitted t d done a .answer ≡ SlotAnswer.Refused r → stepAdmitted t d done a .state ≡ d
+  by-admission : (a : Admission) → stepAdmitted t d done a .answer ≡ SlotAnswer.Refused r
+      → stepAdmitted t d done a .state ≡ d
   by-admission (Admission.Refused w) e = refl
   by-admission Admission.Admitted e =
       either (eqb (slotCount t d) slotCountLimit) _ _ refl (λ q. let z : _≡_ {A = ℕ} 0 1 = cc in absurd (omega arith)) e
