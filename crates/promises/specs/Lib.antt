@@ -1,8 +1,10 @@
 -- What is promised, demand by demand.
+pub mod Headlines
 pub mod Demand1
 pub mod Demand2
 pub mod Demand3
 pub mod Tables
+pub mod ReportTold
 pub mod Camera
 pub mod Writer
 pub mod PlainText

@@ -2,3 +2,4 @@
 pub mod Apart
 pub mod Determined
 pub mod Passes
+pub mod ReadOff
