@@ -55,7 +55,7 @@ pub use Rattle.telling.specs.Reported.{reportOn, Reported}
 use Rattle.telling.specs.Ranges.{ranges-iff}
 use Rattle.telling.specs.FileTold.{told-once, told-some, told-refused, button-refused}
 use Rattle.telling.specs.Reported.{taken, reported-or-refused, reported}
-use Rattle.telling.specs.Steps.{refused-stays}
+use Rattle.telling.specs.Steps.{state-admitted, refused-stays}
 
 -- Judging a table, reading a file's form, reading it,
 -- starting and stepping have one permitted result each, for every input.
@@ -300,28 +300,17 @@ module _ (t : Table) (m : Measure) (d : State) (done : Bool) (well : judged t �
 
     pub full-state : lastStrange t d ≡ false → slotCount t d ≡ slotCountLimit
         → slotSaid (stepped t d done .answer) ≡ 9 ∷ 0 ∷ []
-    unfolding stepped stateAdmitted
+    unfolding stepped
     full-state last full =
-        rw (
-          well,
-          le-ltb (firstStrange t d) (t .count) each,
-          last,
-          le-ltb slotCountLimit (slotCount t d) (omega arith),
-          eq-eqb (slotCount t d) slotCountLimit full,
-        ) refl
+        rw (state-admitted t m well d each last (omega arith), eq-eqb (slotCount t d) slotCountLimit full) refl
 
     -- Every other state is taken.
     pub taken-state : lastStrange t d ≡ false → slotCount t d < slotCountLimit
         → stepped t d done ≡ record { answer = SlotAnswer.Slot (turn t d done); state = after t d done }
-    unfolding stepped stateAdmitted
+    unfolding stepped
     taken-state last room =
-        rw (
-          well,
-          le-ltb (firstStrange t d) (t .count) each,
-          last,
-          le-ltb slotCountLimit (slotCount t d) (omega arith),
-          ne-eqb (slotCount t d) slotCountLimit (λ e. absurd (omega arith)),
-        ) refl
+        let more = ne-eqb (slotCount t d) slotCountLimit (λ e. absurd (omega arith)) in
+        rw (state-admitted t m well d each last (omega arith), more) refl
 
     -- The answer is then 0 with the owner, the tasks closed late as a set of bits, how many,
     -- and the lowest of them or none.

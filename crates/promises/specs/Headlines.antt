@@ -1,7 +1,7 @@
 -- THE HEADLINES: the report of the exported check says `verdict passes` exactly if some schedule is good for all time;
 -- and where it says so, a camera's loop over the same file finishes every job within the worst response that the report
 -- tells, whatever is reported done.
-use mathlib.Core.Path.{_≡_, refl, sym, ap, subst, _∙_}
+use mathlib.Core.Path.{_≡_, sym, ap, _∙_}
 use mathlib.Core.Logic.{_↔_}
 use mathlib.Core.List.{List}
 use mathlib.Core.Bool.{Bool, not}

@@ -1,4 +1,4 @@
--- What the promises cite by cases.
+-- What is told, case by case.
 -- Tables, and what is told of a file and of a step.
 pub mod Ranges
 pub mod Refusals

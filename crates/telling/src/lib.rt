@@ -1,1 +1,1 @@
-// What the promises cite by cases: of a file, an answer, a refusal, a step; no promise needs more than a few lines then.
+// What is told, case by case: of a file, a refusal, an answer, a step, an easing, a log. The promises cite it.
