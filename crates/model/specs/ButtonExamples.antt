@@ -5,18 +5,21 @@ use mathlib.Core.Bool.{_||_, true, false}
 use Prim.Native.Nat.{ℕ, zero, suc, _+_, _-_, _*_}
 use lib.Dec.{eqb}
 use lib.ListN.{replicate}
-use Rattle.model.specs.Values.{Sort, Task, Table, QuickAnswer, DistanceAnswer, LargestCost, Admission, SlotAnswer, judgementSaid, refusal}
+use Rattle.model.specs.Values.{Sort, Task, Table, QuickAnswer, DistanceAnswer, LargestCost, Admission, SlotAnswer}
+use Rattle.model.specs.Values.{judgementSaid, refusal}
 use Rattle.model.specs.Notation.{sum, largest, count, first, last, fill, text, digits, decimal}
 use Rattle.model.specs.Limits.{taskLimit}
 use Rattle.model.specs.Tasks.{taskFault, firstFaulty, firstButton, round, load, horizon, judgedMixed, judged}
 use Rattle.model.specs.Demand.{arrivedIn, demandFor}
 use Rattle.model.specs.Run.{choose, ownerOf, served}
 use Rattle.model.specs.Idle.{idleAt, firstIdle, missedAt}
-use Rattle.model.specs.Patterns.{startingAt, light, calm, quickAnswer, commonDivisor, distance, pattern, calmPatterns, distancePass, distanceAnswer}
+use Rattle.model.specs.Patterns.{startingAt, light, calm, quickAnswer, commonDivisor, distance, pattern}
+use Rattle.model.specs.Patterns.{calmPatterns, distancePass, distanceAnswer}
 use Rattle.model.specs.TableFile.{tableOf, bytesOf, taskRecords, fileOf, readFrom, formOf, fileRead, periodicFrom}
 use Rattle.model.specs.Dispatcher.{admitted, started, stepped}
 use Rattle.model.specs.Writer.{tableIn, firstStranger}
-use Rattle.model.specs.PlainText.{split, filled, allDigits, valueAfter, numbersFault, same, budgetLine, taskLine, lineOf, readLines, textForm, textRead, taskTexts, textOf}
+use Rattle.model.specs.PlainText.{split, filled, allDigits, valueAfter, numbersFault, same, budgetLine, taskLine}
+use Rattle.model.specs.PlainText.{lineOf, readLines, textForm, textRead, taskTexts, textOf}
 use Rattle.model.specs.Easing.{easedExported}
 use Rattle.model.specs.Largest.{costAnswer}
 use Rattle.model.specs.Examples.{of, padded, uncounted, budgetOf, refusalOf, at, rowOf, file-b}
@@ -29,7 +32,9 @@ abbrev pub pressOf : ℕ → ℕ → ℕ → List ℕ
 pressOf c d s = 4 ∷ bytesOf (c ∷ d ∷ s ∷ [])
 
 -- The spacing is checked as T, by 3; then D, by 4; then C, by 5. There is no 6 for a button: it has no offset.
-button-ranges : map taskFault (button 1 1 0 ∷ button 1 0 1 ∷ button 0 1 1 ∷ button 1 3 2 ∷ button 1 1 60001 ∷ button 60000 60000 60000 ∷ []) ≡ 3 ∷ 4 ∷ 5 ∷ 4 ∷ 3 ∷ 0 ∷ []
+button-ranges : map taskFault (button 1 1 0 ∷ button 1 0 1 ∷ button 0 1 1 ∷ button 1 3 2
+    ∷ button 1 1 60001 ∷ button 60000 60000 60000 ∷ [])
+    ≡ 3 ∷ 4 ∷ 5 ∷ 4 ∷ 3 ∷ 0 ∷ []
 unfolding taskFault
 button-ranges = refl
 
@@ -43,7 +48,8 @@ button-counts = refl
 
 -- Where only periodic tasks are allowed it is 11 at the lowest button, behind 3 to 7.
 button-refused :
-    map (λ t. judgementSaid (judged t)) (table-shutter ∷ tableOf (button 1 1 2 ∷ of 0 1 1 9 ∷ button 1 1 2 ∷ []) ∷ tableOf (button 1 1 2 ∷ of 0 1 1 0 ∷ []) ∷ [])
+    map (λ t. judgementSaid (judged t)) (table-shutter
+    ∷ tableOf (button 1 1 2 ∷ of 0 1 1 9 ∷ button 1 1 2 ∷ []) ∷ tableOf (button 1 1 2 ∷ of 0 1 1 0 ∷ []) ∷ [])
     ≡ (11 ∷ 2 ∷ []) ∷ (11 ∷ 0 ∷ []) ∷ (3 ∷ 1 ∷ []) ∷ []
 unfolding judged judgedMixed firstButton firstFaulty taskFault first round load horizon largest sum count
 button-refused = refl
@@ -55,31 +61,38 @@ file-shutter = budgetOf 1000 ++ rowOf (of 0 1 3 6) ++ rowOf (of 3 1 2 6) ++ pres
 button-files :
     (fileRead file-shutter ≡ record { admission = Admission.Admitted; budget = 1000; table = table-shutter })
     × (fileOf 1000 (of 0 1 3 6 ∷ of 3 1 2 6 ∷ button 1 1 2 ∷ []) ≡ file-shutter)
-    × (fileRead (budgetOf 7 ++ pressOf 1 2 3 ++ rowOf (of 9 1 2 3) ++ (3 ∷ [])) .table ≡ tableOf (button 1 2 3 ∷ of 9 1 2 3 ∷ []))
-unfolding fileRead periodicFrom formOf readFrom judgedMixed firstFaulty taskFault first round load horizon largest sum count bytesOf taskRecords
+    × (fileRead (budgetOf 7 ++ pressOf 1 2 3 ++ rowOf (of 9 1 2 3) ++ (3 ∷ [])) .table
+    ≡ tableOf (button 1 2 3 ∷ of 9 1 2 3 ∷ []))
+unfolding fileRead periodicFrom formOf readFrom judgedMixed firstFaulty taskFault
+    first round load horizon largest sum count bytesOf taskRecords
 button-files = (refl, refl, refl)
 
 presses : ℕ → List ℕ
 presses zero = []
 presses (suc n) = pressOf 1 1 1 ++ presses n
 
--- First in a file it is 22; cut short 20; behind the most tasks, of both sorts, 25, whatever follows; its table's faults name it by its number.
+-- First in a file it is 22; cut short 20; behind the most tasks, of both sorts, 25, whatever follows;
+-- its table's faults name it by its number.
 button-file-refusals :
     map refusalOf (
     (4 ∷ []) ∷ (budgetOf 1 ++ (4 ∷ 1 ∷ [])) ∷ (budgetOf 1 ++ (4 ∷ replicate 11 1))
-    ∷ (budgetOf 1 ++ rowOf (of 0 1 1 1) ++ presses (taskLimit - 1) ++ (4 ∷ [])) ∷ (budgetOf 1 ++ presses taskLimit ++ (2 ∷ []))
+    ∷ (budgetOf 1 ++ rowOf (of 0 1 1 1) ++ presses (taskLimit - 1) ++ (4 ∷ []))
+    ∷ (budgetOf 1 ++ presses taskLimit ++ (2 ∷ []))
     ∷ (budgetOf 1 ++ presses 1 ++ (4 ∷ replicate 12 0) ++ (3 ∷ [])) ∷ []
     )
     ≡ at 22 0 ∷ at 20 9 ∷ at 20 9
     ∷ at 25 (9 + 17 + 13 * (taskLimit - 1)) ∷ at 25 (9 + 13 * taskLimit)
     ∷ at 3 1 ∷ []
-unfolding fileRead periodicFrom formOf readFrom judgedMixed firstFaulty taskFault first round load horizon largest sum count bytesOf presses
+unfolding fileRead periodicFrom formOf readFrom judgedMixed firstFaulty
+    taskFault first round load horizon largest sum count bytesOf presses
 button-file-refusals = refl
 
 -- In a row of words a button has 0 where a task has its offset; any other number there is no task's.
 button-rows :
     (tableIn (2 ∷ 5 ∷ 1 ∷ 2 ∷ 3 ∷ 4 ∷ 0 ∷ 1 ∷ 2 ∷ 3 ∷ []) ≡ tableOf (of 5 1 2 3 ∷ button 1 2 3 ∷ []))
-    × (map firstStranger ((2 ∷ 5 ∷ 1 ∷ 2 ∷ 3 ∷ 4 ∷ 0 ∷ 1 ∷ 2 ∷ 3 ∷ []) ∷ (4 ∷ 0 ∷ 1 ∷ 2 ∷ 3 ∷ 4 ∷ 1 ∷ 1 ∷ 2 ∷ 3 ∷ []) ∷ []) ≡ 2 ∷ 1 ∷ [])
+    × (map firstStranger ((2 ∷ 5 ∷ 1 ∷ 2 ∷ 3 ∷ 4 ∷ 0 ∷ 1 ∷ 2 ∷ 3 ∷ [])
+    ∷ (4 ∷ 0 ∷ 1 ∷ 2 ∷ 3 ∷ 4 ∷ 1 ∷ 1 ∷ 2 ∷ 3 ∷ []) ∷ [])
+    ≡ 2 ∷ 1 ∷ [])
 unfolding tableIn firstStranger first fill
 button-rows = (refl, refl)
 
@@ -88,48 +101,65 @@ abbrev textRefusal : List ℕ → Admission
 textRefusal s = textRead s .admission
 
 button-texts :
-    (textRead (text "budget 7\nbutton 1 2 3\ntask 9 1 2 3\n") ≡ record { admission = Admission.Admitted; budget = 7; table = tableOf (button 1 2 3 ∷ of 9 1 2 3 ∷ []) })
+    (textRead (text "budget 7\nbutton 1 2 3\ntask 9 1 2 3\n")
+    ≡ record { admission = Admission.Admitted; budget = 7; table = tableOf (button 1 2 3 ∷ of 9 1 2 3 ∷ []) })
     × (textOf 7 (button 1 2 3 ∷ of 9 1 2 3 ∷ []) ≡ text "budget 7\nbutton 1 2 3\ntask 9 1 2 3\n")
-    × (map textRefusal (text "button 1 2 3" ∷ text "budget 1\nbutton 1 2" ∷ text "budget 1\nbutton 0 1 2 3" ∷ text "budget 1\nbutton 1 x" ∷ text "budget 1\nButton 1 2 3" ∷ []) ≡ at 64 1 ∷ at 63 2 ∷ at 63 2 ∷ at 61 2 ∷ at 60 2 ∷ [])
-unfolding textRead textForm readLines lineOf budgetLine taskLine numbersFault valueAfter allDigits same filled split text decimal digits taskTexts judgedMixed firstFaulty taskFault first round load horizon largest sum count
+    × (map textRefusal (text "button 1 2 3" ∷ text "budget 1\nbutton 1 2"
+    ∷ text "budget 1\nbutton 0 1 2 3" ∷ text "budget 1\nbutton 1 x" ∷ text "budget 1\nButton 1 2 3" ∷ [])
+    ≡ at 64 1 ∷ at 63 2 ∷ at 63 2 ∷ at 61 2 ∷ at 60 2 ∷ [])
+unfolding textRead textForm readLines lineOf budgetLine taskLine numbersFault valueAfter allDigits same filled split
+    text decimal digits taskTexts judgedMixed firstFaulty taskFault first round load horizon largest sum count
 button-texts = (refl, refl, refl)
 
 -- In a pattern a button starts at 0: one slot later there would be no miss.
 button-distance :
     (map (distance (of 1 1 1 2)) (button 1 1 2 ∷ of 2 1 1 2 ∷ []) ≡ 0 ∷ 1 ∷ [])
-    × (map distanceAnswer (tableOf (of 0 1 1 2 ∷ button 1 1 2 ∷ []) ∷ tableOf (of 0 1 1 2 ∷ of 1 1 1 2 ∷ []) ∷ []) ≡ DistanceAnswer.NoAnswer ∷ DistanceAnswer.Pass ∷ [])
-unfolding distanceAnswer distancePass distance commonDivisor calm startingAt fill firstIdle idleAt missedAt last judgedMixed firstFaulty taskFault first round load horizon largest sum count served ownerOf choose
+    × (map distanceAnswer (tableOf (of 0 1 1 2 ∷ button 1 1 2 ∷ []) ∷ tableOf (of 0 1 1 2 ∷ of 1 1 1 2 ∷ []) ∷ [])
+    ≡ DistanceAnswer.NoAnswer ∷ DistanceAnswer.Pass ∷ [])
+unfolding distanceAnswer distancePass distance commonDivisor calm startingAt fill firstIdle idleAt missedAt last
+    judgedMixed firstFaulty taskFault first round load horizon largest sum count served ownerOf choose
 button-distance = (refl, refl)
 
--- The shutter's table passes: were its button to stand first as well, that pattern would miss a deadline. Of buttons alone all start at 0. A
--- button's load is overload too.
+-- The shutter's table passes: were its button to stand first as well, that pattern would miss a deadline.
+-- Of buttons alone all start at 0. A button's load is overload too.
 buttons-decide :
-    (map distanceAnswer (table-shutter ∷ tableOf (button 1 2 2 ∷ button 1 2 3 ∷ []) ∷ tableOf (button 1 1 2 ∷ button 1 1 3 ∷ []) ∷ tableOf (of 0 1 1 2 ∷ button 2 2 2 ∷ []) ∷ [])
+    (map distanceAnswer (table-shutter ∷ tableOf (button 1 2 2 ∷ button 1 2 3 ∷ [])
+    ∷ tableOf (button 1 1 2 ∷ button 1 1 3 ∷ []) ∷ tableOf (of 0 1 1 2 ∷ button 2 2 2 ∷ []) ∷ [])
     ≡ DistanceAnswer.Pass ∷ DistanceAnswer.Pass ∷ DistanceAnswer.NoAnswer ∷ DistanceAnswer.Overload ∷ [])
     × (calm (pattern table-shutter 2) ≡ false)
-unfolding distanceAnswer distancePass distance commonDivisor calm startingAt fill firstIdle idleAt missedAt last judgedMixed firstFaulty taskFault first round load horizon largest sum count served ownerOf choose
+unfolding distanceAnswer distancePass distance commonDivisor calm startingAt fill firstIdle idleAt missedAt last
+    judgedMixed firstFaulty taskFault first round load horizon largest sum count served ownerOf choose
 buttons-decide = (refl, refl)
 
--- Left out of the load, this button would let its table pass: each pattern is calm, and the two periodic tasks are no overload.
+-- Left out of the load, this button would let its table pass: each pattern is calm,
+-- and the two periodic tasks are no overload.
 buttons-weigh :
     let t = tableOf (of 0 2 4 4 ∷ of 2 1 4 4 ∷ button 1 2 2 ∷ []) in
-    (distanceAnswer t ≡ DistanceAnswer.Overload) × (calmPatterns t ≡ true) × (light (tableOf (of 0 2 4 4 ∷ of 2 1 4 4 ∷ [])) ≡ true)
-unfolding distanceAnswer distance commonDivisor calm startingAt fill firstIdle idleAt missedAt last judgedMixed firstFaulty taskFault first round load horizon largest sum count served ownerOf choose
+    (distanceAnswer t ≡ DistanceAnswer.Overload) × (calmPatterns t ≡ true)
+    × (light (tableOf (of 0 2 4 4 ∷ of 2 1 4 4 ∷ [])) ≡ true)
+unfolding distanceAnswer distance commonDivisor calm startingAt fill firstIdle idleAt missedAt last judgedMixed
+    firstFaulty taskFault first round load horizon largest sum count served ownerOf choose
 buttons-weigh = (refl, refl, refl)
 
--- The other tests and the dispatcher refuse the shutter's table by 11 at 2; a task that it does not have comes after that, and so does a state.
+-- The other tests and the dispatcher refuse the shutter's table by 11 at 2;
+-- a task that it does not have comes after that, and so does a state.
 only-periodic :
     (quickAnswer table-shutter ≡ QuickAnswer.Refused (refusal 11 2))
     × (costAnswer table-shutter 9 1000 ≡ LargestCost.Refused (refusal 11 2))
     × (started table-shutter .admission ≡ at 11 2)
-    × (stepped table-shutter (uncounted (padded 99 []) (padded 9 []) 99) false .answer ≡ SlotAnswer.Refused (refusal 11 2))
+    × (stepped table-shutter (uncounted (padded 99 []) (padded 9 []) 99) false .answer
+    ≡ SlotAnswer.Refused (refusal 11 2))
     × (easedExported file-b file-shutter ≡ 4 * (65536 * 11 + 2) + 3)
     × (easedExported file-shutter [] ≡ 4 * (65536 * 11 + 2) + 2)
-unfolding quickAnswer costAnswer started stepped admitted fileRead periodicFrom formOf readFrom judged judgedMixed firstButton firstFaulty taskFault first round load horizon largest sum count bytesOf
+unfolding quickAnswer costAnswer started stepped admitted fileRead periodicFrom formOf readFrom judged judgedMixed
+    firstButton firstFaulty taskFault first round load horizon largest sum count bytesOf
 only-periodic = (refl, refl, refl, refl, refl, refl)
 
--- Demand counts the jobs that come, of either sort: of presses at 1, 4 and 8, each due three slots later, two lie from 1 to 7 and one from 4 on.
+-- Demand counts the jobs that come, of either sort: of presses at 1, 4 and 8, each due three slots later,
+-- two lie from 1 to 7 and one from 4 on.
 demand-of-presses :
-    map (λ from. demandFor (tableOf (button 2 3 3 ∷ [])) (λ i u. eqb u 1 || (eqb u 4 || eqb u 8)) from 7) (0 ∷ 1 ∷ 2 ∷ 4 ∷ 5 ∷ []) ≡ 4 ∷ 4 ∷ 2 ∷ 2 ∷ 0 ∷ []
+    map (λ from. demandFor (tableOf (button 2 3 3 ∷ [])) (λ i u. eqb u 1 || (eqb u 4 || eqb u 8)) from 7)
+    (0 ∷ 1 ∷ 2 ∷ 4 ∷ 5 ∷ [])
+    ≡ 4 ∷ 4 ∷ 2 ∷ 2 ∷ 0 ∷ []
 unfolding arrivedIn count sum
 demand-of-presses = refl

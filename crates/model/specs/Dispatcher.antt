@@ -1,12 +1,13 @@
 -- The dispatcher: its state, when a state belongs to a table, the start, and the step in its four rules.
-use Rattle.model.specs.Notation.{List, Bool, cond, not, _&&_, _||_, ℕ, _+_, _-_, max, ltb, eqb, getD, replicate, bit, sum, count, first, bits, fill}
+use Rattle.model.specs.Notation.{List, Bool, cond, not, _&&_, _||_, ℕ, _+_, _-_, max, ltb, eqb, getD, replicate}
+use Rattle.model.specs.Notation.{bit, sum, count, first, bits, fill}
 use Rattle.model.specs.Values.{Table, Refusal, Judgement, Admission, Turn, SlotAnswer, refusal}
 use Rattle.model.specs.Limits.{taskLimit, slotCountLimit, sumPlace}
 use Rattle.model.specs.Tasks.{task, judged, offset}
 use Rattle.model.specs.Run.{tieOrder, choose}
 
--- For each task the slots until its next release, and those that its open job may still use; which task ran last, or `taskLimit`; and
--- the slots that were given to each task, and those that were empty.
+-- For each task the slots until its next release, and those that its open job may still use;
+-- which task ran last, or `taskLimit`; and the slots that were given to each task, and those that were empty.
 pub record State : Type 0 where
   pub wait : List ℕ
   pub left : List ℕ
@@ -33,7 +34,8 @@ leftOf d i = getD (d .left) i 0
 abbrev pub isOpen : State → ℕ → Bool
 isOpen d i = ltb 0 (leftOf d i)
 
--- The slots given to task i; those given to the table's tasks and the empty ones together. Entries past the last task are not read.
+-- The slots given to task i; those given to the table's tasks and the empty ones together.
+-- Entries past the last task are not read.
 abbrev pub givenOf : State → ℕ → ℕ
 givenOf d i = getD (d .given) i 0
 
@@ -45,7 +47,8 @@ abbrev pub strange : Table → State → ℕ → Bool
 strange t d i =
     ltb (max (offset (task t i)) (task t i .period)) (waitOf d i)
     || ltb (task t i .cost) (leftOf d i)
-    || (isOpen d i && (ltb (waitOf d i) (task t i .period - task t i .deadline) || ltb (task t i .period - 1) (waitOf d i)))
+    || (isOpen d i
+    && (ltb (waitOf d i) (task t i .period - task t i .deadline) || ltb (task t i .period - 1) (waitOf d i)))
 
 -- The first task that does not belong, or the count; and whether the last-run number is neither none nor a task.
 unfoldable pub firstStrange : Table → State → ℕ
@@ -54,8 +57,8 @@ firstStrange t d = first (strange t d) 0 (t .count)
 abbrev pub lastStrange : Table → State → Bool
 lastStrange t d = not (eqb (d .last) taskLimit || ltb (d .last) (t .count))
 
--- By what a table is judged to be: a state is refused by the table's number, then by 8 at the first place that does not belong, which is a
--- task, `taskLimit` for the last-run number or `sumPlace` for too many slots; or it is admitted.
+-- By what a table is judged to be: a state is refused by the table's number, then by 8 at the first place that does not
+-- belong, which is a task, `taskLimit` for the last-run number or `sumPlace` for too many slots; or it is admitted.
 abbrev pub admittedBy : Table → State → Judgement → Admission
 admittedBy t d (Judgement.Refused r) = Admission.Refused r
 admittedBy t d (Judgement.WellFormed m) =
@@ -66,12 +69,27 @@ admittedBy t d (Judgement.WellFormed m) =
 unfoldable pub admitted : Table → State → Admission
 admitted t d = admittedBy t d (judged t)
 
--- At the start the waits are the offsets, no job is open, no task ran last and no slot is counted. A refused start hands out zeros.
+-- At the start the waits are the offsets, no job is open, no task ran last and no slot is counted.
+-- A refused start hands out zeros.
 unfoldable pub startOf : Table → State
-startOf t = record { wait = fill (t .count) (λ i. offset (task t i)) (replicate taskLimit 0); left = replicate taskLimit 0; last = taskLimit; given = replicate taskLimit 0; empty = 0 }
+startOf t =
+    record {
+      wait = fill (t .count) (λ i. offset (task t i)) (replicate taskLimit 0);
+      left = replicate taskLimit 0;
+      last = taskLimit;
+      given = replicate taskLimit 0;
+      empty = 0;
+    }
 
 abbrev pub zeros : State
-zeros = record { wait = replicate taskLimit 0; left = replicate taskLimit 0; last = 0; given = replicate taskLimit 0; empty = 0 }
+zeros =
+    record {
+      wait = replicate taskLimit 0;
+      left = replicate taskLimit 0;
+      last = 0;
+      given = replicate taskLimit 0;
+      empty = 0;
+    }
 
 abbrev pub startJudged : Table → Judgement → Started
 startJudged t (Judgement.Refused r) = record { admission = Admission.Refused r; state = zeros }
@@ -85,7 +103,8 @@ module _ (t : Table) (d : State) (done : Bool) where
   abbrev pub leftDone : ℕ → ℕ
   leftDone i = cond (done && eqb (d .last) i) 0 (leftOf d i)
 
-  -- Rule 2: an open job at its deadline is closed as late. A job released r slots ago waits T - r, so there it waits T - D.
+  -- Rule 2: an open job at its deadline is closed as late. A job released r slots ago waits T - r,
+  -- so there it waits T - D.
   abbrev pub isLate : ℕ → Bool
   isLate i = ltb i (t .count) && (ltb 0 (leftDone i) && eqb (waitOf d i) (task t i .period - task t i .deadline))
 
@@ -99,24 +118,39 @@ module _ (t : Table) (d : State) (done : Bool) where
   abbrev pub leftReleased : ℕ → ℕ
   leftReleased i = cond (eqb (waitOf d i) 0) (task t i .cost) (leftLate i)
 
-  -- Rule 4: the open job with the earliest deadline gets the slot, the one with the fewest slots to its deadline; ties go as in the run.
+  -- Rule 4: the open job with the earliest deadline gets the slot, the one with the fewest slots to its deadline;
+  -- ties go as in the run.
   unfoldable pub ownerNow : ℕ
-  ownerNow = choose (λ i. ltb 0 (leftReleased i)) (λ i. waitReleased i - (task t i .period - task t i .deadline)) (tieOrder t) (t .count)
+  ownerNow =
+      choose (λ i. ltb 0 (leftReleased i))
+      (λ i. waitReleased i - (task t i .period - task t i .deadline)) (tieOrder t) (t .count)
 
-  -- It has one slot fewer left, and every wait goes down by one. The slot is counted as its owner's, or as empty. Entries past the last task
-  -- stay as they came.
+  -- It has one slot fewer left, and every wait goes down by one. The slot is counted as its owner's, or as empty.
+  -- Entries past the last task stay as they came.
   unfoldable pub after : State
   after =
       let left = fill (t .count) (λ i. leftReleased i - cond (eqb ownerNow i) 1 0) (d .left) in
       let given = fill (t .count) (λ i. givenOf d i + bit (eqb ownerNow i)) (d .given) in
-      record { wait = fill (t .count) (λ i. waitReleased i - 1) (d .wait); left = left; last = ownerNow; given = given; empty = d .empty + bit (eqb ownerNow taskLimit) }
+      record {
+        wait = fill (t .count) (λ i. waitReleased i - 1) (d .wait);
+        left = left;
+        last = ownerNow;
+        given = given;
+        empty = d .empty + bit (eqb ownerNow taskLimit);
+      }
 
   -- The answer: the owner, which tasks were closed late, how many, and the lowest-numbered of them.
   unfoldable pub turn : Turn
-  turn = record { owner = ownerNow; late = bits isLate taskLimit; closed = count isLate taskLimit; lowest = first isLate 0 taskLimit }
+  turn =
+      record {
+        owner = ownerNow;
+        late = bits isLate taskLimit;
+        closed = count isLate taskLimit;
+        lowest = first isLate 0 taskLimit;
+      }
 
--- A step on any table and any state: refused as the state is, then by 9 if it can count no more slots, or taken. A refusal hands the state
--- back as it came.
+-- A step on any table and any state: refused as the state is, then by 9 if it can count no more slots, or taken.
+-- A refusal hands the state back as it came.
 abbrev pub refuseStep : Refusal → State → Stepped
 refuseStep r d = record { answer = SlotAnswer.Refused r; state = d }
 

@@ -1,5 +1,7 @@
--- What may be eased in a table (T-11): costs lowered, deadlines lengthened, tasks left out, and all of that together; and what is told of two tables.
-use Rattle.model.specs.Notation.{List, _≡_, Bool, cond, _&&_, ℕ, zero, suc, _+_, _-_, _*_, _≤_, _<_, leb, ltb, eqb, some, first, bits}
+-- What may be eased in a table (T-11): costs lowered, deadlines lengthened, tasks left out, and all of that together;
+-- and what is told of two tables.
+use Rattle.model.specs.Notation.{List, _≡_, Bool, cond, _&&_, ℕ, zero, suc, _+_, _-_, _*_, _≤_, _<_, leb, ltb}
+use Rattle.model.specs.Notation.{eqb, some, first, bits}
 use Rattle.model.specs.Values.{Task, Table, Easing, Admission}
 use Rattle.model.specs.Tasks.{task, offset}
 use Rattle.model.specs.TableFile.{periodicFrom}
@@ -12,7 +14,8 @@ pub record EasedTask (before after : Task) : Type 0 where
   pub lower-cost : after .cost ≤ before .cost
   pub longer-deadline : before .deadline ≤ after .deadline
 
--- A table eased: its task i is the eased task `kept i` of the table before. The kept tasks stand in their order; the others are left out.
+-- A table eased: its task i is the eased task `kept i` of the table before. The kept tasks stand in their order;
+-- the others are left out.
 pub record Eased (before after : Table) : Type 0 where
   pub kept : ℕ → ℕ
   pub in-order : (i k : ℕ) → i < k → k < after .count → kept i < kept k
@@ -28,7 +31,8 @@ pub record Lowered (before after : Table) : Type 0 where
 -- The test of a task: it is the other, eased.
 abbrev pub eases : Task → Task → Bool
 eases before after =
-    eqb (offset after) (offset before) && (eqb (after .period) (before .period) && (leb (after .cost) (before .cost) && leb (before .deadline) (after .deadline)))
+    eqb (offset after) (offset before) && (eqb (after .period) (before .period)
+    && (leb (after .cost) (before .cost) && leb (before .deadline) (after .deadline)))
 
 -- The first task of the table, from this one on, of which k is the eased one, or the count.
 abbrev pub nextEased : Table → Task → ℕ → ℕ
@@ -39,7 +43,8 @@ unfoldable pub searchedFrom : Table → Table → ℕ → ℕ
 searchedFrom before after zero = 0
 searchedFrom before after (suc i) = suc (nextEased before (task after i) (searchedFrom before after i))
 
--- The task of the table before that task i is found to be. Of several choices of kept tasks this is the first in order. From the count on: none.
+-- The task of the table before that task i is found to be. Of several choices of kept tasks this is the first in order.
+-- From the count on: none.
 abbrev pub keptAs : Table → Table → ℕ → ℕ
 keptAs before after i = nextEased before (task after i) (searchedFrom before after i)
 
@@ -53,7 +58,10 @@ keptSet before after = bits (λ k. some (λ i. eqb (keptAs before after i) k) (a
 
 -- What is told of two tables: the first task that is none, or the tasks that are kept.
 unfoldable pub easing : Table → Table → Easing
-easing before after = cond (ltb (unmatched before after) (after .count)) (Easing.Unmatched (unmatched before after)) (Easing.Kept (keptSet before after))
+easing before after =
+    cond (ltb (unmatched before after) (after .count))
+    (Easing.Unmatched (unmatched before after))
+    (Easing.Kept (keptSet before after))
 
 -- A table's first n tasks.
 abbrev pub firstTasks : Table → ℕ → Table
@@ -64,7 +72,8 @@ abbrev pub easingNumber : Easing → ℕ
 easingNumber (Easing.Unmatched i) = 4 * i
 easingNumber (Easing.Kept set) = 4 * set + 1
 
--- The refusal of the old file, 4 · refusal + 2; then of the new one, 4 · refusal + 3; else what is told of their tables.
+-- The refusal of the old file, 4 · refusal + 2; then of the new one, 4 · refusal + 3;
+-- else what is told of their tables.
 abbrev pub easedNumber : Table → Table → Admission → Admission → ℕ
 easedNumber before after (Admission.Refused r) a = 4 * refusalNumber r + 2
 easedNumber before after Admission.Admitted (Admission.Refused r) = 4 * refusalNumber r + 3
@@ -72,4 +81,7 @@ easedNumber before after Admission.Admitted Admission.Admitted = easingNumber (e
 
 -- The number that the exported call returns of an old and a new file.
 abbrev pub easedExported : List ℕ → List ℕ → ℕ
-easedExported old new = let b = periodicFrom old in let a = periodicFrom new in easedNumber (b .table) (a .table) (b .admission) (a .admission)
+easedExported old new =
+    let b = periodicFrom old in
+    let a = periodicFrom new in
+    easedNumber (b .table) (a .table) (b .admission) (a .admission)

@@ -1,5 +1,5 @@
--- Histories: what the dispatcher does step after step from a start, under any pattern of done reports, by its rules for ever; that a step is
--- taken is promised for as many as can be counted.
+-- Histories: what the dispatcher does step after step from a start, under any pattern of done reports,
+-- by its rules for ever; that a step is taken is promised for as many as can be counted.
 use Rattle.model.specs.Notation.{_≡_, _⊎_, Bool, _&&_, ℕ, zero, suc, min, _≤_, _<_, T, leb, eqb, count}
 use Rattle.model.specs.Values.{Table}
 use Rattle.model.specs.Tasks.{task, release}
@@ -23,7 +23,8 @@ module _ (t : Table) (done : ℕ → Bool) where
   unfoldable pub had : ℕ → ℕ → ℕ → ℕ
   had i from to = count (λ n. leb from n && eqb (ownerAt n) i) to
 
-  -- Job j of task i is finished by n: by n, and by its task's next release, it had its whole cost, or was reported done.
+  -- Job j of task i is finished by n: by n, and by its task's next release,
+  -- it had its whole cost, or was reported done.
   abbrev pub Finished : ℕ → ℕ → ℕ → Type 0
   Finished i j n =
       let from = release (task t i) j in

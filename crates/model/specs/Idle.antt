@@ -4,7 +4,8 @@ use Rattle.model.specs.Values.{Table}
 use Rattle.model.specs.Tasks.{task, release, due, round}
 use Rattle.model.specs.Run.{Order, current, served}
 
--- By u every job that was released strictly before u has finished: the job that each task is at is released at u or later.
+-- By u every job that was released strictly before u has finished:
+-- the job that each task is at is released at u or later.
 unfoldable pub idleAt : Table → Order → ℕ → Bool
 idleAt t rank u = every (λ i. leb u (release (task t i) (current t (served t rank u) i))) (t .count)
 

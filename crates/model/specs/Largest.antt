@@ -1,4 +1,5 @@
--- The largest cost that one task of a table can take (T-12), and the one permitted answer to a table, a task number and a budget.
+-- The largest cost that one task of a table can take (T-12), and the one permitted answer to a table,
+-- a task number and a budget.
 use Rattle.model.specs.Notation.{List, Bool, true, false, cond, ℕ, suc, _+_, min, ltb, set, last}
 use Rattle.model.specs.Values.{Task, Table, Judgement, Verdict, LargestCost, refusal}
 use Rattle.model.specs.Limits.{slotLimit}
@@ -36,10 +37,12 @@ costTold t i budget (Verdict.Late from to asked) = LargestCost.Late
 costTold t i budget Verdict.Undecided = LargestCost.Undecided
 costTold t i budget Verdict.Passes = LargestCost.Cost (largestCost t i budget)
 
--- By what the table is judged to be: its refusal; 12 for a number that is none of its tasks', at that number; or what is told.
+-- By what the table is judged to be: its refusal; 12 for a number that is none of its tasks',
+-- at that number; or what is told.
 abbrev pub costJudged : Table → ℕ → ℕ → Judgement → LargestCost
 costJudged t i budget (Judgement.Refused r) = LargestCost.Refused r
-costJudged t i budget (Judgement.WellFormed m) = cond (ltb i (t .count)) (costTold t i budget (verdict t budget)) (LargestCost.Refused (refusal 12 i))
+costJudged t i budget (Judgement.WellFormed m) =
+    cond (ltb i (t .count)) (costTold t i budget (verdict t budget)) (LargestCost.Refused (refusal 12 i))
 
 -- The one permitted answer to any table, task number and budget, refusals included.
 unfoldable pub costAnswer : Table → ℕ → ℕ → LargestCost

@@ -24,7 +24,8 @@ wordLimit = 4294967296
 abbrev pub budgetLimit : ℕ
 budgetLimit = wordLimit * wordLimit
 
--- The bytes of a budget, of a task and of a button: the kind and the body. The longest legal file: a budget, every task, the kind of the end.
+-- The bytes of a budget, of a task and of a button: the kind and the body. The longest legal file: a budget,
+-- every task, the kind of the end.
 abbrev pub budgetBytes : ℕ
 budgetBytes = 1 + 8
 
@@ -37,11 +38,13 @@ buttonBytes = 1 + 12
 abbrev pub longestFile : ℕ
 longestFile = budgetBytes + taskLimit * taskBytes + 1
 
--- The longest text of a file that is not refused: a budget of twenty digits, and of every task four numbers of five digits.
+-- The longest text of a file that is not refused: a budget of twenty digits,
+-- and of every task four numbers of five digits.
 abbrev pub longestText : ℕ
 longestText = 7 + 20 + 1 + taskLimit * (5 + 4 * 5 + 3 + 1)
 
--- The slots that a dispatcher's state can count, 2^64 - 1 (T-09); the place at which 8 refuses a state that counts more.
+-- The slots that a dispatcher's state can count, 2^64 - 1 (T-09);
+-- the place at which 8 refuses a state that counts more.
 abbrev pub slotCountLimit : ℕ
 slotCountLimit = 18446744073709551615
 

@@ -1,12 +1,14 @@
--- The log that a camera keeps, and its judge: from pieces cut anywhere the answer good, the first slot that differs, or a fault.
-use Rattle.model.specs.Notation.{List, [], _∷_, _++_, Bool, true, false, cond, not, _&&_, _||_, ℕ, zero, suc, _+_, ltb, eqb}
+-- The log that a camera keeps, and its judge: from pieces cut anywhere the answer good,
+-- the first slot that differs, or a fault.
+use Rattle.model.specs.Notation.{List, [], _∷_, _++_, Bool, true, false, cond, not, _&&_, _||_, ℕ, zero, suc, _+_}
+use Rattle.model.specs.Notation.{ltb, eqb}
 use Rattle.model.specs.Values.{Table, Admission, Finding, refusal}
 use Rattle.model.specs.Limits.{taskLimit, logLimit, countPlace}
 use Rattle.model.specs.Dispatcher.{State, slotCount, admitted, started, ownerNow, after}
 use Rattle.model.specs.History.{ownerAt}
 
--- What the judge keeps between pieces: a dispatcher's state; whether a record of kind 16 is open, whose task number is still to come; whether a
--- done report waits for the next slot; how many slots and bytes were read; and what was found.
+-- What the judge keeps between pieces: a dispatcher's state; whether a record of kind 16 is open, whose task number is
+-- still to come; whether a done report waits for the next slot; how many slots and bytes were read; and what was found.
 pub record Log : Type 0 where
   pub state : State
   pub opened : Bool
@@ -19,11 +21,13 @@ pub record Log : Type 0 where
 module _ (t : Table) (l : Log) where
   -- A byte that leaves the state and the slots as they are is read.
   abbrev pub passed : Bool → Bool → Finding → Log
-  passed opened done found = record { state = l .state; opened = opened; done = done; slots = l .slots; bytes = l .bytes + 1; found = found }
+  passed opened done found =
+      record { state = l .state; opened = opened; done = done; slots = l .slots; bytes = l .bytes + 1; found = found }
 
   -- Once a fault or a difference is found nothing else moves. A fault names the byte, a difference the slot.
   abbrev pub stopped : Finding → Log
-  stopped f = record { state = l .state; opened = l .opened; done = l .done; slots = l .slots; bytes = l .bytes; found = f }
+  stopped f =
+      record { state = l .state; opened = l .opened; done = l .done; slots = l .slots; bytes = l .bytes; found = f }
 
   abbrev pub fault : ℕ → Log
   fault n = stopped (Finding.Fault n (l .bytes))
@@ -35,7 +39,14 @@ module _ (t : Table) (l : Log) where
   -- A slot's record is whole: it is the dispatcher's, which steps, or the first that differs.
   abbrev pub slotRead : Bool → Log
   slotRead same =
-      cond same (record { state = after t (l .state) (l .done); opened = false; done = false; slots = l .slots + 1; bytes = l .bytes + 1; found = Finding.Nothing })
+      cond same (record {
+        state = after t (l .state) (l .done);
+        opened = false;
+        done = false;
+        slots = l .slots + 1;
+        bytes = l .bytes + 1;
+        found = Finding.Nothing;
+      })
       (stopped (Finding.Differs (l .slots)))
 
   -- The task number of an open record: a number outside the table is a slot that differs.
@@ -54,8 +65,8 @@ module _ (t : Table) (l : Log) where
       (cond (eqb k 18) doneRead
       (cond (eqb k 19) (passed false (l .done) Finding.Good) (fault 40))))
 
-  -- By what was found before: after the end a byte is 42, and after a fault or a difference it is not looked at. The first byte past the limit
-  -- is 44, whatever it is.
+  -- By what was found before: after the end a byte is 42, and after a fault or a difference it is not looked at.
+  -- The first byte past the limit is 44, whatever it is.
   abbrev pub readBy : ℕ → Finding → Log
   readBy b Finding.Nothing = cond (eqb (l .bytes) logLimit) (fault 44) (cond (l .opened) (taskRead b) (kindRead b))
   readBy b Finding.Good = cond (eqb (l .bytes) logLimit) (fault 44) (fault 42)
@@ -78,16 +89,25 @@ atEnd bytes (Finding.Differs slot) = Finding.Differs slot
 atEnd bytes (Finding.Fault n p) = Finding.Fault n p
 
 abbrev pub closed : Log → Log
-closed l = record { state = l .state; opened = l .opened; done = l .done; slots = l .slots; bytes = l .bytes; found = atEnd (l .bytes) (l .found) }
+closed l =
+    record {
+      state = l .state;
+      opened = l .opened;
+      done = l .done;
+      slots = l .slots;
+      bytes = l .bytes;
+      found = atEnd (l .bytes) (l .found);
+    }
 
--- A log is refused as its dispatcher's state is, and then by 8 at `countPlace`, if its slots are not those that the state counts, or are more
--- than its bytes, or its bytes are above the limit.
+-- A log is refused as its dispatcher's state is, and then by 8 at `countPlace`,
+-- if its slots are not those that the state counts, or are more than its bytes, or its bytes are above the limit.
 abbrev pub miscounted : Table → Log → Bool
 miscounted t l = not (eqb (l .slots) (slotCount t (l .state))) || ltb (l .bytes) (l .slots) || ltb logLimit (l .bytes)
 
 abbrev pub logAdmittedBy : Table → Log → Admission → Admission
 logAdmittedBy t l (Admission.Refused r) = Admission.Refused r
-logAdmittedBy t l Admission.Admitted = cond (miscounted t l) (Admission.Refused (refusal 8 countPlace)) Admission.Admitted
+logAdmittedBy t l Admission.Admitted =
+    cond (miscounted t l) (Admission.Refused (refusal 8 countPlace)) Admission.Admitted
 
 unfoldable pub logAdmitted : Table → Log → Admission
 logAdmitted t l = logAdmittedBy t l (admitted t (l .state))
@@ -96,8 +116,8 @@ logAdmitted t l = logAdmittedBy t l (admitted t (l .state))
 abbrev pub unread : State → Log
 unread d = record { state = d; opened = false; done = false; slots = 0; bytes = 0; found = Finding.Nothing }
 
--- What each of the three calls says and leaves: a start on any table, and a piece and the finish on any table and any log. A refusal hands the
--- log back as it came.
+-- What each of the three calls says and leaves: a start on any table,
+-- and a piece and the finish on any table and any log. A refusal hands the log back as it came.
 pub record Fed : Type 0 where
   pub admission : Admission
   pub log : Log
@@ -131,8 +151,8 @@ slotRecord owner = cond (eqb owner taskLimit) (17 ∷ []) (16 ∷ owner ∷ [])
 abbrev pub doneRecord : Bool → List ℕ
 doneRecord done = cond done (18 ∷ []) []
 
--- What a camera that runs the dispatcher has written after n slots: of each slot its owner, and behind it the done report about it, which the
--- next step is given.
+-- What a camera that runs the dispatcher has written after n slots: of each slot its owner,
+-- and behind it the done report about it, which the next step is given.
 unfoldable pub logOf : Table → (ℕ → Bool) → ℕ → List ℕ
 logOf t done zero = []
 logOf t done (suc n) = logOf t done n ++ slotRecord (ownerAt t done n) ++ doneRecord (done (suc n))

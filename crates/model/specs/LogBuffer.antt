@@ -19,12 +19,19 @@ abbrev pub placeOf : Finding → ℕ
 placeOf f = getD (findingSaid f) 1 0
 
 abbrev pub findingOf : ℕ → ℕ → Finding
-findingOf n p = cond (eqb n 0) Finding.Nothing (cond (eqb n 1) Finding.Good (cond (eqb n 2) (Finding.Differs p) (Finding.Fault n p)))
+findingOf n p =
+    cond (eqb n 0) Finding.Nothing
+    (cond (eqb n 1) Finding.Good
+    (cond (eqb n 2) (Finding.Differs p)
+    (Finding.Fault n p)))
 
--- The dispatcher's state as in a state buffer; whether a record is open, and whether a done report waits; what was found; the slots and the bytes.
+-- The dispatcher's state as in a state buffer; whether a record is open, and whether a done report waits;
+-- what was found; the slots and the bytes.
 unfoldable pub logBufferOf : Log → List ℕ
 logBufferOf l =
-    bufferOf (l .state) quiet ++ bytesOf (bit (l .opened) ∷ bit (l .done) ∷ numberOf (l .found) ∷ placeOf (l .found) ∷ []) ++ bytesOf (twoWords (l .slots)) ++ bytesOf (twoWords (l .bytes))
+    bufferOf (l .state) quiet
+    ++ bytesOf (bit (l .opened) ∷ bit (l .done) ∷ numberOf (l .found) ∷ placeOf (l .found) ∷ [])
+    ++ bytesOf (twoWords (l .slots)) ++ bytesOf (twoWords (l .bytes))
 
 -- The log in a buffer: a record is open, and a report waits, for any word but 0.
 unfoldable pub logIn : List ℕ → Log
@@ -38,8 +45,8 @@ logIn buffer =
       found = findingOf (four buffer (stateBytes + 8)) (four buffer (stateBytes + 12));
     }
 
--- What a call returns that is not refused: 2^32 times the number of what is found so far, and its place. The whole buffer is written. A refusal,
--- which writes nowhere, is below 2^32.
+-- What a call returns that is not refused: 2^32 times the number of what is found so far, and its place.
+-- The whole buffer is written. A refusal, which writes nowhere, is below 2^32.
 abbrev pub answerNumber : Finding → ℕ
 answerNumber f = wordLimit * numberOf f + placeOf f
 
@@ -47,15 +54,19 @@ abbrev pub logWritten : List ℕ → Log → Admission → Exported
 logWritten buffer l (Admission.Refused r) = refused r buffer
 logWritten buffer l Admission.Admitted = record { number = answerNumber (l .found); buffer = logBufferOf l }
 
--- The one permitted result of each on any file and any buffer: 50, the file's form, the table, the state with its places of 8 up to the last.
+-- The one permitted result of each on any file and any buffer: 50, the file's form, the table,
+-- the state with its places of 8 up to the last.
 abbrev pub logStartExported : List ℕ → List ℕ → Exported
-logStartExported file buffer = onFile logBytes file buffer (λ t. let f = logStarted t in logWritten buffer (f .log) (f .admission))
+logStartExported file buffer =
+    onFile logBytes file buffer (λ t. let f = logStarted t in logWritten buffer (f .log) (f .admission))
 
 abbrev pub logFeedExported : List ℕ → List ℕ → List ℕ → Exported
-logFeedExported file buffer piece = onFile logBytes file buffer (λ t. let f = fed t (logIn buffer) piece in logWritten buffer (f .log) (f .admission))
+logFeedExported file buffer piece =
+    onFile logBytes file buffer (λ t. let f = fed t (logIn buffer) piece in logWritten buffer (f .log) (f .admission))
 
 abbrev pub logFinishExported : List ℕ → List ℕ → Exported
-logFinishExported file buffer = onFile logBytes file buffer (λ t. let f = logFinished t (logIn buffer) in logWritten buffer (f .log) (f .admission))
+logFinishExported file buffer =
+    onFile logBytes file buffer (λ t. let f = logFinished t (logIn buffer) in logWritten buffer (f .log) (f .admission))
 
 -- Pieces one after another in one buffer, and the whole judge: a start in a lent buffer, the pieces, and the finish.
 unfoldable pub feedsIn : List ℕ → List ℕ → List (List ℕ) → List ℕ

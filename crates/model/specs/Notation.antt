@@ -1,4 +1,5 @@
--- The words that the definitions use: those of the library, all of them here, and sums, counts, searches and texts. None is of scheduling.
+-- The words that the definitions use: those of the library, all of them here, and sums, counts, searches and texts.
+-- None is of scheduling.
 pub use mathlib.Core.Path.{_≡_}
 pub use mathlib.Core.Logic.{_⊎_}
 pub use mathlib.Core.Bool.{Bool, true, false, cond, not, _&&_, _||_}
@@ -67,7 +68,10 @@ text (string._∷_ c s) = code c ∷ text s
 
 unfoldable pub digits : ℕ → ℕ → List ℕ
 digits zero n = []
-digits (suc enough) n = elim (ltb n 10) [ true ↦ (48 + n) ∷ [] | false ↦ digits enough (n / 10) ++ ((48 + n % 10) ∷ []) ]
+digits (suc enough) n = elim (ltb n 10) [
+  | true ↦ (48 + n) ∷ []
+  | false ↦ digits enough (n / 10) ++ ((48 + n % 10) ∷ [])
+]
 
 unfoldable pub decimal : ℕ → List ℕ
 decimal n = digits (suc n) n

@@ -1,5 +1,7 @@
--- The quick test (T-03) and the distance test (T-05, T-13): tables with other offsets, each walked to its first idle instant.
-use Rattle.model.specs.Notation.{Bool, cond, not, _&&_, _||_, ℕ, suc, _-_, _%_, ℤ, pos, negsuc, _-ℤ_, leb, eqb, some, every, last, fill}
+-- The quick test (T-03) and the distance test (T-05, T-13): tables with other offsets,
+-- each walked to its first idle instant.
+use Rattle.model.specs.Notation.{Bool, cond, not, _&&_, _||_, ℕ, suc, _-_, _%_, ℤ, pos, negsuc, _-ℤ_, leb, eqb}
+use Rattle.model.specs.Notation.{some, every, last, fill}
 use Rattle.model.specs.Values.{Sort, Task, Table, Judgement, QuickAnswer, DistanceAnswer}
 use Rattle.model.specs.Tasks.{task, isButton, offset, round, load, judgedMixed, judged}
 use Rattle.model.specs.Run.{Order, tieOrder}
@@ -10,7 +12,13 @@ unfoldable pub startingAt : Table → (ℕ → ℕ) → Table
 startingAt t start =
     record {
       count = t .count;
-      tasks = fill (t .count) (λ i. record { sort = Sort.Periodic (start i); cost = task t i .cost; deadline = task t i .deadline; period = task t i .period }) (t .tasks);
+      tasks =
+          fill (t .count) (λ i. record {
+            sort = Sort.Periodic (start i);
+            cost = task t i .cost;
+            deadline = task t i .deadline;
+            period = task t i .period;
+          }) (t .tasks);
     }
 
 -- No overload: the load is at most 1.
@@ -44,15 +52,18 @@ quickAnswer t = quickJudged t (judged t)
 unfoldable pub commonDivisor : ℕ → ℕ → ℕ
 commonDivisor a b = last (λ g. eqb (a % g) 0 && eqb (b % g) 0) (suc a)
 
--- An integer reduced upward into 0 to g - 1: the number there that differs from it by a multiple of g. `negsuc n` is -(n + 1).
+-- An integer reduced upward into 0 to g - 1: the number there that differs from it by a multiple of g.
+-- `negsuc n` is -(n + 1).
 abbrev pub reduced : ℤ → ℕ → ℕ
 reduced (pos n) g = n % g
 reduced (negsuc n) g = (g - suc n % g) % g
 
--- The smallest distance from a release of `one` to a simultaneous or later one of `other`: the difference of their offsets, reduced; a
--- button has distance 0 from each.
+-- The smallest distance from a release of `one` to a simultaneous or later one of `other`:
+-- the difference of their offsets, reduced; a button has distance 0 from each.
 unfoldable pub distance : Task → Task → ℕ
-distance one other = cond (isButton other) 0 (reduced (pos (offset other) -ℤ pos (offset one)) (commonDivisor (one .period) (other .period)))
+distance one other =
+    cond (isButton other) 0
+    (reduced (pos (offset other) -ℤ pos (offset one)) (commonDivisor (one .period) (other .period)))
 
 -- The pattern of a periodic task i: i starts at 0, and every other task at its distance from i.
 abbrev pub pattern : Table → ℕ → Table
@@ -61,7 +72,9 @@ pattern t i = startingAt t (λ k. distance (task t i) (task t k))
 -- The pattern of each periodic task is calm; where there is none, all starts at 0 are.
 abbrev pub calmPatterns : Table → Bool
 calmPatterns t =
-    cond (some (λ i. not (isButton (task t i))) (t .count)) (every (λ i. isButton (task t i) || calm (pattern t i)) (t .count)) (calm (simultaneous t))
+    cond (some (λ i. not (isButton (task t i))) (t .count))
+    (every (λ i. isButton (task t i) || calm (pattern t i)) (t .count))
+    (calm (simultaneous t))
 
 -- Distance pass: no overload, and every pattern is calm.
 unfoldable pub distancePass : Table → Bool
@@ -70,7 +83,8 @@ distancePass t = light t && calmPatterns t
 -- The one answer of the distance test to any table, of tasks of both sorts. Overload is said first.
 abbrev pub distanceJudged : Table → Judgement → DistanceAnswer
 distanceJudged t (Judgement.Refused r) = DistanceAnswer.Refused r
-distanceJudged t (Judgement.WellFormed m) = cond (light t) (cond (distancePass t) DistanceAnswer.Pass DistanceAnswer.NoAnswer) DistanceAnswer.Overload
+distanceJudged t (Judgement.WellFormed m) =
+    cond (light t) (cond (distancePass t) DistanceAnswer.Pass DistanceAnswer.NoAnswer) DistanceAnswer.Overload
 
 unfoldable pub distanceAnswer : Table → DistanceAnswer
 distanceAnswer t = distanceJudged t (judgedMixed t)

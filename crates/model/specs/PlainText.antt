@@ -1,5 +1,7 @@
--- Tables in plain text: for any bytes the refusal, or the budget and the tasks; the text of a budget and tasks; the exported calls.
-use Rattle.model.specs.Notation.{List, [], _∷_, _++_, Bool, true, false, cond, not, _&&_, _||_, ℕ, zero, suc, _+_, _-_, _*_, min, leb, ltb, eqb, getD, length, take, text, decimal}
+-- Tables in plain text: for any bytes the refusal, or the budget and the tasks;
+-- the text of a budget and tasks; the exported calls.
+use Rattle.model.specs.Notation.{List, [], _∷_, _++_, Bool, true, false, cond, not, _&&_, _||_, ℕ, zero, suc, _+_}
+use Rattle.model.specs.Notation.{_-_, _*_, min, leb, ltb, eqb, getD, length, take, text, decimal}
 use Rattle.model.specs.Values.{Sort, Task, Table, Contents, Admission, Line}
 use Rattle.model.specs.Limits.{taskLimit, wordLimit, budgetLimit}
 use Rattle.model.specs.Tasks.{within, judgedMixed}
@@ -105,7 +107,8 @@ budgetLine given ws = cond given (Line.Fault 65) (unless (numbersFault budgetLim
 
 -- The numbers of a task are O, C, D, T, and of a button C, D and its spacing.
 abbrev pub taskIn : List (List ℕ) → Task
-taskIn ws = record { sort = Sort.Periodic (number ws 0); cost = number ws 1; deadline = number ws 2; period = number ws 3 }
+taskIn ws =
+    record { sort = Sort.Periodic (number ws 0); cost = number ws 1; deadline = number ws 2; period = number ws 3 }
 
 abbrev pub buttonIn : List (List ℕ) → Task
 buttonIn ws = record { sort = Sort.Button; cost = number ws 0; deadline = number ws 1; period = number ws 2 }
@@ -116,7 +119,8 @@ taskLine numbers k given count ws =
     cond (not given) (Line.Fault 64)
     (cond (leb taskLimit count) (Line.Fault 66) (unless (numbersFault wordLimit numbers ws) (Line.OneTask k)))
 
--- What a line of these words says, after a budget or none and so many tasks: its first word tells which it is, or is 60.
+-- What a line of these words says, after a budget or none and so many tasks:
+-- its first word tells which it is, or is 60.
 unfoldable pub lineOf : Bool → ℕ → List (List ℕ) → Line
 lineOf given count [] = Line.Nothing
 lineOf given count (w ∷ ws) =
@@ -138,7 +142,9 @@ afterLine go given b ks n (Line.Fault f) = refuseText f n
 -- The lines after n lines. Where the text ends with no budget it is 64 at its last line.
 unfoldable pub readLines : Bool → ℕ → List Task → ℕ → List (List ℕ) → Contents
 readLines given b ks n [] = cond given (admit b ks) (refuseText 64 n)
-readLines given b ks n (l ∷ ls) = afterLine (λ g x js. readLines g x js (suc n) ls) given b ks (suc n) (lineOf given (length ks) (wordsOf (contentOf l)))
+readLines given b ks n (l ∷ ls) =
+    afterLine (λ g x js. readLines g x js (suc n) ls) given b ks (suc n)
+    (lineOf given (length ks) (wordsOf (contentOf l)))
 
 -- The form of a text; its table is judged only after the form is good.
 unfoldable pub textForm : List ℕ → Contents
@@ -156,7 +162,9 @@ sortText (Sort.Periodic o) = text "task " ++ decimal o ++ text " "
 sortText Sort.Button = text "button "
 
 abbrev pub taskText : Task → List ℕ
-taskText k = line (sortText (k .sort) ++ decimal (k .cost) ++ text " " ++ decimal (k .deadline) ++ text " " ++ decimal (k .period))
+taskText k =
+    line (sortText (k .sort) ++ decimal (k .cost) ++ text " "
+    ++ decimal (k .deadline) ++ text " " ++ decimal (k .period))
 
 unfoldable pub taskTexts : List Task → List ℕ
 taskTexts [] = []
@@ -174,12 +182,14 @@ abbrev pub formWritten : List ℕ → Filled → Admission → Filled
 formWritten buffer go (Admission.Refused r) = unwritten (r .number) (r .place) buffer
 formWritten buffer go Admission.Admitted = go
 
--- The file of a text, and the text of a file, each in a lent buffer: the form comes first, then the table, then the buffer's length.
+-- The file of a text, and the text of a file, each in a lent buffer: the form comes first, then the table,
+-- then the buffer's length.
 abbrev pub fromText : List ℕ → List ℕ → Filled
 fromText s buffer = let l = textForm s in formWritten buffer (fileWritten (l .table) (l .budget) buffer) (l .admission)
 
 abbrev pub toText : List ℕ → List ℕ → Filled
-toText file buffer = let l = formOf file in formWritten buffer (textWritten (l .table) (l .budget) buffer) (l .admission)
+toText file buffer =
+    let l = formOf file in formWritten buffer (textWritten (l .table) (l .budget) buffer) (l .admission)
 
 -- The one permitted result of each exported call.
 abbrev pub fromTextExported : List ℕ → List ℕ → Exported

@@ -1,6 +1,8 @@
 -- The report on an answer, byte for byte; the exported calls on a file; the program's output.
-use Rattle.model.specs.Notation.{List, [], _++_, Bool, true, false, cond, _≡_, ℕ, zero, suc, _+_, _*_, ltb, getD, length, drop, text, decimal}
-use Rattle.model.specs.Values.{Table, Refusal, Verdict, Outcome, Answer, QuickAnswer, DistanceAnswer, Admission, Contents, refusal}
+use Rattle.model.specs.Notation.{List, [], _++_, Bool, true, false, cond, _≡_, ℕ, zero, suc, _+_, _*_, ltb, getD}
+use Rattle.model.specs.Notation.{length, drop, text, decimal}
+use Rattle.model.specs.Values.{Table, Refusal, Verdict, Outcome, Answer, QuickAnswer, DistanceAnswer, Admission}
+use Rattle.model.specs.Values.{Contents, refusal}
 use Rattle.model.specs.Limits.{reportBytes}
 use Rattle.model.specs.TableFile.{formOf, fileRead}
 use Rattle.model.specs.Verdict.{Permitted}
@@ -25,13 +27,16 @@ quickWord false = text "none"
 -- The worst response of each of the first n tasks.
 unfoldable pub worstLines : List ℕ → ℕ → List ℕ
 worstLines worst zero = []
-worstLines worst (suc n) = worstLines worst n ++ line (text "worst " ++ decimal n ++ text " " ++ decimal (getD worst n 0))
+worstLines worst (suc n) =
+    worstLines worst n ++ line (text "worst " ++ decimal n ++ text " " ++ decimal (getD worst n 0))
 
--- What follows the settled count: the worst responses and the first idle instant after 0, or the interval of a late deadline.
+-- What follows the settled count: the worst responses and the first idle instant after 0,
+-- or the interval of a late deadline.
 abbrev pub details : ℕ → Answer → Verdict → List ℕ
 details n a Verdict.Passes = worstLines (a .worst) n ++ line (text "idle " ++ decimal (a .idle))
 details n a Verdict.Overload = []
-details n a (Verdict.Late from to asked) = line (text "interval " ++ decimal from ++ text " " ++ decimal to ++ text " demand " ++ decimal asked)
+details n a (Verdict.Late from to asked) =
+    line (text "interval " ++ decimal from ++ text " " ++ decimal to ++ text " demand " ++ decimal asked)
 details n a Verdict.Undecided = []
 
 -- The report of a verdict on a table of n tasks, which the quick test passes or not.
@@ -66,20 +71,29 @@ abbrev pub outcomeTold : {A : Type 0} → (Refusal → A) → (List ℕ → A) �
 outcomeTold refuse tell n quick a (Outcome.Refused r) = refuse r
 outcomeTold refuse tell n quick a (Outcome.Tested v) = tell (reportOf n quick a v)
 
--- What a file may be told as: the refusal of its form or table, or of a short buffer, or the outcome of the permitted answer.
+-- What a file may be told as: the refusal of its form or table, or of a short buffer,
+-- or the outcome of the permitted answer.
 abbrev pub FileTold : {A : Type 0} → (Refusal → A) → (List ℕ → A) → Contents → A → Admission → Type 0
 FileTold refuse tell l x (Admission.Refused r) = x ≡ refuse r
-FileTold refuse tell l x Admission.Admitted = (a : Answer) × Permitted (l .table) (l .budget) a × (x ≡ outcomeTold refuse tell (l .table .count) (quickPass (l .table)) a (a .outcome))
+FileTold refuse tell l x Admission.Admitted =
+    (a : Answer) × Permitted (l .table) (l .budget) a
+    × (x ≡ outcomeTold refuse tell (l .table .count) (quickPass (l .table)) a (a .outcome))
 
--- The one permitted result of the exported call on any file and any buffer. A short buffer is refused by 30 before all else.
+-- The one permitted result of the exported call on any file and any buffer.
+-- A short buffer is refused by 30 before all else.
 abbrev pub Checked : List ℕ → List ℕ → Exported → Type 0
 Checked file buffer e =
-    let admission = cond (ltb (length buffer) reportBytes) (Admission.Refused (refusal 30 (length buffer))) (fileRead file .admission) in
+    let admission =
+    cond (ltb (length buffer) reportBytes) (Admission.Refused (refusal 30 (length buffer)))
+    (fileRead file .admission) in
     FileTold (λ r. refused r buffer) (λ report. written report buffer) (fileRead file) e admission
 
 -- The number that an exported call on any file alone returns: the refusal of its form, or what it says of its table.
 abbrev pub fileNumber : List ℕ → (Table → ℕ) → ℕ
-fileNumber file tell = elim (formOf file .admission) [ Admission.Refused r ↦ refusalNumber r | Admission.Admitted ↦ tell (formOf file .table) ]
+fileNumber file tell = elim (formOf file .admission) [
+  | Admission.Refused r ↦ refusalNumber r
+  | Admission.Admitted ↦ tell (formOf file .table)
+]
 
 -- Of the quick test: 1 for pass, 0 for no answer, or the refusal of the table.
 abbrev pub quickNumber : QuickAnswer → ℕ

@@ -8,7 +8,8 @@ unfoldable pub hasLine : List ℕ → List (List ℕ) → Bool
 hasLine w [] = false
 hasLine w (l ∷ ls) = same l w || hasLine w ls
 
--- The line that says so, in a text that is no longer than a report can be: a refusal, handed over for a length, is longer.
+-- The line that says so, in a text that is no longer than a report can be: a refusal,
+-- handed over for a length, is longer.
 abbrev pub saysPasses : List ℕ → Bool
 saysPasses s = leb (length s) reportBytes && hasLine (text "verdict passes") (linesOf s)
 

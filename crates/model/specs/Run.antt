@@ -1,5 +1,6 @@
 -- The run: in each slot the released, unfinished job with the earliest deadline, ties by a fixed order of the tasks.
-use Rattle.model.specs.Notation.{_≡_, List, Bool, cond, _&&_, _||_, ℕ, zero, suc, _+_, _-_, _/_, _≤_, leb, ltb, eqb, getD, set, replicate, Least}
+use Rattle.model.specs.Notation.{_≡_, List, Bool, cond, _&&_, _||_, ℕ, zero, suc, _+_, _-_, _/_, _≤_, leb, ltb}
+use Rattle.model.specs.Notation.{eqb, getD, set, replicate, Least}
 use Rattle.model.specs.Values.{Table}
 use Rattle.model.specs.Limits.{taskLimit}
 use Rattle.model.specs.Tasks.{task, release, due}
@@ -21,15 +22,18 @@ precedes deadline rank i k = ltb (deadline i) (deadline k) || (eqb (deadline i) 
 unfoldable pub choose : (ℕ → Bool) → (ℕ → ℕ) → Order → ℕ → ℕ
 choose open? deadline rank zero = taskLimit
 choose open? deadline rank (suc n) =
-    let best = choose open? deadline rank n in cond (open? n && (eqb best taskLimit || precedes deadline rank n best)) n best
+    let best = choose open? deadline rank n in
+    cond (open? n && (eqb best taskLimit || precedes deadline rank n best)) n best
 
 -- The job that task i is at, with s the slots given to each task: the first that has not had its C slots.
 abbrev pub current : Table → List ℕ → ℕ → ℕ
 current t s i = getD s i 0 / task t i .cost
 
--- Who owns slot u, with s the slots given to each task before. Of a task's unfinished jobs the one it is at has the earliest deadline.
+-- Who owns slot u, with s the slots given to each task before.
+-- Of a task's unfinished jobs the one it is at has the earliest deadline.
 unfoldable pub ownerOf : Table → Order → ℕ → List ℕ → ℕ
-ownerOf t rank u s = choose (λ i. leb (release (task t i) (current t s i)) u) (λ i. due (task t i) (current t s i)) rank (t .count)
+ownerOf t rank u s =
+    choose (λ i. leb (release (task t i) (current t s i)) u) (λ i. due (task t i) (current t s i)) rank (t .count)
 
 -- The slots given to each task before slot u; who owns slot u.
 unfoldable pub served : Table → Order → ℕ → List ℕ

@@ -1,13 +1,14 @@
 -- The dispatcher's state in a lent buffer, and the exported start and step of a camera's own loop.
-use Rattle.model.specs.Notation.{List, [], _∷_, _++_, cond, not, ℕ, zero, suc, _+_, _*_, min, eqb, length, replicate, fill}
+use Rattle.model.specs.Notation.{List, [], _∷_, _++_, cond, not, ℕ, zero, suc, _+_, _*_, min, eqb, length}
+use Rattle.model.specs.Notation.{replicate, fill}
 use Rattle.model.specs.Values.{Table, Admission, Turn, SlotAnswer, refusal}
 use Rattle.model.specs.Limits.{taskLimit}
 use Rattle.model.specs.TableFile.{four, eight, twoWords, bytesOf, formOf}
 use Rattle.model.specs.Dispatcher.{State, started, stepped}
 use Rattle.model.specs.Report.{Exported, refused}
 
--- The bytes of a state buffer: four for each wait, for each number of slots left, and for the four words after them; then eight for each
--- count of slots.
+-- The bytes of a state buffer: four for each wait, for each number of slots left, and for the four words after them;
+-- then eight for each count of slots.
 abbrev pub countsAt : ℕ
 countsAt = 4 * (taskLimit + taskLimit + 4)
 
@@ -19,10 +20,12 @@ unfoldable pub halves : List ℕ → List ℕ
 halves [] = []
 halves (x ∷ w) = twoWords x ++ halves w
 
--- The waits, the slots left, which task ran last; what the step said: the late set, its count and its lowest task; the slots given to each
--- task, and the empty ones.
+-- The waits, the slots left, which task ran last; what the step said: the late set, its count and its lowest task;
+-- the slots given to each task, and the empty ones.
 unfoldable pub bufferOf : State → Turn → List ℕ
-bufferOf d u = bytesOf (d .wait) ++ bytesOf (d .left) ++ bytesOf (d .last ∷ u .late ∷ u .closed ∷ u .lowest ∷ []) ++ bytesOf (halves (d .given)) ++ bytesOf (twoWords (d .empty))
+bufferOf d u =
+    bytesOf (d .wait) ++ bytesOf (d .left) ++ bytesOf (d .last ∷ u .late ∷ u .closed ∷ u .lowest ∷ [])
+    ++ bytesOf (halves (d .given)) ++ bytesOf (twoWords (d .empty))
 
 -- The state in a buffer. What the last step said is not read.
 abbrev pub wordsIn : List ℕ → ℕ → List ℕ
@@ -54,8 +57,8 @@ abbrev pub stepWritten : List ℕ → State → SlotAnswer → Exported
 stepWritten buffer d (SlotAnswer.Refused r) = refused r buffer
 stepWritten buffer d (SlotAnswer.Slot u) = record { number = u .owner; buffer = bufferOf d u }
 
--- The order of the refusals: 50 for a buffer that is not this long, at its length or the largest place; the file's form; the table; the
--- state.
+-- The order of the refusals: 50 for a buffer that is not this long, at its length or the largest place;
+-- the file's form; the table; the state.
 abbrev pub onFile : ℕ → List ℕ → List ℕ → (Table → Exported) → Exported
 onFile bytes file buffer go =
     let unfit = Admission.Refused (refusal 50 (min (length buffer) 65535)) in
@@ -64,12 +67,16 @@ onFile bytes file buffer go =
 
 -- The one permitted result of each on any file and any buffer; a done report is any number but 0.
 abbrev pub startExported : List ℕ → List ℕ → Exported
-startExported file buffer = onFile stateBytes file buffer (λ t. startWritten buffer (started t .state) (started t .admission))
+startExported file buffer =
+    onFile stateBytes file buffer (λ t. startWritten buffer (started t .state) (started t .admission))
 
 abbrev pub stepExported : List ℕ → List ℕ → ℕ → Exported
-stepExported file buffer done = onFile stateBytes file buffer (λ t. let s = stepped t (stateIn buffer) (not (eqb done 0)) in stepWritten buffer (s .state) (s .answer))
+stepExported file buffer done =
+    onFile stateBytes file buffer
+    (λ t. let s = stepped t (stateIn buffer) (not (eqb done 0)) in stepWritten buffer (s .state) (s .answer))
 
--- A camera's loop: a start in a lent buffer, and then steps in it. The buffer that step n is handed; `done n` is what it is told.
+-- A camera's loop: a start in a lent buffer, and then steps in it. The buffer that step n is handed;
+-- `done n` is what it is told.
 unfoldable pub handed : List ℕ → List ℕ → (ℕ → ℕ) → ℕ → List ℕ
 handed file lent done zero = startExported file lent .buffer
 handed file lent done (suc n) = stepExported file (handed file lent done n) (done n) .buffer

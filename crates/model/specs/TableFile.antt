@@ -1,5 +1,6 @@
 -- The table file: for any list of bytes the refusal, or the budget and the tasks; and the file of a budget and tasks.
-use Rattle.model.specs.Notation.{List, [], _∷_, _++_, cond, _||_, ℕ, zero, suc, _+_, _-_, _*_, _/_, _%_, ltb, leb, eqb, getD, length, replicate}
+use Rattle.model.specs.Notation.{List, [], _∷_, _++_, cond, _||_, ℕ, zero, suc, _+_, _-_, _*_, _/_, _%_, ltb, leb}
+use Rattle.model.specs.Notation.{eqb, getD, length, replicate}
 use Rattle.model.specs.Values.{Sort, Task, Table, Judgement, Admission, Contents, refusal}
 use Rattle.model.specs.Limits.{taskLimit, wordLimit, budgetBytes, taskBytes, buttonBytes}
 use Rattle.model.specs.Tasks.{noTask, judgedMixed, judged}
@@ -26,7 +27,13 @@ eight s at = four s at + wordLimit * four s (at + 4)
 
 -- A task's body: O, C, D, T. A button's: C, D and its spacing.
 abbrev pub taskIn : List ℕ → ℕ → Task
-taskIn s at = record { sort = Sort.Periodic (four s at); cost = four s (at + 4); deadline = four s (at + 8); period = four s (at + 12) }
+taskIn s at =
+    record {
+      sort = Sort.Periodic (four s at);
+      cost = four s (at + 4);
+      deadline = four s (at + 8);
+      period = four s (at + 12);
+    }
 
 abbrev pub buttonIn : List ℕ → ℕ → Task
 buttonIn s at = record { sort = Sort.Button; cost = four s at; deadline = four s (at + 4); period = four s (at + 8) }
@@ -45,20 +52,24 @@ admit b ks = record { admission = Admission.Admitted; budget = b; table = tableO
 abbrev pub whole : List ℕ → ℕ → ℕ → Contents → Contents
 whole s at bytes go = cond (ltb (length s) (at + bytes)) (refuseFile 20 at) go
 
--- The record at a place after the budget b and the tasks ks; a task of either sort leads to `go` with its bytes. A kind is known, or 21;
--- then allowed here, or 23 or 25; then its body is whole, or 20. Where the file stops it is 26. Whatever follows the end is 24.
+-- The record at a place after the budget b and the tasks ks; a task of either sort leads to `go` with its bytes.
+-- A kind is known, or 21; then allowed here, or 23 or 25; then its body is whole, or 20. Where the file stops it is 26.
+-- Whatever follows the end is 24.
 abbrev pub readRecord : List ℕ → ℕ → List Task → ℕ → (ℕ → Task → Contents) → Contents
 readRecord s b ks at go =
     cond (leb (length s) at) (refuseFile 26 (length s))
     (cond (eqb (getD s at 0) budgetKind) (refuseFile 23 at)
     (cond (eqb (getD s at 0) taskKind) (go taskBytes (taskIn s (at + 1)))
     (cond (eqb (getD s at 0) buttonKind) (go buttonBytes (buttonIn s (at + 1)))
-    (cond (eqb (getD s at 0) endKind) (cond (ltb (at + 1) (length s)) (refuseFile 24 (at + 1)) (admit b ks)) (refuseFile 21 at)))))
+    (cond (eqb (getD s at 0) endKind)
+    (cond (ltb (at + 1) (length s)) (refuseFile 24 (at + 1)) (admit b ks))
+    (refuseFile 21 at)))))
 
 -- The records after the budget, with room for this many more tasks.
 unfoldable pub readFrom : List ℕ → ℕ → List Task → ℕ → ℕ → Contents
 readFrom s b ks zero at = readRecord s b ks at (λ bytes k. refuseFile 25 at)
-readFrom s b ks (suc room) at = readRecord s b ks at (λ bytes k. whole s at bytes (readFrom s b (ks ++ (k ∷ [])) room (at + bytes)))
+readFrom s b ks (suc room) at =
+    readRecord s b ks at (λ bytes k. whole s at bytes (readFrom s b (ks ++ (k ∷ [])) room (at + bytes)))
 
 -- A file's budget is at least 1: one of 0 is refused by 27, when it is read, before anything behind it.
 abbrev pub worth : ℕ → Contents → Contents
@@ -68,8 +79,11 @@ worth b go = cond (eqb b 0) (refuseFile 27 0) go
 unfoldable pub formOf : List ℕ → Contents
 formOf s =
     cond (eqb (length s) 0) (refuseFile 22 0)
-    (cond (eqb (getD s 0 0) budgetKind) (whole s 0 budgetBytes (worth (eight s 1) (readFrom s (eight s 1) [] taskLimit budgetBytes)))
-    (cond (eqb (getD s 0 0) taskKind || (eqb (getD s 0 0) endKind || eqb (getD s 0 0) buttonKind)) (refuseFile 22 0) (refuseFile 21 0)))
+    (cond (eqb (getD s 0 0) budgetKind)
+    (whole s 0 budgetBytes (worth (eight s 1) (readFrom s (eight s 1) [] taskLimit budgetBytes)))
+    (cond (eqb (getD s 0 0) taskKind || (eqb (getD s 0 0) endKind || eqb (getD s 0 0) buttonKind))
+    (refuseFile 22 0)
+    (refuseFile 21 0)))
 
 -- The table of a file is judged only after the file's form is good.
 abbrev pub judgedTable : Contents → Judgement → Contents

@@ -1,5 +1,6 @@
 -- Tasks, their ranges, and well-formed tables.
-use Rattle.model.specs.Notation.{Bool, true, false, cond, not, _&&_, ℕ, _+_, _*_, _/_, _%_, _^_, leb, ltb, eqb, getD, sum, largest, every, first}
+use Rattle.model.specs.Notation.{Bool, true, false, cond, not, _&&_, ℕ, _+_, _*_, _/_, _%_, _^_, leb, ltb, eqb}
+use Rattle.model.specs.Notation.{getD, sum, largest, every, first}
 use Rattle.model.specs.Values.{Sort, Task, Table, Measure, Judgement, refusal}
 use Rattle.model.specs.Limits.{taskLimit, slotLimit, roundLimit}
 
@@ -53,7 +54,8 @@ firstFaulty t = first (λ i. not (eqb (taskFault (task t i)) 0)) 0 (t .count)
 abbrev pub commonMultiple : Table → ℕ → Bool
 commonMultiple t h = ltb 0 h && every (λ i. eqb (h % task t i .period) 0) (t .count)
 
--- H: the least common multiple of all periods. Periods in range have one that is at most `slotLimit` to the power of their number.
+-- H: the least common multiple of all periods.
+-- Periods in range have one that is at most `slotLimit` to the power of their number.
 unfoldable pub round : Table → ℕ
 round t = first (commonMultiple t) 0 (slotLimit ^ t .count)
 
@@ -74,7 +76,8 @@ abbrev pub judgedBy : Measure → Table → Judgement
 judgedBy m t =
     cond (eqb (t .count) 0) (Judgement.Refused (refusal 1 0))
     (cond (ltb taskLimit (t .count)) (Judgement.Refused (refusal 2 taskLimit))
-    (cond (ltb (firstFaulty t) (t .count)) (Judgement.Refused (refusal (taskFault (task t (firstFaulty t))) (firstFaulty t)))
+    (cond (ltb (firstFaulty t) (t .count))
+    (Judgement.Refused (refusal (taskFault (task t (firstFaulty t))) (firstFaulty t)))
     (cond (ltb roundLimit (m .round)) (Judgement.Refused (refusal 7 0)) (Judgement.WellFormed m))))
 
 -- Any table, of tasks of both sorts, is judged by its own measure.

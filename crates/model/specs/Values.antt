@@ -1,4 +1,5 @@
--- The values of crate `values` by their names, and each case of an answer as a list: the specification's number first (0 where nothing is refused), then its values.
+-- The values of crate `values` by their names, and each case of an answer as a list:
+-- the specification's number first (0 where nothing is refused), then its values.
 use Rattle.model.specs.Notation.{List, [], _∷_, ℕ}
 pub use Rattle.values.specs.declared.Sort.{Sort}
 pub use Rattle.values.specs.declared.Task.{Task}
@@ -35,7 +36,8 @@ refusal n p = record { number = n; place = p }
 abbrev pub refusalSaid : Refusal → List ℕ
 refusalSaid r = r .number ∷ r .place ∷ []
 
--- Of the test: a refusal, of two entries, or a verdict, of one or four. Of a table's judge: a refusal, or 0 with H, load and horizon.
+-- Of the test: a refusal, of two entries, or a verdict, of one or four. Of a table's judge: a refusal,
+-- or 0 with H, load and horizon.
 abbrev pub outcomeSaid : Outcome → List ℕ
 outcomeSaid (Outcome.Refused r) = refusalSaid r
 outcomeSaid (Outcome.Tested v) = verdictSaid v
@@ -44,7 +46,8 @@ abbrev pub judgementSaid : Judgement → List ℕ
 judgementSaid (Judgement.Refused r) = refusalSaid r
 judgementSaid (Judgement.WellFormed m) = 0 ∷ m .round ∷ m .load ∷ m .horizon ∷ []
 
--- Of a file or a start: a refusal, or 0. Of a writer: a refusal, or 0 with the bytes written. Of a step: a refusal, or 0 with the owner, the late set, its count and its lowest task.
+-- Of a file or a start: a refusal, or 0. Of a writer: a refusal, or 0 with the bytes written.
+-- Of a step: a refusal, or 0 with the owner, the late set, its count and its lowest task.
 abbrev pub admissionSaid : Admission → List ℕ
 admissionSaid (Admission.Refused r) = refusalSaid r
 admissionSaid Admission.Admitted = 0 ∷ []
@@ -70,7 +73,8 @@ abbrev pub slotSaid : SlotAnswer → List ℕ
 slotSaid (SlotAnswer.Refused r) = refusalSaid r
 slotSaid (SlotAnswer.Slot s) = 0 ∷ s .owner ∷ s .late ∷ s .closed ∷ s .lowest ∷ []
 
--- Of the largest cost: a refusal, of two entries; the verdict's number alone, where the table does not pass; or 0 with that cost.
+-- Of the largest cost: a refusal, of two entries; the verdict's number alone,
+-- where the table does not pass; or 0 with that cost.
 abbrev pub costSaid : LargestCost → List ℕ
 costSaid (LargestCost.Refused r) = refusalSaid r
 costSaid LargestCost.Overload = 1 ∷ []
@@ -78,7 +82,8 @@ costSaid LargestCost.Undecided = 2 ∷ []
 costSaid LargestCost.Late = 3 ∷ []
 costSaid (LargestCost.Cost c) = 0 ∷ c ∷ []
 
--- Of a log: 0 for nothing found yet, 1 for good, 2 with the slot that differs, or a fault's number, from 40 on, with the place of its byte.
+-- Of a log: 0 for nothing found yet, 1 for good, 2 with the slot that differs, or a fault's number, from 40 on,
+-- with the place of its byte.
 abbrev pub findingSaid : Finding → List ℕ
 findingSaid Finding.Nothing = 0 ∷ []
 findingSaid Finding.Good = 1 ∷ []

@@ -20,7 +20,8 @@ unfoldable pub verdict : Table → ℕ → Verdict
 verdict t budget =
     cond (ltb (round t) (load t)) Verdict.Overload
     (cond (ltb budget (needed t)) Verdict.Undecided
-    (cond (lateAt t (needed t)) (Verdict.Late (lateStart t (needed t)) (needed t) (demand t (lateStart t (needed t)) (needed t)))
+    (cond (lateAt t (needed t))
+    (Verdict.Late (lateStart t (needed t)) (needed t) (demand t (lateStart t (needed t)) (needed t)))
     Verdict.Passes))
 
 -- Settled: 0 on overload, the budget where it does not reach, else the needed slots.
@@ -40,14 +41,22 @@ brief o m settled = record { outcome = o; measure = m; settled = settled; worst 
 -- The permitted answer, by its verdict.
 abbrev pub Answers : Table → ℕ → Measure → Answer → Verdict → Type 0
 Answers t budget m a Verdict.Passes =
-    (w : List ℕ) × Worsts t w × (a ≡ record { outcome = Outcome.Tested Verdict.Passes; measure = m; settled = settledBy t budget; worst = w; idle = firstIdle t (tieOrder t) })
+    (w : List ℕ) × Worsts t w × (a ≡ record {
+      outcome = Outcome.Tested Verdict.Passes;
+      measure = m;
+      settled = settledBy t budget;
+      worst = w;
+      idle = firstIdle t (tieOrder t);
+    })
 Answers t budget m a Verdict.Overload = a ≡ brief (Outcome.Tested Verdict.Overload) m (settledBy t budget)
-Answers t budget m a (Verdict.Late from to asked) = a ≡ brief (Outcome.Tested (Verdict.Late from to asked)) m (settledBy t budget)
+Answers t budget m a (Verdict.Late from to asked) =
+    a ≡ brief (Outcome.Tested (Verdict.Late from to asked)) m (settledBy t budget)
 Answers t budget m a Verdict.Undecided = a ≡ brief (Outcome.Tested Verdict.Undecided) m (settledBy t budget)
 
 -- The permitted answer, by what the table is judged to be.
 abbrev pub PermittedBy : Table → ℕ → Answer → Judgement → Type 0
-PermittedBy t budget a (Judgement.Refused r) = a ≡ brief (Outcome.Refused r) (record { round = 0; load = 0; horizon = 0 }) 0
+PermittedBy t budget a (Judgement.Refused r) =
+    a ≡ brief (Outcome.Refused r) (record { round = 0; load = 0; horizon = 0 }) 0
 PermittedBy t budget a (Judgement.WellFormed m) = Answers t budget m a (verdict t budget)
 
 -- The one permitted answer to any table and budget, refusals included.

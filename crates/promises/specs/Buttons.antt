@@ -1,4 +1,5 @@
--- TASKS THAT COME WHEN THEY LIKE (section 3.9 of the specification): pass is said only of tables that have a good schedule for all arrivals that respect them.
+-- TASKS THAT COME WHEN THEY LIKE (section 3.9 of the specification):
+-- pass is said only of tables that have a good schedule for all arrivals that respect them.
 use mathlib.Core.Path.{_≡_, refl}
 use mathlib.Core.Logic.{_↔_}
 use mathlib.Core.List.{List}
@@ -34,7 +35,8 @@ AlwaysGood t = (a : Arrivals) → Respects t a → (σ : Schedule) × GoodFor t 
 -- Pass means that; so does 1 of the exported test; and it is not said on overload, in which buttons count.
 pub pass-always-good : (t : Table) → distanceAnswer t ≡ DistanceAnswer.Pass → AlwaysGood t
 unfolding distanceAnswer
-pass-always-good t e = let ((m, well), p) = distance-case t (judgedMixed t) e in mixed-good t (well-mixed t m well .ranged) p
+pass-always-good t e =
+    let ((m, well), p) = distance-case t (judgedMixed t) e in mixed-good t (well-mixed t m well .ranged) p
 
 pub file-always-good : (file : List ℕ) → distanceExported file ≡ 1 → AlwaysGood (fileRead file .table)
 file-always-good file e = pass-always-good (fileRead file .table) (distance-file-pass file e)
@@ -45,25 +47,32 @@ pass-no-overload t e = distance-light t (distance-case t (judgedMixed t) e .1)
 
 module _ (t : Table) (m : Measure) (well : judgedMixed t ≡ Judgement.WellFormed m) where
   -- With buttons alone it is said exactly then.
-  pub buttons-exactly : ((i : ℕ) → i < t .count → isButton (task t i) ≡ true) → (distanceAnswer t ≡ DistanceAnswer.Pass) ↔ AlwaysGood t
+  pub buttons-exactly : ((i : ℕ) → i < t .count → isButton (task t i) ≡ true)
+      → (distanceAnswer t ≡ DistanceAnswer.Pass) ↔ AlwaysGood t
   unfolding distanceAnswer
-  buttons-exactly all = (pass-always-good t, λ h. rw well (distance-told t m (buttons-iff t (well-mixed t m well .ranged) all .1 h)))
+  buttons-exactly all =
+      (pass-always-good t, λ h. rw well (distance-told t m (buttons-iff t (well-mixed t m well .ranged) all .1 h)))
 
-  -- For arrivals that respect the table some schedule is good exactly if no interval asks for more than its length, with demand defined once.
-  pub arrivals-exactly : (a : Arrivals) → Respects t a → ((σ : Schedule) × GoodFor t a σ) ↔ ((from to : ℕ) → from < to → demandFor t a from to ≤ to - from)
+  -- For arrivals that respect the table some schedule is good exactly if no interval asks for more than its length,
+  -- with demand defined once.
+  pub arrivals-exactly : (a : Arrivals) → Respects t a
+      → ((σ : Schedule) × GoodFor t a σ) ↔ ((from to : ℕ) → from < to → demandFor t a from to ≤ to - from)
   arrivals-exactly a k = good-for-iff t (well-mixed t m well .ranged) a k
 
   -- A table's releases respect it, and are what `Good` speaks of.
   pub releases-are-arrivals : Respects t (releases t) × ((σ : Schedule) → GoodFor t (releases t) σ ↔ Good t σ)
   releases-are-arrivals = let r = well-mixed t m well .ranged in (releases-respect t r, good-released t r)
 
-  -- So does any pattern of presses that keeps to the spacings, with the releases of the periodic tasks: no press, one at any time, or one after another.
-  pub presses-are-arrivals : (a : Arrivals) → ((i u v : ℕ) → i < t .count → T (a i u) → T (a i v) → u < v → u + task t i .period ≤ v)
+  -- So does any pattern of presses that keeps to the spacings, with the releases of the periodic tasks: no press,
+  -- one at any time, or one after another.
+  pub presses-are-arrivals : (a : Arrivals)
+      → ((i u v : ℕ) → i < t .count → T (a i u) → T (a i v) → u < v → u + task t i .period ≤ v)
       → Respects t (λ i u. cond (isButton (task t i)) (a i u) (released (task t i) u))
   presses-are-arrivals = presses-respect t (well-mixed t m well .ranged)
 
   -- Where only periodic tasks are allowed it is refused by 11 at its lowest button.
-  pub refused-by-button : (i : ℕ) → Least (λ k. (k < t .count) × (isButton (task t k) ≡ true)) i → judged t ≡ Judgement.Refused (refusal 11 i)
+  pub refused-by-button : (i : ℕ) → Least (λ k. (k < t .count) × (isButton (task t k) ≡ true)) i
+      → judged t ≡ Judgement.Refused (refusal 11 i)
   refused-by-button i = refused-button t m i well
 
 pub demand-of-releases : (t : Table) (from to : ℕ) → demand t from to ≡ demandFor t (releases t) from to

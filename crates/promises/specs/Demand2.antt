@@ -1,7 +1,7 @@
--- DEMAND 2: the test passes a table exactly when some schedule is good for all time; else overload, or the first late deadline
--- with its shortest interval; with exact worst responses; a short budget gives undecided and a longer one alters no other verdict.
--- What asks for a well-formed table says so: `judged t ≡ Judgement.WellFormed m`.
-use mathlib.Core.Path.{_≡_, refl, sym, ap, subst, _∙_}
+-- DEMAND 2: the test passes a table exactly when some schedule is good for all time; else overload,
+-- or the first late deadline with its shortest interval; with exact worst responses; a short budget gives undecided and
+-- a longer one alters no other verdict. What asks for a well-formed table says so: `judged t ≡ Judgement.WellFormed m`.
+use mathlib.Core.Path.{_≡_, ap, _∙_}
 use native.Mathlib.Omega.{arith}
 use mathlib.Core.Logic.{_↔_, _⊎_, _≢_}
 use Prim.Native.Nat.{ℕ, _≤_, _<_}
@@ -20,12 +20,12 @@ use Rattle.model.specs.Demand.{demand, asksTooMuch, lateAt}
 use Rattle.model.specs.Schedule.{none, job, Schedule, given, Good}
 use Rattle.model.specs.Run.{Order, tieOrder, run}
 use Rattle.model.specs.Idle.{firstIdle}
-use Rattle.model.specs.Verdict.{needed, lateStart, verdict, settledBy, Worsts, Answers, PermittedBy, Permitted}
+use Rattle.model.specs.Verdict.{needed, lateStart, verdict, settledBy, Worsts, Permitted}
 use Rattle.wellformed.specs.WellFormed.{well-formed}
 use Rattle.backlog.specs.Sufficient.{sufficient}
-use Rattle.backlog.specs.Needed.{needed-le, needed-is, none-before, none-within}
-use Rattle.backlog.specs.LateStart.{start-asks, start-largest}
-use Rattle.backlog.specs.Verdicts.{is-overload, is-undecided, is-late, is-passed, overload-iff, undecided-iff, late-needed, passes-needed-iff}
+use Rattle.backlog.specs.Needed.{needed-le, needed-is, none-within}
+use Rattle.backlog.specs.Verdicts.{is-overload, is-undecided, is-late, is-passed, overload-iff, undecided-iff}
+use Rattle.backlog.specs.Verdicts.{passes-needed-iff}
 use Rattle.backlog.specs.Longer.{longer}
 use Rattle.backlog.specs.RunRule.{run-rule}
 use Rattle.backlog.specs.Worst.{worst-range}
@@ -36,20 +36,27 @@ use Rattle.backlog.specs.Unique.{permitted-unique}
 use Rattle.backlog.specs.AnswersSay.{answers-say}
 use Rattle.patterns.specs.IdleInstants.{idle-iff}
 use Rattle.patterns.specs.FirstIdle.{passed-idle}
+use Rattle.telling.specs.Late.{late-named}
+use Rattle.telling.specs.Passed.{passing}
+use Rattle.telling.specs.Longer.{still-permitted}
 
 module _ (t : Table) (m : Measure) (well : judged t ≡ Judgement.WellFormed m) where
   -- With a budget that reaches the horizon it passes exactly if some schedule is good.
-  pub passes-exactly : (budget : ℕ) → horizon t ≤ budget → (verdict t budget ≡ Verdict.Passes) ↔ ((σ : Schedule) × Good t σ)
+  pub passes-exactly : (budget : ℕ) → horizon t ≤ budget
+      → (verdict t budget ≡ Verdict.Passes) ↔ ((σ : Schedule) × Good t σ)
   passes-exactly = passes-iff t (well-formed t m well .ranged)
 
   -- Overload and late are never said of a table that has a good schedule, whatever the budget.
   pub overload-rightly : (budget : ℕ) → verdict t budget ≡ Verdict.Overload → (σ : Schedule) → Good t σ → ⊥
   overload-rightly budget e σ g = overload-infeasible t (well-formed t m well .ranged) budget e (σ, g)
 
-  pub late-rightly : (budget from to asked : ℕ) → verdict t budget ≡ Verdict.Late from to asked → (σ : Schedule) → Good t σ → ⊥
-  late-rightly budget from to asked e σ g = late-infeasible t (well-formed t m well .ranged) budget from to asked e (σ, g)
+  pub late-rightly : (budget from to asked : ℕ)
+      → verdict t budget ≡ Verdict.Late from to asked → (σ : Schedule) → Good t σ → ⊥
+  late-rightly budget from to asked e σ g =
+      late-infeasible t (well-formed t m well .ranged) budget from to asked e (σ, g)
 
-  -- The run of a passed table is itself a good schedule, in whatever order its ties go, so every job of it finishes, and by its deadline.
+  -- The run of a passed table is itself a good schedule, in whatever order its ties go,
+  -- so every job of it finishes, and by its deadline.
   pub run-is-good : (budget : ℕ) → verdict t budget ≡ Verdict.Passes → (rank : Order) → Good t (run t rank)
   run-is-good budget e rank =
       let r = well-formed t m well .ranged in
@@ -60,49 +67,49 @@ pub overload-exactly : (t : Table) (budget : ℕ) → (verdict t budget ≡ Verd
 overload-exactly = overload-iff
 
 -- Of any table: undecided exactly below the needed count, where there is no overload.
-pub undecided-exactly : (t : Table) (budget : ℕ) → (verdict t budget ≡ Verdict.Undecided) ↔ ((load t ≤ round t) × (budget < needed t))
+pub undecided-exactly : (t : Table) (budget : ℕ)
+    → (verdict t budget ≡ Verdict.Undecided) ↔ ((load t ≤ round t) × (budget < needed t))
 undecided-exactly = undecided-iff
 
 -- The needed count is at most the horizon, so a budget that reaches the horizon is never undecided.
 pub needed-within : (t : Table) → needed t ≤ horizon t
 needed-within = needed-le
 
--- Settled: nothing on overload, the budget where undecided, the horizon where it passes; `late-exactly` says it of a late one.
-pub settled-exactly : (t : Table) (budget : ℕ) → (verdict t budget ≡ Verdict.Overload → settledBy t budget ≡ 0) × (verdict t budget ≡ Verdict.Undecided → settledBy t budget ≡ budget) × (verdict t budget ≡ Verdict.Passes → settledBy t budget ≡ horizon t)
+-- Settled: nothing on overload, the budget where undecided, the horizon where it passes;
+-- `late-exactly` says it of a late one.
+pub settled-exactly : (t : Table) (budget : ℕ)
+    → (verdict t budget ≡ Verdict.Overload → settledBy t budget ≡ 0)
+    × (verdict t budget ≡ Verdict.Undecided → settledBy t budget ≡ budget)
+    × (verdict t budget ≡ Verdict.Passes → settledBy t budget ≡ horizon t)
 settled-exactly t budget = (
   λ e. is-overload t budget (overload-iff t budget .0 e) .1,
   λ e. let (light, short) = undecided-iff t budget .0 e in is-undecided t budget light short .1,
-  λ e. let (light, enough, quiet) = passes-needed-iff t budget .0 e in is-passed t budget light enough quiet .1 ∙ none-within t quiet .0,
+  λ e. let (light, enough, quiet) = passes-needed-iff t budget .0 e in
+      is-passed t budget light enough quiet .1 ∙ none-within t quiet .0,
 )
 
 -- A longer budget alters no other verdict, nor the settled count of one.
-pub longer-alters-nothing : (t : Table) (budget more : ℕ) → budget ≤ more → verdict t budget ≢ Verdict.Undecided → (verdict t more ≡ verdict t budget) × (settledBy t more ≡ settledBy t budget)
+pub longer-alters-nothing : (t : Table) (budget more : ℕ) → budget ≤ more → verdict t budget ≢ Verdict.Undecided
+    → (verdict t more ≡ verdict t budget) × (settledBy t more ≡ settledBy t budget)
 longer-alters-nothing = longer
 
--- A late verdict names the smallest late deadline, the largest start that asks too much up to there, and that interval's demand.
+-- A late verdict names the smallest late deadline, the largest start that asks too much up to there,
+-- and that interval's demand.
 pub record LateRight (t : Table) (from to asked : ℕ) : Type 0 where
   pub smallest : Least (λ u. T (lateAt t u)) to
   pub asks : T (asksTooMuch t from to)
   pub largest-start : (later : ℕ) → from < later → T (asksTooMuch t later to) → ⊥
   pub demands : asked ≡ demand t from to
 
-pub late-exactly : (t : Table) (budget from to asked : ℕ) → verdict t budget ≡ Verdict.Late from to asked → LateRight t from to asked × (settledBy t budget ≡ to)
+pub late-exactly : (t : Table) (budget from to asked : ℕ) → verdict t budget ≡ Verdict.Late from to asked
+    → LateRight t from to asked × (settledBy t budget ≡ to)
 late-exactly t budget from to asked e =
-    let (l, q, n) = late-needed t budget from to asked e in
-    let f : lateStart t (needed t) ≡ from = cc in
-    let k : needed t ≡ to = cc in
-    let d : demand t (lateStart t (needed t)) (needed t) ≡ asked = cc in (
-      record {
-        smallest = (subst (λ (u : ℕ). T (lateAt t u)) k l, λ u m h. none-before t u (omega arith) h);
-        asks = subst (λ (x : ℕ). T (asksTooMuch t x to)) f (subst (λ (u : ℕ). T (asksTooMuch t (lateStart t (needed t)) u)) k (start-asks t (needed t) l));
-        largest-start = λ later m h. start-largest t (needed t) later (omega arith) (subst (λ (u : ℕ). T (asksTooMuch t later u)) (sym k) h);
-        demands = sym d ∙ rw (f, k);
-      },
-      n ∙ k,
-    )
+    let (least, asks, largest, demands, settled) = late-named t budget from to asked e in
+    (record { smallest = least; asks = asks; largest-start = largest; demands = demands }, settled)
 
 -- And it is said wherever there is one within the horizon and the budget, and no overload.
-pub late-said : (t : Table) (budget to : ℕ) → load t ≤ round t → Least (λ u. T (lateAt t u)) to → to ≤ horizon t → to ≤ budget → verdict t budget ≡ Verdict.Late (lateStart t to) to (demand t (lateStart t to) to)
+pub late-said : (t : Table) (budget to : ℕ) → load t ≤ round t → Least (λ u. T (lateAt t u)) to → to ≤ horizon t
+    → to ≤ budget → verdict t budget ≡ Verdict.Late (lateStart t to) to (demand t (lateStart t to) to)
 late-said t budget to light (l, before) h b =
     let e : needed t ≡ to = needed-is t to h before (λ x. l) in
     is-late t budget light (omega arith) (rw e l) .0 ∙ rw e
@@ -114,65 +121,56 @@ pub record Says (t : Table) (budget : ℕ) (m : Measure) (a : Answer) : Type 0 w
   pub settled : a .settled ≡ settledBy t budget
   pub measures : a .measure ≡ m
 
-pub answer-exactly : (t : Table) (m : Measure) → judged t ≡ Judgement.WellFormed m → (budget : ℕ) (a : Answer) → Permitted t budget a → Says t budget m a
+pub answer-exactly : (t : Table) (m : Measure)
+    → judged t ≡ Judgement.WellFormed m → (budget : ℕ) (a : Answer) → Permitted t budget a → Says t budget m a
 unfolding Permitted
 answer-exactly t m well budget a h =
     let (o, s, k) = answers-say t budget m a (verdict t budget) (rw well at h) in
     record { outcome = o; said = ap outcomeSaid o; settled = s; measures = k }
 
--- The worst responses of a passing answer are exact, for all jobs for ever, and its idle instant is the run's first after 0.
-answered : (t : Table) (budget : ℕ) (m : Measure) (a : Answer) (v : Verdict) → Answers t budget m a v → a .outcome ≡ Outcome.Tested Verdict.Passes → (v ≡ Verdict.Passes) × Worsts t (a .worst) × (a .idle ≡ firstIdle t (tieOrder t))
-answered t budget m a Verdict.Passes (w, p, e) o = let q : a .worst ≡ w = ap (λ (x : Answer). x .worst) e in (refl, subst (Worsts t) (sym q) p, ap (λ (x : Answer). x .idle) e)
-answered t budget m a Verdict.Overload e o = let z : _≡_ {A = ℕ} 0 1 = cc (ap (λ (x : Answer). x .outcome) e) in absurd (omega arith)
-answered t budget m a (Verdict.Late f k d) e o = let z : _≡_ {A = ℕ} 0 1 = cc (ap (λ (x : Answer). x .outcome) e) in absurd (omega arith)
-answered t budget m a Verdict.Undecided e o = let z : _≡_ {A = ℕ} 0 1 = cc (ap (λ (x : Answer). x .outcome) e) in absurd (omega arith)
-
-judged-passed : (t : Table) (budget : ℕ) (a : Answer) (j : Judgement) → PermittedBy t budget a j → a .outcome ≡ Outcome.Tested Verdict.Passes → (verdict t budget ≡ Verdict.Passes) × Worsts t (a .worst) × (a .idle ≡ firstIdle t (tieOrder t))
-judged-passed t budget a (Judgement.Refused r) e o = let z : _≡_ {A = ℕ} 0 1 = cc (ap (λ (x : Answer). x .outcome) e) in absurd (omega arith)
-judged-passed t budget a (Judgement.WellFormed m) h o = answered t budget m a (verdict t budget) h o
-
-pub passed-exactly : (t : Table) (budget : ℕ) (a : Answer) → Permitted t budget a → a .outcome ≡ Outcome.Tested Verdict.Passes → (verdict t budget ≡ Verdict.Passes) × Worsts t (a .worst) × (a .idle ≡ firstIdle t (tieOrder t))
-unfolding Permitted
-passed-exactly t budget a = judged-passed t budget a (judged t)
+-- The worst responses of a passing answer are exact, for all jobs for ever,
+-- and its idle instant is the run's first after 0.
+pub passed-exactly : (t : Table) (budget : ℕ) (a : Answer)
+    → Permitted t budget a → a .outcome ≡ Outcome.Tested Verdict.Passes
+    → (verdict t budget ≡ Verdict.Passes) × Worsts t (a .worst) × (a .idle ≡ firstIdle t (tieOrder t))
+passed-exactly t budget a p o = passing t budget a o p
 
 -- By u every job that was released strictly before u is finished. A job that is released at u does not matter.
 abbrev AllFinished : Table → ℕ → Type 0
-AllFinished t u = (i j : ℕ) → i < t .count → release (task t i) j < u → task t i .cost ≤ given (run t (tieOrder t)) i j 0 u
+AllFinished t u =
+    (i j : ℕ) → i < t .count → release (task t i) j < u → task t i .cost ≤ given (run t (tieOrder t)) i j 0 u
 
--- The first idle instant is the least after 0 by which every job released before is finished; there always is one, and it is at most H.
-pub idle-exactly : (t : Table) (m : Measure) → judged t ≡ Judgement.WellFormed m → (budget : ℕ) (a : Answer) → Permitted t budget a → a .outcome ≡ Outcome.Tested Verdict.Passes → Least (λ u. (0 < u) × AllFinished t u) (a .idle) × (a .idle ≤ round t)
+-- The first idle instant is the least after 0 by which every job released before is finished;
+-- there always is one, and it is at most H.
+pub idle-exactly : (t : Table) (m : Measure) → judged t ≡ Judgement.WellFormed m
+    → (budget : ℕ) (a : Answer) → Permitted t budget a → a .outcome ≡ Outcome.Tested Verdict.Passes
+    → Least (λ u. (0 < u) × AllFinished t u) (a .idle) × (a .idle ≤ round t)
 idle-exactly t m well budget a p o =
     let r = well-formed t m well .ranged in
     let (v, w, e) = passed-exactly t budget a p o in
     let (((pos, idle), least), soon) = passed-idle t r budget v _ in
-    rw e (((pos, idle-iff (tieSystem t r) _ .0 idle), λ u l h. least u l (h .0, idle-iff (tieSystem t r) u .1 (h .1))), soon)
+    rw e (
+      ((pos, idle-iff (tieSystem t r) _ .0 idle), λ u l h. least u l (h .0, idle-iff (tieSystem t r) u .1 (h .1))),
+      soon,
+    )
 
 -- A worst response is at least 1 and at most the deadline.
-pub worst-by-deadline : (t : Table) (m : Measure) → judged t ≡ Judgement.WellFormed m → (budget : ℕ) (a : Answer) → Permitted t budget a → a .outcome ≡ Outcome.Tested Verdict.Passes → (i : ℕ) → i < t .count → (0 < getD (a .worst) i 0) × (getD (a .worst) i 0 ≤ task t i .deadline)
+pub worst-by-deadline : (t : Table) (m : Measure) → judged t ≡ Judgement.WellFormed m → (budget : ℕ) (a : Answer)
+    → Permitted t budget a → a .outcome ≡ Outcome.Tested Verdict.Passes → (i : ℕ) → i < t .count
+    → (0 < getD (a .worst) i 0) × (getD (a .worst) i 0 ≤ task t i .deadline)
 worst-by-deadline t m well budget a p o i l =
     let r = well-formed t m well .ranged in
     let (v, w, e) = passed-exactly t budget a p o in
     worst-range (tieSystem t r) (met-of-passed t r budget v _) i l (getD (a .worst) i 0) (w .worst i l)
 
 -- A longer budget alters no answer but undecided.
-longer-answers : (t : Table) (budget more : ℕ) (m : Measure) (a : Answer) (v : Verdict) → settledBy t more ≡ settledBy t budget → Answers t budget m a v → Answers t more m a v
-longer-answers t budget more m a Verdict.Passes s (w, p, e) = (w, p, rw s e)
-longer-answers t budget more m a Verdict.Overload s e = rw s e
-longer-answers t budget more m a (Verdict.Late f k d) s e = rw s e
-longer-answers t budget more m a Verdict.Undecided s e = rw s e
+pub longer-same-answer : (t : Table) (budget more : ℕ) (a b : Answer)
+    → budget ≤ more → a .outcome ≢ Outcome.Tested Verdict.Undecided → Permitted t budget a → Permitted t more b → a ≡ b
+longer-same-answer t budget more a b l u p = permitted-unique t more a b (still-permitted t budget more a l u p)
 
-longer-judged : (t : Table) (budget more : ℕ) (a : Answer) (j : Judgement) → budget ≤ more → a .outcome ≢ Outcome.Tested Verdict.Undecided → PermittedBy t budget a j → PermittedBy t more a j
-longer-judged t budget more a (Judgement.Refused r) l u h = h
-longer-judged t budget more a (Judgement.WellFormed m) l u h =
-    let (v, s) = longer t budget more l (λ e. u (answers-say t budget m a (verdict t budget) h .0 ∙ ap Outcome.Tested e)) in
-    subst (Answers t more m a) (sym v) (longer-answers t budget more m a (verdict t budget) s h)
-
-pub longer-same-answer : (t : Table) (budget more : ℕ) (a b : Answer) → budget ≤ more → a .outcome ≢ Outcome.Tested Verdict.Undecided → Permitted t budget a → Permitted t more b → a ≡ b
-unfolding Permitted
-longer-same-answer t budget more a b l u p = permitted-unique t more a b (longer-judged t budget more a (judged t) l u p)
-
--- The run that the responses are taken from is that of section 3.3 of the specification: each slot goes to the released, unfinished job with
--- the earliest deadline, ties to the shorter period and then to the lower task number, and to none only if no such job is there.
+-- The run that the responses are taken from is that of section 3.3 of the specification:
+-- each slot goes to the released, unfinished job with the earliest deadline,
+-- ties to the shorter period and then to the lower task number, and to none only if no such job is there.
 abbrev Waits : Table → ℕ → ℕ → ℕ → Type 0
 Waits t u i j = (i < t .count) × (release (task t i) j ≤ u) × (given (run t (tieOrder t)) i j 0 u < task t i .cost)
 
@@ -180,5 +178,6 @@ pub run-is-the-rule : (t : Table) (m : Measure) → judged t ≡ Judgement.WellF
     ((run t (tieOrder t) u ≡ none) × ((i j : ℕ) → Waits t u i j → ⊥))
     ⊎ ((i : ℕ) × (j : ℕ) × (run t (tieOrder t) u ≡ job i j) × Waits t u i j
     × ((k n : ℕ) → Waits t u k n → (due (task t i) j < due (task t k) n)
-    ⊎ ((due (task t i) j ≡ due (task t k) n) × ((task t i .period < task t k .period) ⊎ ((task t i .period ≡ task t k .period) × (i ≤ k))))))
+    ⊎ ((due (task t i) j ≡ due (task t k) n)
+    × ((task t i .period < task t k .period) ⊎ ((task t i .period ≡ task t k .period) × (i ≤ k))))))
 run-is-the-rule t m well = run-rule (tieSystem t (well-formed t m well .ranged))

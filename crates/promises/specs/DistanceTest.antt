@@ -1,13 +1,11 @@
--- THE DISTANCE TEST (section 3.8 of the specification): quick pass is distance pass, and that is said of a table without buttons only if the exact test passes it.
--- What it means of tables with buttons stands in `Buttons`.
+-- THE DISTANCE TEST (section 3.8 of the specification): quick pass is distance pass, and that is said of a table
+-- without buttons only if the exact test passes it. What it means of tables with buttons stands in `Buttons`.
 use mathlib.Core.Path.{_≡_, refl, sym, _∙_}
 use mathlib.Core.Logic.{inl, inr, _↔_}
 use mathlib.Core.List.{List, [], _∷_}
-use mathlib.Core.Bool.{Bool, true, false, cond}
+use mathlib.Core.Bool.{true, false, cond}
 use Prim.Native.Nat.{ℕ, _+_, _≤_, _<_}
-use native.Mathlib.Decide.{decLt}
 use native.Mathlib.Omega.{arith}
-use lib.Dec.{T}
 use Rattle.values.specs.declared.Task.{Task}
 use Rattle.values.specs.declared.Table.{Table}
 use Rattle.values.specs.declared.Refusal.{Refusal}
@@ -32,41 +30,40 @@ use Rattle.patterns.specs.DistancePass.{distance-case, distance-told, distance-
 use Rattle.patterns.specs.QuickDistance.{quick-distance}
 use Rattle.tablefile.specs.Admitted.{well-table}
 use Rattle.tablefile.specs.Periodic.{periodic-read}
-use Rattle.promises.specs.FileNumbers.{Apart, Refuses, refused-file, read-file, file-apart}
+use Rattle.telling.specs.Distance.{distance-refuses, distance-words, distance-low, distance-one, distance-heavy}
+use Rattle.promises.specs.FileNumbers.{Apart, refused-file, read-file, file-apart}
 
 -- The distance test has one answer to every table.
 pub one-distance : (t : Table) (a b : DistanceAnswer) → a ≡ distanceAnswer t → b ≡ distanceAnswer t → a ≡ b
 one-distance t a b e f = e ∙ sym f
 
--- A refused table is refused by its number and place; of any other 0 is said, with 2 for overload, 1 for pass and 0 for no answer.
-pub refused-distance : (t : Table) (r : Refusal) → judgedMixed t ≡ Judgement.Refused r → distanceSaid (distanceAnswer t) ≡ refusalSaid r
+-- A refused table is refused by its number and place; of any other 0 is said, with 2 for overload,
+-- 1 for pass and 0 for no answer.
+pub refused-distance : (t : Table) (r : Refusal) → judgedMixed t ≡ Judgement.Refused r
+    → distanceSaid (distanceAnswer t) ≡ refusalSaid r
 unfolding distanceAnswer
 refused-distance t r e = rw e refl
 
--- The answer to a well-formed table, by its load and its patterns.
-abbrev told : Bool → Bool → DistanceAnswer
-told light pass = cond light (cond pass DistanceAnswer.Pass DistanceAnswer.NoAnswer) DistanceAnswer.Overload
+pub distance-said : (t : Table) (m : Measure) → judgedMixed t ≡ Judgement.WellFormed m
+    → distanceSaid (distanceAnswer t) ≡ cond (light t) (cond (distancePass t) (0 ∷ 1 ∷ []) (0 ∷ 0 ∷ [])) (0 ∷ 2 ∷ [])
+distance-said = distance-words
 
-pub distance-said : (t : Table) (m : Measure) → judgedMixed t ≡ Judgement.WellFormed m → distanceSaid (distanceAnswer t) ≡ cond (light t) (cond (distancePass t) (0 ∷ 1 ∷ []) (0 ∷ 0 ∷ [])) (0 ∷ 2 ∷ [])
-unfolding distanceAnswer
-distance-said t m well = rw well (go (light t) (distancePass t))
-  where
-    go : (a b : Bool) → distanceSaid (told a b) ≡ cond a (cond b (0 ∷ 1 ∷ []) (0 ∷ 0 ∷ [])) (0 ∷ 2 ∷ [])
-    go true true = refl
-    go true false = refl
-    go false b = refl
-
--- The distance of one task from another: no release of the one is followed, then or later, by one of the other at less, and some is at just that.
+-- The distance of one task from another: no release of the one is followed, then or later, by one of the other at less,
+-- and some is at just that.
 pub record Smallest (one other : Task) (d : ℕ) : Type 0 where
   pub least : (j m : ℕ) → release one j ≤ release other m → release one j + d ≤ release other m
   pub attained : (j : ℕ) × (m : ℕ) × (release other m ≡ release one j + d)
 
-pub distance-is-smallest : (t : Table) (m : Measure) → judgedMixed t ≡ Judgement.WellFormed m → (i k : ℕ) → i < t .count → k < t .count → isButton (task t i) ≡ false → isButton (task t k) ≡ false
+pub distance-is-smallest : (t : Table) (m : Measure) → judgedMixed t ≡ Judgement.WellFormed m
+    → (i k : ℕ) → i < t .count → k < t .count → isButton (task t i) ≡ false → isButton (task t k) ≡ false
     → Smallest (task t i) (task t k) (distance (task t i) (task t k))
 distance-is-smallest t m well i k l n first periodic =
     let r = well-mixed t m well .ranged in
     let p = r .each i l .period-pos in
-    record { least = distance-le (task t i) (task t k) p; attained = distance-attained (task t i) (task t k) periodic p (r .each k n .period-pos) }
+    record {
+      least = distance-le (task t i) (task t k) p;
+      attained = distance-attained (task t i) (task t k) periodic p (r .each k n .period-pos);
+    }
 
 -- A button has distance 0 from each.
 pub button-distance : (one other : Task) → isButton other ≡ true → distance one other ≡ 0
@@ -80,63 +77,52 @@ quick-means-distance t e =
     let well = periodic-iff t m .0 w .0 in
     rw well (distance-told t m (quick-distance t (well-mixed t m well .ranged) p))
 
--- and distance pass means that the exact test passes the table, if it has no button, with every budget that reaches the horizon.
-pub distance-means-passes : (t : Table) (m : Measure) → judged t ≡ Judgement.WellFormed m → distanceAnswer t ≡ DistanceAnswer.Pass
+-- and distance pass means that the exact test passes the table, if it has no button,
+-- with every budget that reaches the horizon.
+pub distance-means-passes : (t : Table) (m : Measure)
+    → judged t ≡ Judgement.WellFormed m → distanceAnswer t ≡ DistanceAnswer.Pass
     → (budget : ℕ) → horizon t ≤ budget → verdict t budget ≡ Verdict.Passes
 unfolding distanceAnswer
-distance-means-passes t m periodic e = let (well, p) = distance-case t (judgedMixed t) e in distance-passes t (well-formed t m periodic .ranged) p
+distance-means-passes t m periodic e =
+    let (well, p) = distance-case t (judgedMixed t) e in distance-passes t (well-formed t m periodic .ranged) p
 
 -- Overload is said exactly if the load is above 1, as by the exact test.
-pub distance-overload : (t : Table) (m : Measure) → judgedMixed t ≡ Judgement.WellFormed m → (distanceAnswer t ≡ DistanceAnswer.Overload) ↔ (round t < load t)
+pub distance-overload : (t : Table) (m : Measure) → judgedMixed t ≡ Judgement.WellFormed m
+    → (distanceAnswer t ≡ DistanceAnswer.Overload) ↔ (round t < load t)
 unfolding distanceAnswer
-distance-overload t m well = (λ e. heavy (light t) refl (distancePass t) (rw well at e), λ h. rw (well, is-false (light t) (λ x. absurd (omega tests))) refl)
-  where
-    heavy : (a : Bool) → light t ≡ a → (b : Bool) → told a b ≡ DistanceAnswer.Overload → round t < load t
-    heavy true q true e = let z : _≡_ {A = ℕ} 0 1 = cc in absurd (omega arith)
-    heavy true q false e = let z : _≡_ {A = ℕ} 0 1 = cc in absurd (omega arith)
-    heavy false q b e = elim (decLt (round t) (load t)) [ yes l ↦ l | no l ↦ let z : T (light t) = omega tests in absurd (rw q at z) ]
+distance-overload t m well =
+    (distance-heavy t m well, λ h. rw (well, is-false (light t) (λ x. absurd (omega tests))) refl)
 
 -- The exported distance test has one result for every file.
 pub one-distance-export : (file : List ℕ) (a b : ℕ) → a ≡ distanceExported file → b ≡ distanceExported file → a ≡ b
 one-distance-export file a b e f = e ∙ sym f
 
--- A file that is refused is refused as it is by the check, and one that is read gives its table's answer: 2 for overload, 1 for pass, 0 for none.
-refuses : Refuses (λ t. distanceNumber (distanceAnswer t))
-unfolding distanceAnswer
-refuses t r e = rw e refl
+-- A file that is refused is refused as it is by the check, and one that is read gives its table's answer:
+-- 2 for overload, 1 for pass, 0 for none.
+pub refused-distance-file : (file : List ℕ) (r : Refusal)
+    → fileRead file .admission ≡ Admission.Refused r → distanceExported file ≡ refusalNumber r
+refused-distance-file file = refused-file file (λ t. distanceNumber (distanceAnswer t)) distance-refuses
 
-pub refused-distance-file : (file : List ℕ) (r : Refusal) → fileRead file .admission ≡ Admission.Refused r → distanceExported file ≡ refusalNumber r
-refused-distance-file file = refused-file file (λ t. distanceNumber (distanceAnswer t)) refuses
-
-pub read-distance-file : (file : List ℕ) → fileRead file .admission ≡ Admission.Admitted → distanceExported file ≡ distanceNumber (distanceAnswer (fileRead file .table))
+pub read-distance-file : (file : List ℕ) → fileRead file .admission ≡ Admission.Admitted
+    → distanceExported file ≡ distanceNumber (distanceAnswer (fileRead file .table))
 read-distance-file file = read-file file (λ t. distanceNumber (distanceAnswer t))
 
 -- So exactly the numbers from 65,536 on are refusals, and any other is at most 2.
 pub distance-file-apart : (file : List ℕ) → Apart (fileRead file .admission) 2 (distanceExported file)
-unfolding distanceAnswer
-distance-file-apart file = file-apart file (λ t. distanceNumber (distanceAnswer t)) refuses 2 (λ t m well. rw well (low (light t) (distancePass t)))
-  where
-    low : (a b : Bool) → distanceNumber (told a b) ≤ 2
-    low true true = omega arith
-    low true false = omega arith
-    low false b = omega arith
+distance-file-apart file = file-apart file (λ t. distanceNumber (distanceAnswer t)) distance-refuses 2 distance-low
 
 -- And 1 means that the table passes, and so what this means.
-pub distance-file-pass : (file : List ℕ) → distanceExported file ≡ 1 → distanceAnswer (fileRead file .table) ≡ DistanceAnswer.Pass
-unfolding distanceAnswer
+pub distance-file-pass : (file : List ℕ) → distanceExported file ≡ 1
+    → distanceAnswer (fileRead file .table) ≡ DistanceAnswer.Pass
 distance-file-pass file e = elim (distance-file-apart file) [
   | inr (r, h, q, (a, b)) ↦ absurd (omega arith)
-  | inl (h, l) ↦ (
-      let (m, well) = well-table file {l = fileRead file} refl h in
-      rw well (pass (light (fileRead file .table)) (distancePass (fileRead file .table)) (rw well at (sym (read-distance-file file h) ∙ e)))
-      )
+  | inl (h, l) ↦ let (m, well) = well-table file {l = fileRead file} refl h in
+      distance-one (fileRead file .table) m well (sym (read-distance-file file h) ∙ e)
 ]
-  where
-    pass : (a b : Bool) → distanceNumber (told a b) ≡ 1 → told a b ≡ DistanceAnswer.Pass
-    pass true true n = refl
-    pass true false n = absurd (omega arith)
-    pass false b n = absurd (omega arith)
 
-pub distance-file-means : (file : List ℕ) → distanceExported file ≡ 1 → periodicFrom file .admission ≡ Admission.Admitted
+pub distance-file-means : (file : List ℕ) → distanceExported file ≡ 1
+    → periodicFrom file .admission ≡ Admission.Admitted
     → (budget : ℕ) → horizon (fileRead file .table) ≤ budget → verdict (fileRead file .table) budget ≡ Verdict.Passes
-distance-file-means file e h = let (read, same, (m, well)) = periodic-read file h in distance-means-passes (fileRead file .table) m well (distance-file-pass file e)
+distance-file-means file e h =
+    let (read, same, (m, well)) = periodic-read file h in
+    distance-means-passes (fileRead file .table) m well (distance-file-pass file e)

@@ -1,22 +1,20 @@
--- WHAT MAY BE EASED SAFELY (section 3.10 of the specification): a table that passes still passes with lower costs, longer deadlines up to the period and
--- fewer tasks, all of that together too, given a budget that reaches the new horizon; with costs alone lowered no worst response grows.
+-- WHAT MAY BE EASED SAFELY (section 3.10 of the specification): a table that passes still passes with lower costs,
+-- longer deadlines up to the period and fewer tasks, all of that together too,
+-- given a budget that reaches the new horizon; with costs alone lowered no worst response grows.
 use mathlib.Core.Path.{_≡_, refl, sym, ap, subst, _∙_}
-use mathlib.Core.Logic.{_⊎_, inl, inr, _↔_}
-use mathlib.Core.Bool.{Bool, true, false, cond}
+use mathlib.Core.Logic.{_↔_}
 use mathlib.Core.List.{List, [], _∷_}
-use Prim.Native.Nat.{ℕ, zero, suc, _+_, _*_, _/_, _%_, _^_, _≤_, _<_}
+use Prim.Native.Nat.{ℕ, suc, _/_, _%_, _^_, _≤_, _<_}
 use native.Mathlib.Omega.{arith}
-use lib.Dec.{ltb, eqb, lit≤}
+use lib.Dec.{eqb}
 use lib.ListN.{getD}
 use Rattle.values.specs.declared.Table.{Table}
-use Rattle.values.specs.declared.Refusal.{Refusal}
 use Rattle.values.specs.declared.Measure.{Measure}
 use Rattle.values.specs.declared.Judgement.{Judgement}
 use Rattle.values.specs.declared.Verdict.{Verdict}
 use Rattle.values.specs.declared.Outcome.{Outcome}
 use Rattle.values.specs.declared.Answer.{Answer}
 use Rattle.values.specs.declared.Easing.{Easing}
-use Rattle.values.specs.declared.Admission.{Admission}
 use Rattle.model.specs.Notation.{bit, sum, largest, count, some, first, last, fill}
 use Rattle.model.specs.Tasks.{taskFault, firstFaulty, round, load, horizon, judgedMixed, firstButton, judged}
 use Rattle.model.specs.Demand.{arrivedIn, demand, lateAt}
@@ -26,19 +24,19 @@ use Rattle.model.specs.Verdict.{needed, lateStart, verdict, settledBy, Permitte
 use Rattle.model.specs.Dispatcher.{startOf, ownerNow, after}
 use Rattle.model.specs.History.{stateAt}
 use Rattle.model.specs.TableFile.{tableOf, periodicFrom}
-use Rattle.model.specs.Report.{refusalNumber}
-use Rattle.model.specs.Easing.{Eased, Lowered, unmatched, keptSet, easing, firstTasks, easedNumber, easedExported}
+use Rattle.model.specs.Easing.{Eased, Lowered, easing, firstTasks, easedExported}
 use Rattle.model.specs.Examples.{of, table-e, two-due}
-use Rattle.counting.specs.Bits.{bits-lt}
 use Rattle.wellformed.specs.WellFormed.{well-formed}
 use Rattle.backlog.specs.Eased.{eased-passes, eased-again, eased-of-lowered}
 use Rattle.backlog.specs.FirstChoice.{Told, first-choice, eased-told}
 use Rattle.backlog.specs.Lowered.{lowered-worst}
-use Rattle.backlog.specs.Unique.{permitted-unique}
 use Rattle.backlog.specs.WalkWorst.{worstBy}
-use Rattle.backlog.specs.Computed.{answerOf, computed}
-use Rattle.tablefile.specs.Refused.{AdmissionTellable}
-use Rattle.tablefile.specs.Periodic.{well-periodic, periodic-tellable}
+use Rattle.backlog.specs.Computed.{answerOf}
+use Rattle.tablefile.specs.Periodic.{well-periodic}
+pub use Rattle.telling.specs.Easings.{EasedMeans}
+use Rattle.telling.specs.Answers.{only-answer}
+use Rattle.telling.specs.Easings.{kept-below, eased-told-as, files-eased}
+use Rattle.telling.specs.Examples.{due-eased}
 use Rattle.promises.specs.Demand2.{passed-exactly}
 
 -- Easings may follow one another: what is eased and eased again is eased. Lowering costs alone is an easing.
@@ -48,79 +46,68 @@ easing-again = eased-again
 pub lowering-eases : (before after : Table) → Lowered before after → Eased before after
 lowering-eases = eased-of-lowered
 
-module _ (before after : Table) (m n : Measure) (well : judged before ≡ Judgement.WellFormed m) (well-after : judged after ≡ Judgement.WellFormed n) where
-  -- If a table passes, with whatever budget, so does every well-formed table eased from it, with every budget that reaches its horizon.
+module _ (before after : Table) (m n : Measure) (well : judged before ≡ Judgement.WellFormed m)
+    (well-after : judged after ≡ Judgement.WellFormed n) where
+  -- If a table passes, with whatever budget, so does every well-formed table eased from it,
+  -- with every budget that reaches its horizon.
   pub easing-is-safe : Eased before after → (budget budget' : ℕ)
       → verdict before budget ≡ Verdict.Passes → horizon after ≤ budget' → verdict after budget' ≡ Verdict.Passes
-  easing-is-safe e = eased-passes before after e (well-formed before m well .ranged) (well-formed after n well-after .ranged)
+  easing-is-safe e =
+      eased-passes before after e (well-formed before m well .ranged) (well-formed after n well-after .ranged)
 
   -- With costs alone lowered no worst response grows.
   pub lowering-slows-none : Lowered before after → (i w w' : ℕ) → i < before .count
       → Worst before (tieOrder before) i w → Worst after (tieOrder after) i w' → w' ≤ w
-  lowering-slows-none e = lowered-worst before after (well-formed before m well .ranged) (well-formed after n well-after .ranged) e _ _ (λ i l. e .each i l .same-period)
+  lowering-slows-none e =
+      lowered-worst before after (well-formed before m well .ranged)
+      (well-formed after n well-after .ranged) e _ _ (λ i l. e .each i l .same-period)
 
   -- So none that is reported grows.
   pub lowering-reports-less : Lowered before after → (budget budget' : ℕ) (a a' : Answer)
-      → Permitted before budget a → a .outcome ≡ Outcome.Tested Verdict.Passes → Permitted after budget' a' → a' .outcome ≡ Outcome.Tested Verdict.Passes
+      → Permitted before budget a → a .outcome ≡ Outcome.Tested Verdict.Passes → Permitted after budget' a'
+      → a' .outcome ≡ Outcome.Tested Verdict.Passes
       → (i : ℕ) → i < before .count → getD (a' .worst) i 0 ≤ getD (a .worst) i 0
   lowering-reports-less e budget budget' a a' p o p' o' i l =
       let (v, w, u) = passed-exactly before budget a p o in
       let (v', w', u') = passed-exactly after budget' a' p' o' in
-      lowering-slows-none e i (getD (a .worst) i 0) (getD (a' .worst) i 0) l (w .worst i l) (w' .worst i (omega (arith, e .same-count)))
+      lowering-slows-none e i (getD (a .worst) i 0) (getD (a' .worst) i 0) l
+      (w .worst i l) (w' .worst i (omega (arith, e .same-count)))
 
 -- A longer period is no easing: table e passes, and with the second period 3 it is late at 4.
 pub longer-period-late :
-    (verdict table-e 1000 ≡ Verdict.Passes) × (verdict (tableOf (of 1 1 1 2 ∷ of 0 1 1 3 ∷ [])) 1000 ≡ Verdict.Late 3 4 2)
+    (verdict table-e 1000 ≡ Verdict.Passes)
+    × (verdict (tableOf (of 1 1 1 2 ∷ of 0 1 1 3 ∷ [])) 1000 ≡ Verdict.Late 3 4 2)
 unfolding verdict needed lateStart lateAt first last round load horizon largest sum count demand arrivedIn
 longer-period-late = (refl, refl)
 
--- Longer deadlines may slow a task: with deadline 3 for 1, and else the same table, the worst response of task 0 grows from 1 to 2.
+-- Longer deadlines may slow a task: with deadline 3 for 1, and else the same table,
+-- the worst response of task 0 grows from 1 to 2.
 pub longer-deadline-slows :
     Eased (two-due 1) (two-due 3)
-    × ((a a' : Answer) → Permitted (two-due 1) 8 a → Permitted (two-due 3) 8 a' → (getD (a .worst) 0 0 ≡ 1) × (getD (a' .worst) 0 0 ≡ 2))
-unfolding answerOf judged judgedMixed firstButton firstFaulty taskFault first last round load horizon largest sum count verdict settledBy needed lateStart lateAt demand arrivedIn worstBy stateAt startOf after ownerNow choose fill firstIdle idleAt ownerOf served
-longer-deadline-slows = (
-  record {
-    kept = λ i. i;
-    in-order = λ i k l m. l;
-    of-before = λ i l. l;
-    each = λ i. elim i [
-      | zero ↦ λ l. record { same-offset = refl; same-period = refl; lower-cost = lit≤ tt; longer-deadline = lit≤ tt }
-      | suc k ↦ λ l. record { same-offset = refl; same-period = refl; lower-cost = omega arith; longer-deadline = omega arith }
-    ];
-  },
-  λ a a' p p'. (worst-is 1 1 a p refl, worst-is 3 2 a' p' refl),
-)
-  where
-    worst-is : (d w : ℕ) (a : Answer) → Permitted (two-due d) 8 a → getD (answerOf (two-due d) 8 .worst) 0 0 ≡ w → getD (a .worst) 0 0 ≡ w
-    worst-is d w a p e = ap (λ (x : Answer). getD (x .worst) 0 0) (permitted-unique (two-due d) 8 a (answerOf (two-due d) 8) p (computed (two-due d) 8)) ∙ e
+    × ((a a' : Answer) → Permitted (two-due 1) 8 a → Permitted (two-due 3) 8 a'
+    → (getD (a .worst) 0 0 ≡ 1) × (getD (a' .worst) 0 0 ≡ 2))
+unfolding answerOf judged judgedMixed firstButton firstFaulty taskFault first last round load horizon
+    largest sum count verdict settledBy needed lateStart lateAt demand arrivedIn worstBy stateAt
+    startOf after ownerNow choose fill firstIdle idleAt ownerOf served
+longer-deadline-slows =
+    let worst : Answer → ℕ = λ a. getD (a .worst) 0 0 in
+    (due-eased, λ a a' p p'. (ap worst (only-answer (two-due 1) 8 a p), ap worst (only-answer (two-due 3) 8 a' p')))
 
 module _ (before after : Table) where
   -- Whether a table is an easing of another is told exactly.
   pub easing-exactly : ((set : ℕ) × (easing before after ≡ Easing.Kept set)) ↔ Eased before after
   easing-exactly = (λ (set, e). subst (Told before after) e (first-choice before after) .0, eased-told before after)
 
-  -- The choice that is told is the first in order: no other has any task earlier. Bit k of the set says whether task k is kept.
+  -- The choice that is told is the first in order: no other has any task earlier.
+  -- Bit k of the set says whether task k is kept.
   pub kept-exactly : (set : ℕ) → easing before after ≡ Easing.Kept set → (e : Eased before after)
       × ((d : Eased before after) (i : ℕ) → i < after .count → e .kept i ≤ d .kept i)
       × ((k : ℕ) → k < before .count → set / 2 ^ k % 2 ≡ bit (some (λ i. eqb (e .kept i) k) (after .count)))
   kept-exactly set e = subst (Told before after) e (first-choice before after)
 
   -- The set has no other members: it is one of the old table's tasks.
-  abbrev Within : Easing → Type 0
-  Within (Easing.Unmatched i) = i ≡ i
-  Within (Easing.Kept set) = set < 2 ^ before .count
-
-  told-within : Within (easing before after)
-  unfolding easing
-  told-within = go (ltb (unmatched before after) (after .count))
-    where
-      go : (b : Bool) → Within (cond b (Easing.Unmatched (unmatched before after)) (Easing.Kept (keptSet before after)))
-      go true = refl
-      go false = bits-lt _ (before .count)
-
   pub kept-within : (set : ℕ) → easing before after ≡ Easing.Kept set → set < 2 ^ before .count
-  kept-within set e = subst Within e told-within
+  kept-within = kept-below before after
 
   -- The task that is told to be none is the first: the tasks before it are an easing, and with it they are not.
   pub unmatched-exactly : (i : ℕ) → easing before after ≡ Easing.Unmatched i
@@ -131,46 +118,17 @@ module _ (before after : Table) where
 pub one-eased-export : (old new : List ℕ) (a b : ℕ) → a ≡ easedExported old new → b ≡ easedExported old new → a ≡ b
 one-eased-export old new a b e f = e ∙ sym f
 
--- A file is read, and has no button; a file is refused, by 11 at a button too, in a way that its number and place are told by one number v.
-abbrev Read : List ℕ → Type 0
-Read file = periodicFrom file .admission ≡ Admission.Admitted
-
-abbrev RefusedAs : List ℕ → ℕ → Type 0
-RefusedAs file v = (r : Refusal) × (periodicFrom file .admission ≡ Admission.Refused r) × (v ≡ refusalNumber r) × ((0 < r .number) × (r .place < 65536))
-
--- What the number means, by its remainder by 4 and its quotient v.
-abbrev pub EasedMeans : List ℕ → List ℕ → ℕ → ℕ → Type 0
-EasedMeans old new rest v =
-    ((rest ≡ 0) × Read old × Read new × (easing (periodicFrom old .table) (periodicFrom new .table) ≡ Easing.Unmatched v))
-    ⊎ ((rest ≡ 1) × Read old × Read new × (easing (periodicFrom old .table) (periodicFrom new .table) ≡ Easing.Kept v))
-    ⊎ ((rest ≡ 2) × RefusedAs old v)
-    ⊎ ((rest ≡ 3) × Read old × RefusedAs new v)
-
+-- What the number means, by its remainder by 4 and its quotient.
 pub eased-means : (old new : List ℕ) → EasedMeans old new (easedExported old new % 4) (easedExported old new / 4)
-eased-means old new = go (periodicFrom old .admission) (periodicFrom new .admission) refl refl (periodic-tellable old) (periodic-tellable new) (easing (periodicFrom old .table) (periodicFrom new .table)) refl
-  where
-    go : (a b : Admission) → periodicFrom old .admission ≡ a → periodicFrom new .admission ≡ b → AdmissionTellable a → AdmissionTellable b → (x : Easing) → easing (periodicFrom old .table) (periodicFrom new .table) ≡ x
-        → EasedMeans old new (easedNumber (periodicFrom old .table) (periodicFrom new .table) a b % 4) (easedNumber (periodicFrom old .table) (periodicFrom new .table) a b / 4)
-    go (Admission.Refused r) b p q h g x e = inr (inr (inl (omega arith, (r, p, omega arith, h))))
-    go Admission.Admitted (Admission.Refused r) p q h g x e = inr (inr (inr (omega arith, p, (r, q, omega arith, g))))
-    go Admission.Admitted Admission.Admitted p q h g (Easing.Unmatched i) e = let v : (4 * i) / 4 ≡ i = omega arith in rw e (inl (omega arith, p, q, rw v refl))
-    go Admission.Admitted Admission.Admitted p q h g (Easing.Kept set) e = let v : (4 * set + 1) / 4 ≡ set = omega arith in rw e (inr (inl (omega arith, p, q, rw v refl)))
+eased-means = eased-told-as
 
--- Where it says that the new file's table is an easing of the old one's, it is one.
-told-eased : (old new : List ℕ) → easedExported old new % 4 ≡ 1 → Read old × Read new × Eased (periodicFrom old .table) (periodicFrom new .table)
-told-eased old new one = go (eased-means old new)
-  where
-    go : EasedMeans old new (easedExported old new % 4) (easedExported old new / 4) → Read old × Read new × Eased (periodicFrom old .table) (periodicFrom new .table)
-    go (inl x) = absurd (omega (arith, x .0))
-    go (inr (inl (r, p, q, e))) = (p, q, easing-exactly (periodicFrom old .table) (periodicFrom new .table) .0 (_, e))
-    go (inr (inr (inl x))) = absurd (omega (arith, x .0))
-    go (inr (inr (inr x))) = absurd (omega (arith, x .0))
-
--- So if the old one passes, the new one needs no test.
+-- Where it says that the new file's table is an easing of the old one's, it is one: if the old one passes,
+-- the new one needs no test.
 pub eased-files-pass : (old new : List ℕ) → easedExported old new % 4 ≡ 1 → (budget budget' : ℕ)
-    → verdict (periodicFrom old .table) budget ≡ Verdict.Passes → horizon (periodicFrom new .table) ≤ budget' → verdict (periodicFrom new .table) budget' ≡ Verdict.Passes
+    → verdict (periodicFrom old .table) budget ≡ Verdict.Passes → horizon (periodicFrom new .table) ≤ budget'
+    → verdict (periodicFrom new .table) budget' ≡ Verdict.Passes
 eased-files-pass old new one =
-    let (p, q, e) = told-eased old new one in
+    let (p, q, e) = files-eased old new one in
     let (m, well) = well-periodic old p in
     let (n, well-after) = well-periodic new q in
     easing-is-safe (periodicFrom old .table) (periodicFrom new .table) m n well well-after e

@@ -1,6 +1,7 @@
--- TWO ENGINES, ONE ANSWER (section 3.6): `jump::test` leaps from one release or finish to the next, `exact::test` walks slot by slot. Each has
--- the contract `Permitted`, and so has each of the two exported checks the contract `Checked`; each permits one result.
-use mathlib.Core.Path.{_≡_, ap}
+-- TWO ENGINES, ONE ANSWER (section 3.6): `jump::test` leaps from one release or finish to the next,
+-- `exact::test` walks slot by slot. Each has the contract `Permitted`,
+-- and so has each of the two exported checks the contract `Checked`; each permits one result.
+use mathlib.Core.Path.{_≡_, refl}
 use mathlib.Core.List.{List}
 use Prim.Native.Nat.{ℕ}
 use Rattle.values.specs.declared.Table.{Table}
@@ -10,20 +11,18 @@ use Rattle.model.specs.Verdict.{Permitted}
 use Rattle.model.specs.Report.{Exported, Checked}
 use Rattle.promises.specs.Demand1.{one-answer, one-export}
 
--- For every table and budget they give equal verdicts and intervals, as values and in the specification's numbers, equal worst responses,
--- settled counts and idle instants, and measure the same.
-pub engines-agree : (t : Table) (budget : ℕ) (leaping plain : Answer) → Permitted t budget leaping → Permitted t budget plain
-    → (leaping .outcome ≡ plain .outcome) × (outcomeSaid (leaping .outcome) ≡ outcomeSaid (plain .outcome)) × (leaping .worst ≡ plain .worst) × (leaping .settled ≡ plain .settled) × (leaping .idle ≡ plain .idle) × (leaping .measure ≡ plain .measure)
+-- For every table and budget they give equal verdicts and intervals, as values and in the specification's numbers,
+-- equal worst responses, settled counts and idle instants, and measure the same.
+pub engines-agree : (t : Table) (budget : ℕ) (leaping plain : Answer)
+    → Permitted t budget leaping → Permitted t budget plain
+    → (leaping .outcome ≡ plain .outcome) × (outcomeSaid (leaping .outcome) ≡ outcomeSaid (plain .outcome))
+    × (leaping .worst ≡ plain .worst) × (leaping .settled ≡ plain .settled)
+    × (leaping .idle ≡ plain .idle) × (leaping .measure ≡ plain .measure)
 engines-agree t budget leaping plain p q =
-    let e = one-answer t budget leaping plain p q in (
-      ap (λ (a : Answer). a .outcome) e,
-      ap (λ (a : Answer). outcomeSaid (a .outcome)) e,
-      ap (λ (a : Answer). a .worst) e,
-      ap (λ (a : Answer). a .settled) e,
-      ap (λ (a : Answer). a .idle) e,
-      ap (λ (a : Answer). a .measure) e,
-    )
+    rw (one-answer t budget leaping plain p q) (refl, refl, refl, refl, refl, refl)
 
--- So `yolizadwa_check` and `yolizadwa_check_plainly` return one number and leave one buffer, for every file and report buffer.
-pub checks-agree : (file buffer : List ℕ) (leaping plain : Exported) → Checked file buffer leaping → Checked file buffer plain → (leaping .number ≡ plain .number) × (leaping .buffer ≡ plain .buffer)
-checks-agree file buffer leaping plain p q = let e = one-export file buffer leaping plain p q in (ap (λ (x : Exported). x .number) e, ap (λ (x : Exported). x .buffer) e)
+-- So `yolizadwa_check` and `yolizadwa_check_plainly` return one number and leave one buffer,
+-- for every file and report buffer.
+pub checks-agree : (file buffer : List ℕ) (leaping plain : Exported) → Checked file buffer leaping
+    → Checked file buffer plain → (leaping .number ≡ plain .number) × (leaping .buffer ≡ plain .buffer)
+checks-agree file buffer leaping plain p q = rw (one-export file buffer leaping plain p q) (refl, refl)

@@ -1,6 +1,7 @@
--- THE HEADLINES: the report of the exported check says `verdict passes` exactly if some schedule is good for all time; and where it says so, a
--- camera's loop over the same file finishes every job within the worst response that the report tells, whatever is reported done.
-use mathlib.Core.Path.{_≡_, refl, sym, ap, subst, _∙_}
+-- THE HEADLINES: the report of the exported check says `verdict passes` exactly if some schedule is good for all time;
+-- and where it says so, a camera's loop over the same file finishes every job within the worst response that the report
+-- tells, whatever is reported done.
+use mathlib.Core.Path.{_≡_, sym, ap, _∙_}
 use mathlib.Core.Logic.{_↔_}
 use mathlib.Core.List.{List}
 use mathlib.Core.Bool.{Bool, not}
@@ -39,8 +40,8 @@ use Rattle.promises.specs.ReportTold.{passes-told}
 abbrev pub told : (ℕ → ℕ) → ℕ → Bool
 told done n = not (eqb (done n) 0)
 
--- A camera's loop over a file is in time: the start returns 0, every step that can be counted returns the owner of its slot, and each
--- job is finished within these worst responses after its release.
+-- A camera's loop over a file is in time: the start returns 0, every step that can be counted returns the owner of its
+-- slot, and each job is finished within these worst responses after its release.
 pub record InTime (file worst lent : List ℕ) (done : ℕ → ℕ) : Type 0 where
   pub started : startExported file lent .number ≡ 0
   pub stepped : (n : ℕ) → n < slotCountLimit
@@ -48,8 +49,10 @@ pub record InTime (file worst lent : List ℕ) (done : ℕ → ℕ) : Type 0 whe
   pub finished : (i j : ℕ) → let t = fileRead file .table in
       i < t .count → Finished t (told done) i j (release (task t i) j + getD worst i 0)
 
--- A file that is read and has no button, a buffer that is long enough for a report, and what the exported check makes of them.
-module _ (file buffer : List ℕ) (e : Exported) (long : reportBytes ≤ length buffer) (good : periodicFrom file .admission ≡ Admission.Admitted) (checked : Checked file buffer e) where
+-- A file that is read and has no button, a buffer that is long enough for a report,
+-- and what the exported check makes of them.
+module _ (file buffer : List ℕ) (e : Exported) (long : reportBytes ≤ length buffer)
+    (good : periodicFrom file .admission ≡ Admission.Admitted) (checked : Checked file buffer e) where
   abbrev table : Table
   table = fileRead file .table
 
@@ -60,8 +63,10 @@ module _ (file buffer : List ℕ) (e : Exported) (long : reportBytes ≤ length 
   abbrev reported : Reported (fileRead file) buffer e
   reported = reported-export file buffer e (le-ltb (length buffer) reportBytes long) good checked
 
-  -- With a budget that reaches the horizon the report says that the table passes exactly if some schedule is good for all time.
-  pub check-passes-exactly : horizon table ≤ fileRead file .budget → (passesExported report ≡ 1) ↔ ((σ : Schedule) × Good table σ)
+  -- With a budget that reaches the horizon the report says that the table passes exactly if some
+  -- schedule is good for all time.
+  pub check-passes-exactly : horizon table ≤ fileRead file .budget
+      → (passesExported report ≡ 1) ↔ ((σ : Schedule) × Good table σ)
   check-passes-exactly reach =
       let (a, v, p, o, w, fit) = reported in
       let (read, same, (m, well)) = periodic-read file good in
@@ -72,8 +77,8 @@ module _ (file buffer : List ℕ) (e : Exported) (long : reportBytes ≤ length 
       let exactly = passes-exactly table m well (fileRead file .budget) reach in
       (λ one. exactly .0 (sym is ∙ told .0 (sym off ∙ one)), λ some. off ∙ told .1 (is ∙ exactly .1 some))
 
-  -- Where the report says so, it is that of an answer whose worst responses hold for ever: on the same file, in any state buffer and under
-  -- any done reports, a camera's loop is in time.
+  -- Where the report says so, it is that of an answer whose worst responses hold for ever: on the same file,
+  -- in any state buffer and under any done reports, a camera's loop is in time.
   pub camera-in-time : passesExported report ≡ 1
       → (a : Answer) × (report ≡ reportOf (table .count) (quickPass table) a Verdict.Passes)
       × ((lent : List ℕ) → length lent ≡ stateBytes → (done : ℕ → ℕ) → InTime file (a .worst) lent done)
@@ -81,18 +86,23 @@ module _ (file buffer : List ℕ) (e : Exported) (long : reportBytes ≤ length 
       let (a, v, p, o, w, fit) = reported in
       let (read, same, (m, well)) = periodic-read file good in
       let text = read-off (reportOf (table .count) (quickPass table) a v) buffer w in
-      let passes : v ≡ Verdict.Passes = passes-told (table .count) (quickPass table) a v fit .0 (sym (ap passesExported text) ∙ one) in
-      (a, text ∙ ap (reportOf (table .count) (quickPass table) a) passes, λ lent size done. in-time m well a p (o ∙ ap Outcome.Tested passes) lent size done)
+      let says = passes-told (table .count) (quickPass table) a v fit in
+      let passes : v ≡ Verdict.Passes = says .0 (sym (ap passesExported text) ∙ one) in (
+        a,
+        text ∙ ap (reportOf (table .count) (quickPass table) a) passes,
+        λ lent size done. in-time m well a p (o ∙ ap Outcome.Tested passes) lent size done,
+      )
     where
-      in-time : (m : Measure) → judged table ≡ Judgement.WellFormed m → (a : Answer) → Permitted table (fileRead file .budget) a
-          → a .outcome ≡ Outcome.Tested Verdict.Passes → (lent : List ℕ) → length lent ≡ stateBytes → (done : ℕ → ℕ)
-          → InTime file (a .worst) lent done
+      in-time : (m : Measure) → judged table ≡ Judgement.WellFormed m
+          → (a : Answer) → Permitted table (fileRead file .budget) a → a .outcome ≡ Outcome.Tested Verdict.Passes
+          → (lent : List ℕ) → length lent ≡ stateBytes → (done : ℕ → ℕ) → InTime file (a .worst) lent done
       in-time m well a p pass lent size done =
           let (same, _) = admitted file (periodic-read file good .0) in
           let formed : formOf file .admission ≡ Admission.Admitted = rw (← same) (periodic-read file good .0) in
           let held : formOf file .table ≡ table = ap (λ (x : Contents). x .table) (sym same) in
           record {
             started = ap (λ (x : Exported). x .number) (camera-starts file table m formed held well lent size done);
-            stepped = λ n h. ap (λ (x : Exported). x .number) (camera-steps file table m formed held well lent size done n h);
+            stepped =
+                λ n h. ap (λ (x : Exported). x .number) (camera-steps file table m formed held well lent size done n h);
             finished = all-in-time table m well (told done) (fileRead file .budget) a p pass;
           }

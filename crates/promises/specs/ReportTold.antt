@@ -1,5 +1,5 @@
--- WHAT THE TEXT TELLS: a report determines the verdict with its interval, the settled count and the worst responses, and the exported call on
--- a report says 1 exactly if the verdict is Passes.
+-- WHAT THE TEXT TELLS: a report determines the verdict with its interval, the settled count and the worst responses,
+-- and the exported call on a report says 1 exactly if the verdict is Passes.
 use mathlib.Core.Path.{_≡_, sym, _∙_}
 use mathlib.Core.Logic.{_↔_}
 use mathlib.Core.Bool.{Bool}

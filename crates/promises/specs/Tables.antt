@@ -1,5 +1,6 @@
--- The specification's tables a to j, the budgets that it names, and the lamp (section 10): one statement over a list of them, by one computed test and a law.
-use mathlib.Core.Path.{_≡_, refl, subst}
+-- The specification's tables a to j, the budgets that it names, and the lamp (section 10):
+-- one statement over a list of them, by one computed test and a law.
+use mathlib.Core.Path.{_≡_, refl}
 use mathlib.Core.List.{List, [], _∷_, map}
 use Prim.Native.Nat.{ℕ}
 use Rattle.values.specs.declared.Table.{Table}
@@ -13,24 +14,22 @@ use Rattle.model.specs.Tasks.{taskFault, firstFaulty, round, load, horizon, jud
 use Rattle.model.specs.Demand.{arrivedIn, demand, lateAt}
 use Rattle.model.specs.Run.{choose, ownerOf, served}
 use Rattle.model.specs.Idle.{idleAt, firstIdle}
-use Rattle.model.specs.Verdict.{needed, lateStart, verdict, settledBy, brief, Permitted}
+use Rattle.model.specs.Verdict.{needed, lateStart, verdict, settledBy, brief}
 use Rattle.model.specs.Dispatcher.{startOf, ownerNow, after}
 use Rattle.model.specs.History.{stateAt}
-use Rattle.model.specs.Examples.{padded, table-a, table-b, table-c, table-d, table-e, table-f, table-g, table-h, table-i, table-j, table-lamp}
+use Rattle.model.specs.Examples.{padded, table-a, table-b, table-c, table-d, table-e, table-f, table-g, table-h}
+use Rattle.model.specs.Examples.{table-i, table-j, table-lamp}
 use Rattle.backlog.specs.WalkWorst.{worstBy}
-use Rattle.backlog.specs.Computed.{answerOf, computed}
-
--- A table, a budget, and the answer that the specification gives.
-pub record Row : Type 0 where
-  pub table : Table
-  pub budget : ℕ
-  pub answer : Answer
+use Rattle.backlog.specs.Computed.{answerOf}
+pub use Rattle.telling.specs.Rows.{Row, AllPermitted}
+use Rattle.telling.specs.Rows.{all-permitted}
 
 abbrev measured : ℕ → ℕ → ℕ → Measure
 measured round load horizon = record { round = round; load = load; horizon = horizon }
 
 abbrev passes : Measure → List ℕ → ℕ → Answer
-passes m worst idle = record { outcome = Outcome.Tested Verdict.Passes; measure = m; settled = m .horizon; worst = worst; idle = idle }
+passes m worst idle =
+    record { outcome = Outcome.Tested Verdict.Passes; measure = m; settled = m .horizon; worst = worst; idle = idle }
 
 abbrev told : Verdict → Measure → ℕ → Answer
 told v m settled = brief (Outcome.Tested v) m settled
@@ -58,29 +57,16 @@ rows =
     ∷ []
 
 -- Every row's answer is the one permitted.
-abbrev pub AllPermitted : List Row → Type 0
-AllPermitted [] = Unit {0}
-AllPermitted (r ∷ rs) = Permitted (r .table) (r .budget) (r .answer) × AllPermitted rs
-
--- The law: it is enough that the computed answers are the given ones.
-all-permitted : (rs : List Row) → map (λ r. answerOf (r .table) (r .budget)) rs ≡ map (λ r. r .answer) rs → AllPermitted rs
-all-permitted [] e = tt
-all-permitted (r ∷ rs) e =
-    let h : answerOf (r .table) (r .budget) ≡ r .answer = cc in
-    let k : map (λ r. answerOf (r .table) (r .budget)) rs ≡ map (λ r. r .answer) rs = cc in
-    (subst (Permitted (r .table) (r .budget)) h (computed (r .table) (r .budget)), all-permitted rs k)
-
--- The test, computed.
-rows-computed : map (λ r. answerOf (r .table) (r .budget)) rows ≡ map (λ r. r .answer) rows
-unfolding answerOf judged judgedMixed firstButton firstFaulty taskFault first last round load horizon largest sum count verdict settledBy needed lateStart lateAt demand arrivedIn worstBy stateAt startOf after ownerNow choose fill firstIdle idleAt ownerOf served
-rows-computed = refl
-
 pub tables-answered : AllPermitted rows
-tables-answered = all-permitted rows rows-computed
+unfolding answerOf judged judgedMixed firstButton firstFaulty taskFault first last round load horizon
+    largest sum count verdict settledBy needed lateStart lateAt demand arrivedIn worstBy stateAt
+    startOf after ownerNow choose fill firstIdle idleAt ownerOf served
+tables-answered = all-permitted rows refl
 
 -- In the specification's numbers: 4 passes, 3 late with its interval and demand, 2 undecided, 1 overload.
 pub tables-said :
     map (λ r. outcomeSaid (r .answer .outcome)) rows
-    ≡ (4 ∷ []) ∷ (4 ∷ []) ∷ (3 ∷ 8 ∷ 15 ∷ 8 ∷ []) ∷ (3 ∷ 0 ∷ 7 ∷ 9 ∷ []) ∷ (4 ∷ []) ∷ (3 ∷ 0 ∷ 1 ∷ 2 ∷ []) ∷ (4 ∷ []) ∷ (3 ∷ 4 ∷ 7 ∷ 4 ∷ []) ∷ (1 ∷ []) ∷ (4 ∷ [])
+    ≡ (4 ∷ []) ∷ (4 ∷ []) ∷ (3 ∷ 8 ∷ 15 ∷ 8 ∷ []) ∷ (3 ∷ 0 ∷ 7 ∷ 9 ∷ []) ∷ (4 ∷ [])
+    ∷ (3 ∷ 0 ∷ 1 ∷ 2 ∷ []) ∷ (4 ∷ []) ∷ (3 ∷ 4 ∷ 7 ∷ 4 ∷ []) ∷ (1 ∷ []) ∷ (4 ∷ [])
     ∷ (2 ∷ []) ∷ (4 ∷ []) ∷ (2 ∷ []) ∷ (3 ∷ 8 ∷ 15 ∷ 8 ∷ []) ∷ (4 ∷ []) ∷ []
 tables-said = refl

@@ -1,0 +1,21 @@
+-- What is told, case by case.
+-- Tables, and what is told of a file and of a step.
+pub mod Ranges
+pub mod Refusals
+pub mod FileTold
+pub mod Reported
+pub mod Steps
+-- The exact test's answers.
+pub mod Answers
+pub mod Passed
+pub mod Late
+pub mod Longer
+pub mod AnyOrder
+pub mod Rows
+-- The other tests, easings, the largest cost and logs.
+pub mod Quick
+pub mod Distance
+pub mod Easings
+pub mod LargestCosts
+pub mod GoodLogs
+pub mod Examples
