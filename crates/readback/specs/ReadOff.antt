@@ -1,6 +1,5 @@
 -- What a host reads off what a check returned and left is the report (`read-off`), and the exported call says 1 of it
--- exactly if it says that the
--- table passes (`one-exactly`).
+-- exactly if it says that the table passes (`one-exactly`).
 use mathlib.Core.Path.{_≡_, refl}
 use mathlib.Core.Logic.{_↔_}
 use mathlib.Core.Bool.{Bool, true, false, cond}
@@ -12,7 +11,8 @@ use lib.Seq.{take-append-seam}
 use Rattle.model.specs.Report.{Exported, written}
 use Rattle.model.specs.ReportRead.{saysPasses, passesExported}
 
-pub read-off : {e : Exported} (report buffer : List ℕ) → e ≡ written report buffer → take (e .number) (e .buffer) ≡ report
+pub read-off : {e : Exported} (report buffer : List ℕ) → e ≡ written report buffer
+    → take (e .number) (e .buffer) ≡ report
 read-off report buffer h = rw h (take-append-seam report _)
 
 pub one-exactly : (s : List ℕ) → (passesExported s ≡ 1) ↔ (saysPasses s ≡ true)
