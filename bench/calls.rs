@@ -18,6 +18,7 @@ extern "C" {
     fn clock_gettime(clock: i32, time: *mut [i64; 2]) -> i32;
     fn yolizadwa_check(file: *const u8, file_len: usize, report: *mut u8, report_len: usize) -> u64;
     fn yolizadwa_check_plainly(file: *const u8, file_len: usize, report: *mut u8, report_len: usize) -> u64;
+    fn yolizadwa_passes(report: *const u8, length: usize) -> u64;
     fn yolizadwa_quick(file: *const u8, file_len: usize) -> u64;
     fn yolizadwa_distance(file: *const u8, file_len: usize) -> u64;
     fn yolizadwa_eased(before: *const u8, before_len: usize, after: *const u8, after_len: usize) -> u64;
@@ -38,6 +39,11 @@ pub fn check(file: &[u8], report: &mut [u8; REPORT_BYTES]) -> u64 {
 
 pub fn check_plainly(file: &[u8], report: &mut [u8; REPORT_BYTES]) -> u64 {
     unsafe { yolizadwa_check_plainly(file.as_ptr(), file.len(), report.as_mut_ptr(), report.len()) }
+}
+
+// Whether what a check returned and left says that the table passes.
+pub fn passes(length: u64, report: &[u8; REPORT_BYTES]) -> bool {
+    unsafe { yolizadwa_passes(report.as_ptr(), length as usize) == 1 }
 }
 
 pub fn quick(file: &[u8]) -> u64 {

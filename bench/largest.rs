@@ -17,8 +17,8 @@ fn passes(tasks: &[Task], task: usize, cost: u32) -> bool {
     let mut changed = tasks.to_vec();
     changed[task].cost = cost;
     let (file, mut report) = (table_file(&changed, horizon(tasks)), [0u8; REPORT_BYTES]);
-    let length = check(black_box(&file), &mut report) as usize;
-    report[..length].windows(16).any(|words| words == b"\nverdict passes\n")
+    let length = check(black_box(&file), &mut report);
+    calls::passes(length, &report)
 }
 
 // The largest cost, and how many checks it took to see that.
