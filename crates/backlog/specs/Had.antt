@@ -10,7 +10,7 @@ use lib.Dec.{T, leb, eqb}
 use Rattle.values.specs.declared.Table.{Table}
 use Rattle.model.specs.Notation.{sum, count}
 use Rattle.model.specs.Tasks.{task, release}
-use Rattle.model.specs.History.{ownerAt, reported, had, Finished}
+use Rattle.model.specs.History.{ownerAt, saidDone, had, Finished}
 use Rattle.counting.specs.Count.{tests, and-iff, count-more, count-none}
 use Rattle.backlog.specs.StepHistory.{gave}
 
@@ -35,5 +35,5 @@ module _ (t : Table) (done : ℕ → Bool) where
 
   -- Up to the next release of its task, a job is finished exactly if it had its cost or was reported since its release.
   pub finished-iff : (i j n : ℕ) → n ≤ release (task t i) (suc j)
-      → Finished t done i j n ↔ ((had t done i (release (task t i) j) n ≡ task t i .cost) ⊎ ((u : ℕ) × (release (task t i) j < u) × (u ≤ n) × T (reported t done i u)))
+      → Finished t done i j n ↔ ((had t done i (release (task t i) j) n ≡ task t i .cost) ⊎ ((u : ℕ) × (release (task t i) j < u) × (u ≤ n) × T (saidDone t done i u)))
   finished-iff i j n l = rw (min-eq-left l) (λ h. h, λ h. h)

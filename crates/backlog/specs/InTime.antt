@@ -11,7 +11,7 @@ use Rattle.values.specs.declared.Verdict.{Verdict}
 use Rattle.model.specs.Tasks.{task, release}
 use Rattle.model.specs.Verdict.{verdict}
 use Rattle.model.specs.Run.{tieOrder, Worst}
-use Rattle.model.specs.History.{reported, had, Finished}
+use Rattle.model.specs.History.{saidDone, had, Finished}
 use Rattle.wellformed.specs.Ranges.{Ranged}
 use Rattle.backlog.specs.Criterion.{Met}
 use Rattle.backlog.specs.OnTime.{on-time}
@@ -37,7 +37,7 @@ module _ (t : Table) (r : Ranged t) (done : ℕ → Bool) (budget : ℕ) (pass :
       let k : release (task t i) j + w ≤ release (task t i) (suc j) = omega (arith, r .each i l .deadline-le) in
       finished-iff t done i j (release (task t i) j + w) k .1 (go (on-time (jobs S) (dues S) (told t done) (open' t done) (ready t done) (gave t done) (step-history t r done) (constrained S) (servedOf S) (model-run S) met i w l (λ j f d. v .bound j f (finishes-iff S i j f l .1 d)) j k))
     where
-      go : ((u : ℕ) × (0 < u) × (u < w) × T (reported t done i (release (task t i) j + u))) ⊎ (sum w (λ u. gave t done (release (task t i) j + u) i) ≡ task t i .cost)
-          → (had t done i (release (task t i) j) (release (task t i) j + w) ≡ task t i .cost) ⊎ ((u : ℕ) × (release (task t i) j < u) × (u ≤ release (task t i) j + w) × T (reported t done i u))
+      go : ((u : ℕ) × (0 < u) × (u < w) × T (saidDone t done i (release (task t i) j + u))) ⊎ (sum w (λ u. gave t done (release (task t i) j + u) i) ≡ task t i .cost)
+          → (had t done i (release (task t i) j) (release (task t i) j + w) ≡ task t i .cost) ⊎ ((u : ℕ) × (release (task t i) j < u) × (u ≤ release (task t i) j + w) × T (saidDone t done i u))
       go (inl (u, a, b, c)) = inr (release (task t i) j + u, omega arith, omega arith, c)
       go (inr e) = inl (had-sum t done i (release (task t i) j) w ∙ e)

@@ -9,7 +9,7 @@ use borrow.Author.Tests.{eq-eqb}
 use lib.Dec.{T}
 use Rattle.values.specs.declared.Table.{Table}
 use Rattle.model.specs.Tasks.{task, release}
-use Rattle.model.specs.History.{ownerAt, reported, had, Finished}
+use Rattle.model.specs.History.{ownerAt, saidDone, had, Finished}
 use Rattle.wellformed.specs.Ranges.{Ranged}
 use Rattle.backlog.specs.System.{System, jobs, releaseOf}
 use Rattle.backlog.specs.TableSystem.{tieSystem}
@@ -24,7 +24,7 @@ module _ (t : Table) (r : Ranged t) (done : ℕ → Bool) where
   S = tieSystem t r
 
   -- A report closes the job of its task, where none is released with it.
-  report-closes : (u i : ℕ) → i < t .count → ((k : ℕ) → release (task t i) k ≢ u) → T (reported t done i u) → ready t done u i ≡ 0
+  report-closes : (u i : ℕ) → i < t .count → ((k : ℕ) → release (task t i) k ≢ u) → T (saidDone t done i u) → ready t done u i ≡ 0
   report-closes u i l none h = go (finds t r done u i (sound t r done u) l)
     where
       empty : (b : Bool) → T b → cond b 0 (open' t done u i) ≡ 0
@@ -33,7 +33,7 @@ module _ (t : Table) (r : Ranged t) (done : ℕ → Bool) where
       go : ((k : ℕ) × Fresh t r done u i k) ⊎ Kept t r done u i → ready t done u i ≡ 0
       go (inl (k, f)) = absurd (none k (f .now))
       go (inr k) = elim (k .left) [
-        | inl (e, d, n) ↦ e ∙ sym d ∙ empty (reported t done i u) h
+        | inl (e, d, n) ↦ e ∙ sym d ∙ empty (saidDone t done i u) h
         | inr (e, c) ↦ e
       ]
 
@@ -54,7 +54,7 @@ module _ (t : Table) (r : Ranged t) (done : ℕ → Bool) where
       one : gave t done n i ≡ 1
       one = rw (eq-eqb (ownerAt t done n) i e)
 
-      go : (had t done i (release (task t i) j) n ≡ task t i .cost) ⊎ ((u : ℕ) × (release (task t i) j < u) × (u ≤ n) × T (reported t done i u)) → ⊥
+      go : (had t done i (release (task t i) j) n ≡ task t i .cost) ⊎ ((u : ℕ) × (release (task t i) j < u) × (u ≤ n) × T (saidDone t done i u)) → ⊥
       go (inl h) = omega (arith, h, one, had-next t done i (release (task t i) j) n a, never-more t r done i j (suc n) l (omega arith))
       go (inr (u, x, y, h)) =
           let d : u + (n - u) ≡ n = omega arith in

@@ -14,7 +14,7 @@ use Rattle.values.specs.declared.Verdict.{Verdict}
 use Rattle.model.specs.Tasks.{task, release}
 use Rattle.model.specs.Verdict.{verdict}
 use Rattle.model.specs.Run.{tieOrder, Worst}
-use Rattle.model.specs.History.{ownerAt, reported, Finished}
+use Rattle.model.specs.History.{ownerAt, saidDone, Finished}
 use Rattle.wellformed.specs.Ranges.{Ranged}
 use Rattle.backlog.specs.Criterion.{Met}
 use Rattle.backlog.specs.History.{Goes}
@@ -45,7 +45,7 @@ module _ (t : Table) (r : Ranged t) (done : ℕ → Bool) (budget : ℕ) (pass :
       finished : (d : ℕ) → release (task t i) j + suc d ≡ n → open' t done n i ≡ 0 → Finished t done i j n
       finished d q z = at (account (jobs S) (dues S) (told t done) (open' t done) (ready t done) (gave t done) (step-history t r done) (constrained S) (servedOf S) (model-run S) met i j d l (omega arith))
         where
-          at : ((u : ℕ) × (0 < u) × (u ≤ d) × T (reported t done i (release (task t i) j + u))) ⊎ (sum (suc d) (λ u. gave t done (release (task t i) j + u) i) + open' t done (release (task t i) j + suc d) i ≡ task t i .cost) → Finished t done i j n
+          at : ((u : ℕ) × (0 < u) × (u ≤ d) × T (saidDone t done i (release (task t i) j + u))) ⊎ (sum (suc d) (λ u. gave t done (release (task t i) j + u) i) + open' t done (release (task t i) j + suc d) i ≡ task t i .cost) → Finished t done i j n
           at (inl (u, x, y, c)) = finished-iff t done i j n (omega arith) .1 (inr (release (task t i) j + u, omega arith, omega arith, c))
           at (inr x) = finished-iff t done i j n (omega arith) .1 (inl (rw (← q) (omega (arith, had-sum t done i (release (task t i) j) (suc d), ap (λ (m : ℕ). open' t done m i) q))))
 

@@ -12,7 +12,7 @@ use Rattle.model.specs.Notation.{bit}
 use Rattle.model.specs.Tasks.{task}
 use Rattle.model.specs.Run.{tieOrder}
 use Rattle.model.specs.Dispatcher.{leftOf, leftReleased}
-use Rattle.model.specs.History.{stateAt, ownerAt, reported}
+use Rattle.model.specs.History.{stateAt, ownerAt, saidDone}
 use Rattle.counting.specs.Below.{below}
 use Rattle.wellformed.specs.Ranges.{Ranged}
 use Rattle.backlog.specs.Domination.{openKey}
@@ -36,7 +36,7 @@ module _ (t : Table) (done : ℕ → Bool) where
 
   -- The end of task i's job is reported before slot n.
   abbrev pub told : ℕ → ℕ → Type 0
-  told n i = T (reported t done i n)
+  told n i = T (saidDone t done i n)
 
   -- Nothing is left before slot 0.
   first-open : (i : ℕ) → open' 0 i ≡ 0

@@ -57,7 +57,7 @@ pub fn start(file: &[u8], state: &mut [u8]) -> u64
 }
 
 // Any number but 0 is a done report.
-fn reported(done: u32) -> bool
+fn said_done(done: u32) -> bool
     ensures { λ r. ⌜ r ≡ not (eqb done 0) ⌝ }
 {
     done != 0
@@ -68,7 +68,7 @@ fn step_table(table: Table, state: &mut [u8], done: u32) -> u64
     ensures { λ r. ⌜ exported r (now (state .exit)) ≡ (let s = stepped table (stateIn (now (state .entry))) (not (eqb done 0)) in stepWritten (now (state .entry)) (s .state) (s .answer)) ⌝ }
 {
     let dispatcher = statebuffer::state_in(state);
-    let stepped = dispatcher.step(table, reported(done));
+    let stepped = dispatcher.step(table, said_done(done));
     let answer = stepped.answer;
     match answer {
         SlotAnswer::Refused(why) => numbers::refusal_number(why),

@@ -27,7 +27,7 @@ use Rattle.model.specs.TableFile.{taskIn, tableOf, bytesOf, taskRecords,
 use Rattle.model.specs.TableFile.{periodicFrom}
 use Rattle.model.specs.Dispatcher.{State, slotCount, firstStrange, admitted, startOf, started, ownerNow, after}
 use Rattle.model.specs.Dispatcher.{turn, stepped}
-use Rattle.model.specs.History.{stateAt, ownerAt, reported, had, Finished}
+use Rattle.model.specs.History.{stateAt, ownerAt, saidDone, had, Finished}
 use Rattle.model.specs.Report.{worstLines, reportOf, refused, written, Checked, quickExported, distanceExported}
 use Rattle.model.specs.Report.{Printed}
 use Rattle.model.specs.StateBuffer.{stateBytes, halves, bufferOf, stateIn, startExported, stepExported, handed}
@@ -608,8 +608,8 @@ once-done n = eqb n 1
 
 history :
     (map (ownerAt table-g once-done) (0 ∷ 1 ∷ 2 ∷ 3 ∷ 4 ∷ []) ≡ 0 ∷ 1 ∷ 1 ∷ taskLimit ∷ 0 ∷ [])
-    × (map (reported table-g once-done 0) (0 ∷ 1 ∷ 2 ∷ 5 ∷ []) ≡ false ∷ true ∷ false ∷ false ∷ [])
-    × (reported table-g once-done 1 1 ≡ false)
+    × (map (saidDone table-g once-done 0) (0 ∷ 1 ∷ 2 ∷ 5 ∷ []) ≡ false ∷ true ∷ false ∷ false ∷ [])
+    × (saidDone table-g once-done 1 1 ≡ false)
     × (map (λ from. had table-g once-done 1 from 3) (0 ∷ 1 ∷ 2 ∷ []) ≡ 2 ∷ 2 ∷ 1 ∷ [])
     × (map (had table-g once-done 1 0) (1 ∷ 2 ∷ []) ≡ 0 ∷ 1 ∷ [])
 unfolding once-done stateAt had startOf after ownerNow choose fill count

@@ -16,8 +16,8 @@ module _ (t : Table) (done : ℕ → Bool) where
   ownerAt n = ownerNow t (stateAt n) (done n)
 
   -- Step n is told that task i, which ran last, is done.
-  abbrev pub reported : ℕ → ℕ → Bool
-  reported i n = done n && eqb (stateAt n .last) i
+  abbrev pub saidDone : ℕ → ℕ → Bool
+  saidDone i n = done n && eqb (stateAt n .last) i
 
   -- The slots from `from` up to `to` that task i had.
   unfoldable pub had : ℕ → ℕ → ℕ → ℕ
@@ -29,4 +29,4 @@ module _ (t : Table) (done : ℕ → Bool) where
   Finished i j n =
       let from = release (task t i) j in
       let to = min n (release (task t i) (suc j)) in
-      (had i from to ≡ task t i .cost) ⊎ ((u : ℕ) × (from < u) × (u ≤ to) × T (reported i u))
+      (had i from to ≡ task t i .cost) ⊎ ((u : ℕ) × (from < u) × (u ≤ to) × T (saidDone i u))

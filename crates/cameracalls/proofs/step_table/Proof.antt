@@ -6,8 +6,8 @@ use Rattle.cameracalls.proofs.step_table.Tie as tie
 state-in-requires : tie.Need-state-in-requires
 state-in-requires c κs = search needs
 
-reported-requires : tie.Need-reported-requires
-reported-requires c κs = search needs
+said-done-requires : tie.Need-said-done-requires
+said-done-requires c κs = search needs
 
 step-requires : tie.Need-step-requires
 step-requires c κs = search needs
@@ -35,7 +35,7 @@ returns c =
     let known = c .before .before in
     let step = known .before .before in
     let told = step .before in
-    rw (← told .before .state-in .ensures, ← told .reported .ensures, ← step .step .ensures, known .answer .given .1, c .refusal-number .ensures)
+    rw (← told .before .state-in .ensures, ← told .said-done .ensures, ← step .step .ensures, known .answer .given .1, c .refusal-number .ensures)
 
 same-length-2 : tie.Need-same-length-2
 same-length-2 c = search needs
@@ -46,14 +46,14 @@ returns-2 c =
     let known = wrote .before .before .before .before in
     let step = known .before .before in
     let told = step .before in
-    rw (← told .before .state-in .ensures, ← told .reported .ensures, ← step .step .ensures, known .answer2 .given .1, wrote .write-state .ensures)
+    rw (← told .before .state-in .ensures, ← told .said-done .ensures, ← step .step .ensures, known .answer2 .given .1, wrote .write-state .ensures)
 
 pub step-table-spec : {M : Type 1} → statement M
 step-table-spec =
     tie.close
     (tie.spec
     state-in-requires
-    reported-requires
+    said-done-requires
     step-requires
     enum-known-answer
     refusal-number-requires
