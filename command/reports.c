@@ -21,7 +21,7 @@ uint64_t report_number(const struct report *report, const char *words)
 
 int report_passes(const struct report *report)
 {
-    return yolizadwa_passes((const uint8_t *)report->text, (size_t)report->length) == 1;
+    return !yolizadwa_refused(report->length) && yolizadwa_passes((const uint8_t *)report->text, (size_t)report->length) == 1;
 }
 
 /* Of the other verdicts, which decide no more than the words and the status. */

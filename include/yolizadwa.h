@@ -214,16 +214,17 @@ uint64_t yolizadwa_check_plainly(const uint8_t *file, size_t file_len, uint8_t *
  * most 1,024 and one of their lines is `verdict passes`, and 0 if not. Line feeds part lines: what follows the last one is a line
  * too. The line is these 14 bytes and no other: a blank before them or a carriage return behind them makes it another line.
  *
- * Hand over the report buffer and what the check returned, be it a length or a refusal:
+ * Ask it of a report, with the length that the check returned:
  *
  *   uint8_t report[YOLIZADWA_REPORT_BYTES];
  *   uint64_t length = yolizadwa_check(file, file_len, report, sizeof report);
- *   if (yolizadwa_passes(report, length)) {
+ *   if (!yolizadwa_refused(length) && yolizadwa_passes(report, length)) {
  *       run(file, file_len);
  *   }
  *
- * A refusal is 65,536 or more, and so longer than any report: then no byte is read, and the result is 0. The length must be of the
- * check that wrote the report: a check that is refused leaves in the buffer what it finds there, be it the report on another table.
+ * A check that is refused leaves in the buffer what it finds there, be it the report on another table. A refusal that is handed
+ * over for the length all the same is longer than any report: the length is looked at first, and the result is 0 (which is
+ * tested, and not proved: no buffer is so long).
  *
  * It never refuses: of any bytes the result is 1 or 0. Who wrote them it cannot tell.
  */

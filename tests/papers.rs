@@ -8,7 +8,7 @@ use std::fs;
 use std::path::Path;
 
 const PAPER: &str = "docs/PROMISES.md";
-const THEORIES: &[&str] = &["crates/backlog/specs", "crates/patterns/specs", "crates/walks/specs"];
+const THEORIES: &[&str] = &["crates/backlog/specs", "crates/patterns/specs", "crates/walks/specs", "crates/telling/specs"];
 const PROMISES: &str = "crates/promises/specs";
 const SPECIFICATION: &str = "docs/SPECIFICATION.md";
 const README: &str = "README.md";
