@@ -120,11 +120,10 @@ void print_job(const struct job *job, int columns);
 /* The jobs of a late interval; nothing of another verdict. Hint is said behind how many are not listed. */
 void list_excess(const struct table *table, const struct report *report, int all, const char *hint);
 
-/* Answers, which may take long, and what they mean: the answer itself, an empty line, and the meaning. Of no answer by distance without
- * buttons somebody else tells, which the caller says. */
+/* Answers, which may take long, and what they mean: the answer itself, an empty line, and the meaning. */
 const char *quick_words(uint64_t answer);
 uint64_t ask_distance(const struct table *table);
-const char *distance_words(const struct table *table, uint64_t answer);
+const char *distance_words(const struct table *table, uint64_t answer); /* of none, without buttons, the caller adds who tells */
 int distance_status(uint64_t answer);
 uint64_t ask_largest(const struct table *table, uint32_t first, unsigned rows, uint64_t *told);
 

@@ -710,10 +710,13 @@ pub fn in_docs(bench: &mut Bench) {
 
 // Windows of random tables.
 
-fn window_words(rng: &mut Rng) -> (Window, Vec<String>) {
+fn any_window(rng: &mut Rng) -> (Window, Vec<String>) {
     let from = rng.pick(&[0_u64, 1, 9, 57, 300, 1_234]);
     let long = rng.pick(&[1_u64, 2, 7, 34, 77, 110, 111, 200, 205, 333, 1_500, 2_000]);
-    let early = rng.chance(30);
+    window_words(from, long, rng.chance(30))
+}
+
+fn window_words(from: u64, long: u64, early: bool) -> (Window, Vec<String>) {
     let mut words = vec!["draw".to_string(), "-".to_string(), "--to".to_string(), (from + long).to_string()];
     if from > 0 {
         words.extend(["--from".to_string(), from.to_string()]);
@@ -724,8 +727,7 @@ fn window_words(rng: &mut Rng) -> (Window, Vec<String>) {
     (Window { from, to: from + long, early }, words)
 }
 
-fn windowed(bench: &mut Bench, rng: &mut Rng, tasks: &[Task], budget: u64) {
-    let (window, words) = window_words(rng);
+fn windowed(bench: &mut Bench, (window, words): (Window, Vec<String>), tasks: &[Task], budget: u64) {
     let mut command = program(COMMAND);
     command.args(&words);
     let output = fed(command, &file_of(budget, tasks));
@@ -739,7 +741,7 @@ pub fn at_random(bench: &mut Bench, rng: &mut Rng) {
     for _ in 0..AT_RANDOM {
         let tasks = near_border(rng);
         let budget = budget_about(rng, &tasks);
-        windowed(bench, rng, &tasks, budget);
+        windowed(bench, any_window(rng), &tasks, budget);
         let text = plain::text_of(budget, &tasks);
         bench.count(is_drawn(&asked(&["draw", "-"], &text), &tasks, budget), || {
             format!("draw of {tasks:?} and budget {budget}")
@@ -751,12 +753,18 @@ pub fn at_random(bench: &mut Bench, rng: &mut Rng) {
     bench.end_group("pictures and pages at random");
 }
 
-// Windows of the command's own choice far out, and jobs that get no slot at all.
+// Windows of the command's own choice far out, windows that cut what is missed, and jobs that get no slot at all.
 
 /// Two tasks whose jobs of one slot come together first at this instant, and then only one of them is in time.
 fn meeting_at(instant: u32) -> Vec<Task> {
     [997, 1_009].map(|period| reference::periodic(instant % period, 1, 1, period)).to_vec()
 }
+
+/// A job of 30 slots, with none to spare, and one of a slot that comes at the end of it first just before 999,995.
+const LONG: [Task; 2] = [reference::periodic(39_965, 30, 30, 60_000), reference::periodic(40_010, 1, 1, 59_999)];
+
+/// In every 60 slots one of two jobs misses 20 from 40 on.
+const MISSING: [Task; 2] = [reference::periodic(0, 30, 40, 60), reference::periodic(0, 30, 40, 60)];
 
 fn one_choice(bench: &mut Bench, tasks: &[Task], budget: u64) {
     let text = plain::text_of(budget, tasks);
@@ -764,16 +772,20 @@ fn one_choice(bench: &mut Bench, tasks: &[Task], budget: u64) {
     bench.count(is_paged(&asked(&["page", "-"], &text), tasks, budget), || format!("page of {tasks:?} and budget {budget}"));
 }
 
-pub fn of_own_choice(bench: &mut Bench) {
+pub fn at_the_edges(bench: &mut Bench) {
     for instant in [503_485, 999_960, 999_989, 999_990, 999_999, 1_000_000] {
         one_choice(bench, &meeting_at(instant), 3_000_000);
     }
     let crowd: Vec<Task> = (0..32).map(|number| reference::periodic(number % 3, 2, 40 + number % 5, 64)).collect();
     one_choice(bench, &crowd, 1_000);
+    one_choice(bench, &LONG, 3_000_000);
+    for (from, long) in [(0, 40), (0, 41), (45, 5), (45, 15), (45, 30), (50, 200), (0, 330), (0, 1_999)] {
+        windowed(bench, window_words(from, long, false), &MISSING, 1_000);
+    }
     for offset in [9, 10, 11, 250, 59_999] {
         one_choice(bench, &[reference::periodic(offset, 2, 3, 4), reference::periodic(offset + 1, 1, 4, 4)], 200_000);
     }
-    bench.end_group("pictures and pages: windows far out");
+    bench.end_group("pictures and pages: windows far out, and cut");
 }
 
 // Texts of anybody's.
