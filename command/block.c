@@ -1,8 +1,9 @@
 /* A block of a drawing: where things stand in it, its axis, labels and shades. */
 #include "block.h"
 
+/* To the right of the lanes there is room for half of the longest number of the axis. */
 enum { ROOM = 770, MOST_OF_A_BLOCK = 110, MOST_OF_A_SLOT = 40 };
-enum { AXIS = 26, HORIZON = 16, GAP = 18, DIGIT = 8 };
+enum { AXIS = 26, HORIZON = 16, GAP = 18, DIGIT = 8, BOLD = 9 };
 
 unsigned x_of(const struct block *block, uint64_t instant)
 {
@@ -78,7 +79,7 @@ static void put_excess(const struct block *block)
         return;
     }
     unsigned left = x_of(block, from), right = x_of(block, to), top = block->top + CAPTIONS - 2, middle = (left + right) / 2;
-    unsigned half = DIGIT * (unsigned)(15 + columns_for(excess->demand) + columns_for(excess->end - excess->start)) / 2;
+    unsigned half = BOLD * (unsigned)(15 + columns_for(excess->demand) + columns_for(excess->end - excess->start)) / 2;
     printf("<g class=\"late\"><rect x=\"%u\" y=\"%u\" width=\"%u\" height=\"%u\" fill=\"#e4e4e4\"/>\n", left, top, right - left,
            axis_of(block) - top);
     put_border(block, left, excess->start == from);
@@ -135,7 +136,7 @@ static void put_numbers(const struct block *block)
 static void put_idle(const struct block *block)
 {
     const struct picture *picture = block->picture;
-    printf("<g class=\"idle\" fill=\"#fff\" stroke=\"#000\"><title>idle: all earlier jobs are over</title>\n");
+    printf("<g class=\"idle\" fill=\"#fff\" stroke=\"#000\"><title>" IDLE "</title>\n");
     for (unsigned long instant = block->begin; has_instant(block, instant); instant++) {
         if (picture->idle[instant - picture->from]) {
             printf("<circle cx=\"%u\" cy=\"%u\" r=\"2.5\"/>", x_of(block, instant), axis_of(block));
@@ -160,8 +161,8 @@ static void put_label(const struct block *block, unsigned number)
 {
     const struct task *task = &block->picture->lanes[number].task;
     unsigned y = floor_of(block, number) - 2;
-    printf("<text x=\"36\" y=\"%u\" font-weight=\"bold\">%u</text><text x=\"84\" y=\"%u\">%llu</text><text x=\"146\" y=\"%u\">%llu</text>"
-           "<text x=\"198\" y=\"%u\">%llu</text>\n",
+    printf("<text x=\"36\" y=\"%u\" font-weight=\"bold\">%u</text><text x=\"80\" y=\"%u\">%llu</text><text x=\"138\" y=\"%u\">%llu</text>"
+           "<text x=\"188\" y=\"%u\">%llu</text>\n",
            y, number, y, (unsigned long long)task->cost, y, (unsigned long long)task->deadline, y, (unsigned long long)task->period);
 }
 
@@ -169,7 +170,7 @@ static void put_labels(const struct block *block)
 {
     unsigned y = block->top + CAPTIONS - 7;
     printf("<g class=\"labels\" text-anchor=\"end\">\n<g font-size=\"12\"><text x=\"36\" y=\"%u\">task</text>"
-           "<text x=\"84\" y=\"%u\">cost</text><text x=\"146\" y=\"%u\">deadline</text><text x=\"198\" y=\"%u\">period</text></g>\n",
+           "<text x=\"80\" y=\"%u\">cost</text><text x=\"138\" y=\"%u\">deadline</text><text x=\"188\" y=\"%u\">period</text></g>\n",
            y, y, y, y);
     for (unsigned number = 0; number < block->picture->tasks; number++) {
         put_label(block, number);

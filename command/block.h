@@ -5,7 +5,10 @@
 #include "picture.h"
 
 /* The drawing's width, where the lanes begin, and how high the captions above a block's lanes are. */
-enum { WIDE = 1000, LEFT = 210, CAPTIONS = 22 };
+enum { WIDE = 1000, LEFT = 200, CAPTIONS = 22 };
+
+/* What a ring on the axis says. */
+#define IDLE "idle: every earlier job is finished, or was closed late before"
 
 /* Slots from begin to end of the window, drawn below this height. */
 struct block {

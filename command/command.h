@@ -100,11 +100,12 @@ struct excess {
 };
 int report_excess(const struct report *report, struct excess *excess);
 
-/* What a verdict means, and the status that goes with it. */
+/* What a verdict means, and the status that goes with it. More is empty, or what an undecided one will be. */
 struct sentence {
-    char text[256];
+    char text[256], more[64];
 };
 void word_verdict(const struct table *table, const struct report *report, struct sentence *sentence);
+void foretell(struct sentence *sentence, const char *answer);
 int verdict_status(const struct report *report);
 
 /* A row of jobs, under a heading whose last column is what the caller makes it; times need so many columns. */
@@ -116,13 +117,13 @@ int columns_for(uint64_t largest);
 void print_jobs_heading(const char *amount, int columns);
 void print_job(const struct job *job, int columns);
 
-/* The jobs of a late interval; nothing of another verdict. */
-void list_excess(const struct table *table, const struct report *report, int all);
+/* The jobs of a late interval; nothing of another verdict. Hint is said behind how many are not listed. */
+void list_excess(const struct table *table, const struct report *report, int all, const char *hint);
 
 /* Answers, which may take long, and what they mean: the answer itself, an empty line, and the meaning. */
 const char *quick_words(uint64_t answer);
 uint64_t ask_distance(const struct table *table);
-const char *distance_words(const struct table *table, uint64_t answer);
+const char *distance_words(const struct table *table, uint64_t answer); /* of none, without buttons, the caller adds who tells */
 int distance_status(uint64_t answer);
 uint64_t ask_largest(const struct table *table, uint32_t first, unsigned rows, uint64_t *told);
 

@@ -34,7 +34,7 @@ uint64_t take_slot(struct course *course)
     return owner;
 }
 
-/* No job is open before the next step releases one, once it has heard of the slot before: all earlier ones are over. */
+/* Before the next step, once it has heard of the slot before, no job is open: each is finished, or was closed late before. */
 int is_idle(const struct course *course)
 {
     unsigned open = 0;

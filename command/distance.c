@@ -4,15 +4,15 @@
 static const char *overload_words(int buttons)
 {
     return buttons ? "distance overload\n\noverload: with every button pressed as often as it may be, more slots are asked for than there "
-                     "are, so\nsome jobs are late sooner or later\n"
-                   : "distance overload\n\noverload: more slots are asked for than there are, so some jobs are late sooner or later\n";
+                     "are, so\nsome jobs are late sooner or later"
+                   : "distance overload\n\noverload: more slots are asked for than there are, so some jobs are late sooner or later";
 }
 
 static const char *pass_words(int buttons)
 {
     return buttons ? "distance pass\n\npass: whenever the buttons are pressed, each at least its spacing apart, the slots can be given out so "
-                     "that\nevery job is in time\n"
-                   : "distance pass\n\npass: every job is in time\n";
+                     "that\nevery job is in time"
+                   : "distance pass\n\npass: every job is in time";
 }
 
 /* Buttons alone may come all at once, so of these it is known what becomes of them. */
@@ -20,12 +20,12 @@ static const char *none_words(int buttons, int tasks)
 {
     if (!buttons) {
         return "distance none\n\nno answer: if all tasks came as close behind one of them as each does by itself, a job would be late; "
-               "they\nmay never do so all at once, and the table may pass or be late: judge tells\n";
+               "they\nmay never do so all at once, and the table may pass or be late";
     }
     return tasks ? "distance none\n\nno answer: if all tasks came as close behind one of them as each does by itself, and all buttons with it, "
-                   "a job\nwould be late; they may never do so all at once, and no other test is for tables with buttons\n"
+                   "a job\nwould be late; they may never do so all at once, and no other test is for tables with buttons"
                  : "distance none\n\nnone: if all buttons are pressed at once, and again as soon as they may be, a job is late; of buttons "
-                   "alone the\ntest is exact\n";
+                   "alone the\ntest is exact";
 }
 
 uint64_t ask_distance(const struct table *table)
@@ -56,6 +56,6 @@ int distance(const struct request *request)
         return status;
     }
     uint64_t answer = ask_distance(&table);
-    fputs(distance_words(&table, answer), stdout);
+    printf("%s%s\n", distance_words(&table, answer), answer == 0 && button_count(&table) == 0 ? ": judge tells" : "");
     return distance_status(answer);
 }

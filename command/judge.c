@@ -88,7 +88,7 @@ static struct job take_next(struct interval *interval)
     return taken;
 }
 
-static void list_jobs(struct interval *interval, int all)
+static void list_jobs(struct interval *interval, int all, const char *hint)
 {
     uint64_t jobs = begin(interval);
     uint64_t listed = all || jobs < JOBS_SHOWN ? jobs : JOBS_SHOWN;
@@ -99,11 +99,11 @@ static void list_jobs(struct interval *interval, int all)
         print_job(&job, columns);
     }
     if (listed < jobs) {
-        printf("  and %llu more; --all shows them all\n", (unsigned long long)(jobs - listed));
+        printf("  and %llu more%s\n", (unsigned long long)(jobs - listed), hint);
     }
 }
 
-void list_excess(const struct table *table, const struct report *report, int all)
+void list_excess(const struct table *table, const struct report *report, int all, const char *hint)
 {
     struct excess excess;
     struct interval interval;
@@ -111,7 +111,7 @@ void list_excess(const struct table *table, const struct report *report, int all
         interval.table = table;
         interval.start = excess.start;
         interval.end = excess.end;
-        list_jobs(&interval, all);
+        list_jobs(&interval, all, hint);
     }
 }
 
@@ -120,10 +120,10 @@ static void explain(const struct table *table, const struct report *report, int 
     struct sentence sentence;
     word_verdict(table, report, &sentence);
     printf("\n%s%s\n", sentence.text, report_verdict(report, "late") ? ":" : "");
-    if (report_verdict(report, "undecided") && strstr(report->text, "\nquick pass\n") != NULL) {
-        printf("and will give passes, as quick pass says\n");
+    if (sentence.more[0] != '\0') {
+        printf("%s\n", sentence.more);
     }
-    list_excess(table, report, all);
+    list_excess(table, report, all, "; --all shows them all");
 }
 
 int judge(const struct request *request)

@@ -69,27 +69,36 @@ static void put_box(const struct block *block, unsigned number, unsigned long fr
 
 static void put_wait(const struct block *block, unsigned number, unsigned long from, unsigned long to)
 {
-    printf("<path d=\"M%u %uH%u\"/>\n", x_of(block, from), floor_of(block, number) - box_height(block) / 2, x_of(block, to));
+    printf("<path d=\"M%u %uH%u\"><title>task %u waits: ", x_of(block, from), floor_of(block, number) - box_height(block) / 2,
+           x_of(block, to), number);
+    put_slots(from, to);
+    printf("</title></path>\n");
+}
+
+/* What the job that is closed or missed here misses. */
+static void put_lack(const struct block *block, unsigned number, unsigned long instant)
+{
+    struct lack lack = block->picture->lanes[number].lacks[instant - block->picture->from];
+    printf("<title>task %u, due at %lu: late, and %lu missing</title>", number, (unsigned long)lack.due, (unsigned long)lack.missing);
 }
 
 /* Above the boxes, so that the next job's stay to be seen. */
 static void put_missed(const struct block *block, unsigned number, unsigned long from, unsigned long to)
 {
-    uint32_t missing = block->picture->lanes[number].missing[from - block->picture->from];
     unsigned top = lane_top(block, number) + 2, height = floor_of(block, number) - box_height(block) - 2 - top;
-    printf("<rect x=\"%u\" y=\"%u\" width=\"%u\" height=\"%u\"><title>task %u", x_of(block, from), top,
-           (unsigned)(to - from) * block->slot, height, number);
-    if (missing > 0) {
-        printf(", due at %lu: late, and %lu missing", from, (unsigned long)missing);
-    }
-    printf("</title></rect>\n");
+    printf("<rect x=\"%u\" y=\"%u\" width=\"%u\" height=\"%u\">", x_of(block, from), top, (unsigned)(to - from) * block->slot,
+           height);
+    put_lack(block, number, from);
+    printf("</rect>\n");
 }
 
 static const struct layer layers[] = {
-    {"class=\"waits\" stroke=\"#555\" stroke-width=\"2\" stroke-dasharray=\"1 2\"", WAITS, WAITS, RELEASED, put_wait},
+    {"class=\"waits\" stroke=\"#555\" stroke-width=\"2\" stroke-dasharray=\"1 2\"", WAITS | MEANT, WAITS, RELEASED, put_wait},
+    {"class=\"waits meant\" stroke=\"#000\" stroke-width=\"3\" stroke-dasharray=\"6 3\"", WAITS | MEANT, WAITS | MEANT, RELEASED, put_wait},
     {"class=\"boxes\" fill=\"#c5d8ea\" stroke=\"#1c3f5e\"", HAS | MEANT, HAS, RELEASED, put_box},
     {"class=\"boxes meant\" fill=\"url(#meant)\" stroke=\"#000\" stroke-width=\"1.6\"", HAS | MEANT, HAS | MEANT, RELEASED, put_box},
-    {"class=\"missed\" fill=\"url(#missed)\" stroke=\"#c00\" stroke-width=\"1.4\"", MISSED, MISSED, CLOSED, put_missed},
+    {"class=\"missed\" fill=\"url(#missed)\" stroke=\"#c00\" stroke-width=\"1.4\"", MISSED | BLAMED, MISSED, CLOSED, put_missed},
+    {"class=\"missed meant\" fill=\"#c00\" stroke=\"#000\" stroke-width=\"1.4\"", MISSED | BLAMED, MISSED | BLAMED, CLOSED, put_missed},
 };
 
 /* An arrow up where a job is released, down where it is due. */
@@ -103,11 +112,16 @@ static void put_mark(const struct block *block, unsigned number, unsigned long i
     }
 }
 
+static unsigned long marks_end(const struct block *block)
+{
+    return block->end == block->picture->to ? block->end + 1 : block->end;
+}
+
 /* The marks of a lane that have these of the signs that are looked at, as one path. */
 static void put_marks(const struct block *block, unsigned number, const char *what, uint8_t looks, uint8_t signs)
 {
-    unsigned long last = block->end == block->picture->to ? block->end + 1 : block->end, marks = 0;
-    for (unsigned long instant = block->begin; instant < last; instant++) {
+    unsigned long marks = 0;
+    for (unsigned long instant = block->begin; instant < marks_end(block); instant++) {
         if ((signs_at(block, number, instant) & looks) == signs) {
             printf("%s", marks++ == 0 ? "<path d=\"" : "");
             put_mark(block, number, instant, signs & RELEASED ? RELEASED : DUE);
@@ -127,6 +141,29 @@ static void put_all_marks(const struct block *block, const char *group, const ch
     printf("</g>\n");
 }
 
+/* Each by itself, since each misses a number of its own. */
+static void put_closed(const struct block *block, unsigned number)
+{
+    for (unsigned long instant = block->begin; instant < marks_end(block); instant++) {
+        if (signs_at(block, number, instant) & CLOSED) {
+            printf("<path d=\"");
+            put_mark(block, number, instant, DUE);
+            printf("\">");
+            put_lack(block, number, instant);
+            printf("</path>\n");
+        }
+    }
+}
+
+static void put_all_closed(const struct block *block)
+{
+    printf("<g class=\"closed\" fill=\"#c00\" stroke=\"#c00\" stroke-width=\"2\">\n");
+    for (unsigned number = 0; number < block->picture->tasks; number++) {
+        put_closed(block, number);
+    }
+    printf("</g>\n");
+}
+
 static void put_layers(const struct block *block)
 {
     for (size_t at = 0; at < sizeof layers / sizeof layers[0]; at++) {
@@ -139,6 +176,5 @@ void put_lanes(const struct block *block)
     put_layers(block);
     put_all_marks(block, "class=\"released\" stroke=\"#000\"", "is released", RELEASED, RELEASED);
     put_all_marks(block, "class=\"due\" stroke=\"#000\"", "is due", DUE | CLOSED, DUE);
-    put_all_marks(block, "class=\"closed\" fill=\"#c00\" stroke=\"#c00\" stroke-width=\"2\"", "is due and late", DUE | CLOSED,
-                  DUE | CLOSED);
+    put_all_closed(block);
 }

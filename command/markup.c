@@ -48,7 +48,7 @@ static void put_letter(const uint8_t *bytes, unsigned length)
 }
 
 /* A zero byte ends the text and follows nothing, so that no letter reads beyond it. */
-void put_text(const char *text)
+static void put_all(const char *text, const char *line_feed)
 {
     const uint8_t *bytes = (const uint8_t *)text;
     while (*bytes != 0) {
@@ -57,8 +57,27 @@ void put_text(const char *text)
             put_letter(bytes, length);
             bytes += length;
         } else {
-            fputs(*bytes == '\n' ? "\n" : "?", stdout);
+            fputs(*bytes == '\n' ? line_feed : "?", stdout);
             bytes++;
         }
+    }
+}
+
+void put_text(const char *text)
+{
+    put_all(text, "?");
+}
+
+void put_lines(const char *text)
+{
+    put_all(text, "\n");
+}
+
+void put_verdict(const struct sentence *verdict)
+{
+    put_text(verdict->text);
+    if (verdict->more[0] != '\0') {
+        putchar(' ');
+        put_text(verdict->more);
     }
 }

@@ -84,19 +84,39 @@ static void put_table(const struct table *table, const struct report *report, co
     }
     printf("</tbody></table></div>\n<p>All numbers are slots. The budget is %llu.", (unsigned long long)budget_of(table));
     if (largest != NULL) {
-        printf(" No job of a task ends later than its worst response after its release. It may take so many slots more, all others\n"
-               "as they are; raise one cost, and ask again before the next.");
+        printf(" No job of a task ends later than its worst response after its release. A task may take so many slots more, all\n"
+               "others as they are; raise one cost, and ask again before the next.");
     }
     printf("</p></section>\n");
 }
 
-/* The answer, and what it means behind it. */
-static void put_words(const char *words)
+/* What an answer means stands behind an empty line. */
+static const char *meaning_of(const char *words)
 {
-    int first = (int)(strchr(words, '\n') - words);
-    printf("<p><b>%.*s</b> &#8212; ", first, words);
-    put_text(words + first + 2);
-    printf("</p>\n");
+    return strchr(words, '\n') + 2;
+}
+
+static void put_answer(const char *words)
+{
+    printf("<b>%.*s</b>", (int)(strchr(words, '\n') - words), words);
+}
+
+static void put_words(const char *words, const char *tail)
+{
+    printf("<p>");
+    put_answer(words);
+    printf(" &#8212; ");
+    put_lines(meaning_of(words));
+    printf("%s</p>\n", tail);
+}
+
+static void put_short(const struct table *table, const struct report *report, uint64_t distance)
+{
+    int told = !report_verdict(report, "undecided");
+    printf("<section><h2>In short</h2>\n");
+    put_words(quick_words(strstr(report->text, "\nquick pass\n") != NULL), "");
+    put_words(distance_words(table, distance), distance > 0 ? "" : told ? ": the verdict tells" : ": judge tells");
+    printf("</section>\n");
 }
 
 static const char proved_of_tasks[] =
@@ -106,8 +126,8 @@ static const char proved_of_tasks[] =
     "done only of the slot just before.</li>\n";
 
 static const char proved_of_buttons[] =
-    "<li>Proved by machine, for every table: the answer above is right, whenever the buttons are pressed. That some way to give out the\n"
-    "slots keeps every deadline is proved; no dispatcher for buttons is part of it.</li>\n"
+    "<li>Proved by machine, for every table: the answer above is right, whenever the buttons are pressed. Where it is pass, some way to\n"
+    "give out the slots keeps every deadline; no dispatcher for buttons is part of what is proved.</li>\n"
     "<li>Assumed of the camera: no job needs more slots than its cost, and no button is pressed twice within its spacing.</li>\n";
 
 static void put_assumed(const char *proved)
@@ -131,15 +151,13 @@ static void put_bytes(const struct table *table)
     printf("</pre></section>\n");
 }
 
-static void put_beginning(const char *name, const char *verdict)
+static void put_beginning(const char *name)
 {
     printf("<!DOCTYPE html>\n<html xmlns=\"http://www.w3.org/1999/xhtml\" lang=\"en\">\n<head>\n%s<title>", head);
     put_text(shown_name(name));
     printf("</title>\n</head>\n<body>\n<h1>");
     put_text(shown_name(name));
     printf("</h1>\n<p class=\"verdict\">");
-    put_text(verdict);
-    printf("</p>\n");
 }
 
 static void put_end(const struct table *table)
@@ -159,11 +177,11 @@ static void put_run(const struct picture *picture)
 static void put_report(const struct table *table, const struct report *report)
 {
     printf("<section><h2>The report</h2>\n<pre%s>", task_count(table) > LONG_REPORT ? " class=\"long\"" : "");
-    put_text(report->text);
+    put_lines(report->text);
     printf("</pre></section>\n");
     if (report_verdict(report, "late")) {
         printf("<section><p>The jobs of the interval, as judge lists them:</p>\n<pre>");
-        list_excess(table, report, 0);
+        list_excess(table, report, 0, ": judge --all lists them");
         printf("</pre></section>\n");
     }
 }
@@ -173,13 +191,25 @@ static int page_with_buttons(const char *name, const struct table *table)
 {
     uint64_t answer = ask_distance(table);
     const char *words = distance_words(table, answer);
-    put_beginning(name, strchr(words, '\n') + 2);
+    put_beginning(name);
+    put_lines(meaning_of(words));
+    printf("</p>\n");
     put_table(table, NULL, NULL);
-    printf("<section><h2>The answer</h2>\n");
-    put_words(words);
-    printf("<p>The table has a button, so there is no run to draw and no other answer.</p></section>\n");
+    printf("<section><h2>The answer</h2>\n<p>");
+    put_answer(words);
+    printf(": what it means stands above. The table has a button, so there is no run to draw and no other answer.</p></section>\n");
     put_end(table);
     return distance_status(answer);
+}
+
+/* The distance answer, and what is to come of an undecided verdict by it, if the quick answer does not say that already. */
+static uint64_t take_distance(const struct table *table, int status, struct sentence *verdict)
+{
+    uint64_t answer = ask_distance(table);
+    if (status == UNDECIDED && answer == 1 && verdict->more[0] == '\0') {
+        foretell(verdict, "distance pass");
+    }
+    return answer;
 }
 
 static int page_of_tasks(const char *name, const struct table *table)
@@ -195,15 +225,15 @@ static int page_of_tasks(const char *name, const struct table *table)
         ask_largest(table, 0, task_count(table), largest);
     }
     take_verdict(&picture, table, &report);
+    uint64_t distance = take_distance(table, status, &picture.verdict);
     trace_run(&picture, table, 0);
-    put_beginning(name, picture.verdict.text);
+    put_beginning(name);
+    put_verdict(&picture.verdict);
+    printf("</p>\n");
     put_table(table, &report, status == DONE ? largest : NULL);
     put_run(&picture);
     put_report(table, &report);
-    printf("<section><h2>In short</h2>\n");
-    put_words(quick_words(strstr(report.text, "\nquick pass\n") != NULL));
-    put_words(distance_words(table, ask_distance(table)));
-    printf("</section>\n");
+    put_short(table, &report, distance);
     put_end(table);
     return status;
 }

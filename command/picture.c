@@ -3,22 +3,47 @@
 
 enum { USUAL_WINDOW = 200, AROUND = 10 };
 
-/* The late interval with some slots around it; of a long one its end, where a job is late. Tells whether a run gets there. */
-static int window_of_excess(struct picture *picture)
+static unsigned long within_run(uint64_t instant)
 {
-    uint64_t start = picture->excess.start, end = picture->excess.end + AROUND;
-    if (!picture->is_late || end > MOST_SLOTS) {
-        return 0;
-    }
-    picture->from = (unsigned long)(start > AROUND ? start - AROUND : 0);
-    picture->to = (unsigned long)end;
+    return instant > MOST_SLOTS ? MOST_SLOTS : (unsigned long)instant;
+}
+
+/* Some slots before an instant. */
+static unsigned long shortly_before(uint64_t instant)
+{
+    return (unsigned long)(instant > AROUND ? instant - AROUND : 0);
+}
+
+/* The late interval with some slots around it; of a long one its end, where a job is late. */
+static void show_excess(struct picture *picture)
+{
+    picture->from = shortly_before(picture->excess.start);
+    picture->to = within_run(picture->excess.end + AROUND);
     if (picture->to - picture->from > USUAL_WINDOW) {
         picture->from = picture->to - USUAL_WINDOW;
     }
     if (picture->to - picture->from < LEAST_USUAL) {
-        picture->to = picture->from + LEAST_USUAL;
+        picture->to = within_run(picture->from + LEAST_USUAL);
+        picture->from = picture->to - LEAST_USUAL;
     }
-    return 1;
+}
+
+static uint64_t first_release(const struct table *table)
+{
+    uint64_t first = UINT64_MAX;
+    for (unsigned number = 0; number < task_count(table); number++) {
+        struct task task = task_at(table, number);
+        first = task.offset < first ? task.offset : first;
+    }
+    return first;
+}
+
+/* From shortly before the first release up to the horizon, within what is good to look at. */
+static void show_first(struct picture *picture, const struct table *table)
+{
+    uint64_t from = shortly_before(first_release(table)), slots = picture->horizon > from ? picture->horizon - from : 0;
+    picture->from = (unsigned long)from;
+    picture->to = (unsigned long)(from + (slots < LEAST_USUAL ? LEAST_USUAL : slots > USUAL_WINDOW ? USUAL_WINDOW : slots));
 }
 
 int take_window(struct picture *picture, const struct request *request)
@@ -34,7 +59,7 @@ int take_window(struct picture *picture, const struct request *request)
         return trouble("from %lu to %lu there are more slots than the 2000 that can be drawn", from, to);
     }
     picture->from = from;
-    picture->to = to > MOST_SLOTS ? MOST_SLOTS : to;
+    picture->to = within_run(to);
     return DONE;
 }
 
@@ -43,8 +68,13 @@ void take_verdict(struct picture *picture, const struct table *table, const stru
     picture->is_late = report_excess(report, &picture->excess);
     picture->horizon = report_number(report, "\nhorizon ");
     word_verdict(table, report, &picture->verdict);
-    if (picture->to == 0 && !window_of_excess(picture)) {
-        picture->to = usual_slots(table, USUAL_WINDOW);
+    if (picture->to > 0) {
+        return;
+    }
+    if (picture->is_late && picture->excess.end <= MOST_SLOTS) {
+        show_excess(picture);
+    } else {
+        show_first(picture, table);
     }
 }
 
@@ -56,15 +86,18 @@ static int is_meant(const struct picture *picture, const struct lane *lane)
 }
 
 /* What the instant shows: the job before it, if any, is due or closed, then one is released. A wait of 0 is a release. */
-static uint8_t look_at_instant(struct lane *lane, const struct course *course, unsigned number, uint64_t now)
+static uint8_t look_at_instant(const struct picture *picture, struct lane *lane, const struct course *course, unsigned number)
 {
+    uint64_t now = course->slots - 1;
     uint8_t signs = 0;
     if (lane->released && now == lane->release + lane->task.deadline) {
         signs |= DUE;
     }
     if (course->state.late >> number & 1) {
         signs |= CLOSED;
-        lane->missed_until = now + course->before.left[number];
+        lane->lack.due = (uint32_t)now;
+        lane->lack.missing = course->before.left[number];
+        lane->blamed = is_meant(picture, lane);
     }
     if (course->before.wait[number] == 0) {
         signs |= RELEASED;
@@ -85,33 +118,34 @@ static uint8_t look_at_slot(const struct picture *picture, const struct lane *la
     if (signs != 0 && is_meant(picture, lane)) {
         signs |= MEANT;
     }
-    return course->slots - 1 < lane->missed_until ? signs | MISSED : signs;
+    if (course->slots - 1 < (uint64_t)lane->lack.due + lane->lack.missing) {
+        signs |= lane->blamed ? MISSED | BLAMED : MISSED;
+    }
+    return signs;
 }
 
 static void look_at_lane(struct picture *picture, const struct course *course, unsigned number)
 {
     struct lane *lane = &picture->lanes[number];
     uint64_t now = course->slots - 1;
-    uint8_t signs = look_at_instant(lane, course, number, now);
+    uint8_t signs = look_at_instant(picture, lane, course, number);
     if (now < picture->from) {
         return;
     }
     unsigned long at = (unsigned long)now - picture->from;
-    if (signs & CLOSED) {
-        lane->missing[at] = course->before.left[number];
-    }
     if (now < picture->to) {
         signs |= look_at_slot(picture, lane, course, number);
     }
     lane->signs[at] = signs;
-    picture->any_meant |= signs & MEANT;
-    picture->any_late |= signs & (MISSED | CLOSED);
+    lane->lacks[at] = lane->lack;
+    picture->seen[signs] = 1;
 }
 
 static void trace_slot(struct picture *picture, struct course *course)
 {
     if (course->slots >= picture->from) {
         picture->idle[course->slots - picture->from] = (uint8_t)is_idle(course);
+        picture->any_idle |= is_idle(course);
     }
     take_slot(course);
     for (unsigned number = 0; number < picture->tasks; number++) {

@@ -14,24 +14,32 @@ enum sign {
     MISSED = 8,   /* its job was closed late, and this is counted as missing */
     RELEASED = 16,
     DUE = 32,
-    CLOSED = 64 /* closed late */
+    CLOSED = 64,  /* closed late */
+    BLAMED = 128  /* what is missing is missed by one of those that ask for too much */
+};
+
+/* Of a job closed late: when it was due, and how many slots were missing then. */
+struct lack {
+    uint32_t due, missing;
 };
 
 struct lane {
     struct task task;
     uint8_t signs[MOST_WINDOW + 1];
-    uint32_t missing[MOST_WINDOW + 1]; /* of a job closed late at this instant */
+    struct lack lacks[MOST_WINDOW + 1]; /* where it is closed or missed */
     /* While the run goes by. */
-    int released;
-    uint64_t release, missed_until;
+    int released, blamed;
+    uint64_t release;
+    struct lack lack;
 };
 
 struct picture {
     const char *name; /* of the table; NULL: the drawing stands where that is said */
     unsigned tasks;
     unsigned long from, to; /* to 0: not chosen yet */
-    int early, is_late;      /* is_late: there is an excess */
-    int any_meant, any_late; /* in the window */
+    int early, is_late; /* is_late: there is an excess */
+    int any_idle;       /* in the window, as are these signs, each together with others as it stands there */
+    uint8_t seen[256];
     struct excess excess;
     uint64_t horizon;
     struct sentence verdict;
@@ -44,10 +52,12 @@ int take_window(struct picture *picture, const struct request *request);
 void take_verdict(struct picture *picture, const struct table *table, const struct report *report);
 void trace_run(struct picture *picture, const struct table *table, int early);
 
-/* The drawing as an element of SVG. */
+/* The drawing as an element of SVG, and the verdict as a text of it or of a page. */
 void put_drawing(const struct picture *picture);
+void put_verdict(const struct sentence *verdict);
 
-/* A text of anybody's as a text of XML: what cannot be shown is a question mark. */
+/* A text of anybody's as a text of XML: what cannot be shown is a question mark. Of lines, the line feeds stay. */
 void put_text(const char *text);
+void put_lines(const char *text);
 
 #endif

@@ -70,16 +70,29 @@ static void word_overload(const struct report *report, struct sentence *sentence
     }
 }
 
+void foretell(struct sentence *sentence, const char *answer)
+{
+    snprintf(sentence->more, sizeof sentence->more, "and will give passes, as %s says", answer);
+}
+
+static void word_undecided(const struct table *table, const struct report *report, struct sentence *sentence)
+{
+    snprintf(sentence->text, sizeof sentence->text,
+             "undecided: the budget, %llu, ended before the answer was known; the horizon, %llu, is always enough",
+             (unsigned long long)budget_of(table), (unsigned long long)report_number(report, "\nhorizon "));
+    if (strstr(report->text, "\nquick pass\n") != NULL) {
+        foretell(sentence, "quick pass");
+    }
+}
+
 /* It begins with the verdict. */
 void word_verdict(const struct table *table, const struct report *report, struct sentence *sentence)
 {
-    sentence->text[0] = '\0';
+    sentence->text[0] = sentence->more[0] = '\0';
     if (report_passes(report)) {
         snprintf(sentence->text, sizeof sentence->text, "passes: every job meets its deadline for ever");
     } else if (report_verdict(report, "undecided")) {
-        snprintf(sentence->text, sizeof sentence->text,
-                 "undecided: the budget, %llu, ended before the answer was known; the horizon, %llu, is always enough",
-                 (unsigned long long)budget_of(table), (unsigned long long)report_number(report, "\nhorizon "));
+        word_undecided(table, report, sentence);
     } else if (report_verdict(report, "overload")) {
         word_overload(report, sentence);
     } else {

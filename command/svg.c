@@ -3,69 +3,164 @@
 
 #include "block.h"
 
-enum { HEADING = 48, CAPTION = 24, LEGEND = 26, ROW = 20, NAME_SHOWN = 80 };
+enum { HEADING = 48, CAPTION = 24, LEGEND = 14, BELOW = 12, ROW = 20, EDGE = 12 };
+
+/* Of the legend: from a sign to its words, as much for each letter, or in a wide font at most, and up to the next sign. */
+enum { SIGN = 34, LETTER = 7, WIDE_LETTER = 8, APART = 20 };
+
+/* Letters of the name are counted as wide as the widest of their kind, so that what is shown of it never runs off the sheet. */
+enum { NAME_ROOM = 940, USUAL_LETTER = 12, WIDER_LETTER = 14, WIDEST_LETTER = 18 };
 
 /* Where the caption of the drawing begins: below the name and the verdict, if they stand there. */
 static unsigned heading_height(const struct picture *picture)
 {
-    return picture->name == NULL ? 0 : HEADING;
+    return picture->name == NULL ? 0 : picture->verdict.more[0] == '\0' ? HEADING : HEADING + ROW;
 }
 
-/* A sign of the legend, then its words. */
-static void put_key(unsigned x, unsigned y, const char *sign, const char *words)
+static int has_idle(const struct picture *picture)
 {
-    printf("<g transform=\"translate(%u %u)\">%s<text x=\"34\" y=\"0\">%s</text></g>\n", x, y, sign, words);
+    return picture->any_idle;
 }
 
-static void put_legend(const struct picture *picture, unsigned y)
+static int has_horizon(const struct picture *picture)
 {
-    printf("<g class=\"legend\">\n");
-    put_key(12, y, "<rect x=\"0\" y=\"-11\" width=\"26\" height=\"13\" fill=\"#c5d8ea\" stroke=\"#1c3f5e\"/>", "has these slots");
-    put_key(210, y, "<path d=\"M0 -4H26\" stroke=\"#555\" stroke-width=\"2\" stroke-dasharray=\"1 2\"/>", "waits");
-    put_key(330, y, "<path d=\"M13 2V-8m0 -4l-3 5h6z\" stroke=\"#000\"/>", "is released");
-    put_key(480, y, "<path d=\"M13 -12V-2m0 4l-3 -5h6z\" stroke=\"#000\"/>", "is due");
-    put_key(610, y, "<circle cx=\"13\" cy=\"-4\" r=\"2.5\" fill=\"#fff\" stroke=\"#000\"/>", "idle: all earlier jobs are over");
-    if (picture->any_meant) {
-        put_key(12, y + ROW,
-                "<rect x=\"0\" y=\"-11\" width=\"26\" height=\"13\" fill=\"url(#meant)\" stroke=\"#000\" stroke-width=\"1.6\"/>",
-                "has these slots, and is one of the jobs of the shaded interval");
+    return picture->horizon >= picture->from && picture->horizon <= picture->to;
+}
+
+static int has_excess(const struct picture *picture)
+{
+    return picture->is_late && picture->excess.start < picture->to && picture->excess.end > picture->from;
+}
+
+/* A sign of the legend and its words, which stand there when this says so or, without it, when a lane has these of the signs. */
+struct key {
+    uint8_t looks, signs;
+    int (*when)(const struct picture *picture);
+    const char *sign, *words;
+};
+
+static const struct key keys[] = {
+    {HAS | MEANT, HAS, NULL, "<rect x=\"0\" y=\"-11\" width=\"26\" height=\"13\" fill=\"#c5d8ea\" stroke=\"#1c3f5e\"/>",
+     "has these slots"},
+    {WAITS | MEANT, WAITS, NULL, "<path d=\"M0 -4H26\" stroke=\"#555\" stroke-width=\"2\" stroke-dasharray=\"1 2\"/>", "waits"},
+    {RELEASED, RELEASED, NULL, "<path d=\"M13 2V-8m0 -4l-3 5h6z\" stroke=\"#000\"/>", "is released"},
+    {DUE | CLOSED, DUE, NULL, "<path d=\"M13 -12V-2m0 4l-3 -5h6z\" stroke=\"#000\"/>", "is due"},
+    {CLOSED, CLOSED, NULL,
+     "<path d=\"M13 -12V-2m0 4l-3 -5h6z\" fill=\"#c00\" stroke=\"#c00\" stroke-width=\"2\"/>",
+     "is due, and closed late"},
+    {MISSED | BLAMED, MISSED, NULL,
+     "<rect x=\"0\" y=\"-9\" width=\"26\" height=\"9\" fill=\"url(#missed)\" stroke=\"#c00\" stroke-width=\"1.4\"/>",
+     "late: so many slots are missing"},
+    {HAS | MEANT, HAS | MEANT, NULL,
+     "<rect x=\"0\" y=\"-11\" width=\"26\" height=\"13\" fill=\"url(#meant)\" stroke=\"#000\" stroke-width=\"1.6\"/>",
+     "of the late interval: has these slots"},
+    {WAITS | MEANT, WAITS | MEANT, NULL, "<path d=\"M0 -4H26\" stroke=\"#000\" stroke-width=\"3\" stroke-dasharray=\"6 3\"/>",
+     "of the late interval: waits"},
+    {MISSED | BLAMED, MISSED | BLAMED, NULL,
+     "<rect x=\"0\" y=\"-9\" width=\"26\" height=\"9\" fill=\"#c00\" stroke=\"#000\" stroke-width=\"1.4\"/>",
+     "of the late interval: so many slots are missing"},
+    {0, 0, has_excess,
+     "<path d=\"M0 -12h26v15h-26z\" fill=\"#e4e4e4\"/><path d=\"M0 -12v15m26 0v-15\" stroke=\"#000\" stroke-dasharray=\"6 3\"/>",
+     "the late interval"},
+    {0, 0, has_horizon, "<path d=\"M13 -12V3\" stroke=\"#000\" stroke-width=\"2\" stroke-dasharray=\"2 4\"/>", "the horizon"},
+    {0, 0, has_idle, "<circle cx=\"13\" cy=\"-4\" r=\"2.5\" fill=\"#fff\" stroke=\"#000\"/>", IDLE},
+};
+
+static int is_seen(const struct picture *picture, const struct key *key)
+{
+    unsigned signs = 0;
+    while (signs < sizeof picture->seen && !(picture->seen[signs] && (signs & key->looks) == key->signs)) {
+        signs++;
     }
-    if (picture->any_late) {
-        put_key(610, y + ROW,
-                "<rect x=\"0\" y=\"-9\" width=\"26\" height=\"9\" fill=\"url(#missed)\" stroke=\"#c00\" stroke-width=\"1.4\"/>",
-                "late: so many slots are missing");
+    return key->when != NULL ? key->when(picture) : signs < sizeof picture->seen;
+}
+
+static void put_key(unsigned x, unsigned y, const struct key *key)
+{
+    printf("<g transform=\"translate(%u %u)\">%s<text x=\"%u\" y=\"0\">%s</text></g>\n", x, y, key->sign, (unsigned)SIGN, key->words);
+}
+
+/* Tells where its last row stands; the first stands at y. */
+static unsigned lay_legend(const struct picture *picture, unsigned y, void (*put)(unsigned x, unsigned y, const struct key *key))
+{
+    unsigned x = EDGE;
+    for (size_t at = 0; at < sizeof keys / sizeof keys[0]; at++) {
+        unsigned letters = (unsigned)strlen(keys[at].words);
+        if (!is_seen(picture, &keys[at])) {
+            continue;
+        }
+        if (x + SIGN + WIDE_LETTER * letters > WIDE) {
+            x = EDGE;
+            y += ROW;
+        }
+        put(x, y, &keys[at]);
+        x += SIGN + LETTER * letters + APART;
     }
-    printf("</g>\n");
+    return y;
+}
+
+static void put_no_key(unsigned x, unsigned y, const struct key *key)
+{
+    (void)x, (void)y, (void)key;
+}
+
+static unsigned letter_width(char letter)
+{
+    return strchr("MW@%mw", letter) != NULL                                    ? WIDEST_LETTER
+           : strchr("abcdefghijklnopqrstuvxyz0123456789 ./_-", letter) != NULL ? USUAL_LETTER
+                                                                               : WIDER_LETTER;
 }
 
 /* Of a long name the end, from a whole letter on. */
-static const char *end_of_name(const char *name, int *cut)
+static const char *end_of_name(const char *name)
 {
-    size_t length = strlen(name);
-    const char *shown = length > NAME_SHOWN ? name + length - NAME_SHOWN : name;
-    *cut = shown > name;
-    while (*cut && ((uint8_t)*shown & 0xC0) == 0x80) {
+    const char *shown = name + strlen(name);
+    unsigned wide = 0;
+    while (shown > name && wide + letter_width(shown[-1]) <= NAME_ROOM) {
+        shown--;
+        wide += letter_width(*shown);
+    }
+    return shown;
+}
+
+static const char *whole_letter(const char *shown)
+{
+    while (((uint8_t)*shown & 0xC0) == 0x80) {
         shown++;
     }
     return shown;
 }
 
+static void put_name(const char *name)
+{
+    const char *shown = end_of_name(name);
+    printf("<text class=\"name\" x=\"%u\" y=\"22\" font-size=\"16\" font-weight=\"bold\">%s", (unsigned)EDGE, shown > name ? "..." : "");
+    put_text(shown > name ? whole_letter(shown) : name);
+    printf("</text>\n");
+}
+
+static void put_line(unsigned y, const char *text)
+{
+    printf("<text x=\"%u\" y=\"%u\">", (unsigned)EDGE, y);
+    put_text(text);
+    printf("</text>\n");
+}
+
 static void put_heading(const struct picture *picture)
 {
-    int cut;
-    if (picture->name != NULL) {
-        const char *shown = end_of_name(picture->name, &cut);
-        printf("<text x=\"12\" y=\"22\" font-size=\"16\" font-weight=\"bold\">%s", cut ? "..." : "");
-        put_text(shown);
-        printf("</text>\n<text x=\"12\" y=\"43\">");
-        put_text(picture->verdict.text);
-        printf("</text>\n");
+    if (picture->name == NULL) {
+        return;
+    }
+    put_name(picture->name);
+    put_line(43, picture->verdict.text);
+    if (picture->verdict.more[0] != '\0') {
+        put_line(43 + ROW, picture->verdict.more);
     }
 }
 
 static void put_caption(const struct picture *picture)
 {
-    printf("<text x=\"12\" y=\"%u\">", heading_height(picture) + 15);
+    printf("<text x=\"%u\" y=\"%u\">", (unsigned)EDGE, heading_height(picture) + 15);
     put_slots(picture->from, picture->to);
     printf("%s; horizon %llu", picture->early ? ", every job done after half its cost" : "", (unsigned long long)picture->horizon);
     if (picture->is_late && (picture->excess.start < picture->from || picture->excess.end > picture->to)) {
@@ -80,7 +175,7 @@ static unsigned height_of(struct block block)
     while (block.end < block.picture->to) {
         block = block_after(&block);
     }
-    return block.top + block_height(&block) + LEGEND + (block.picture->any_meant || block.picture->any_late ? ROW : 0);
+    return lay_legend(block.picture, block.top + block_height(&block) + LEGEND, put_no_key) + BELOW;
 }
 
 /* Each hatching is of its own kind, so that they differ in grey too. */
@@ -99,7 +194,9 @@ static void put_blocks(struct block block)
         block = block_after(&block);
         put_block(&block);
     }
-    put_legend(block.picture, block.top + block_height(&block) + 14);
+    printf("<g class=\"legend\">\n");
+    lay_legend(block.picture, block.top + block_height(&block) + LEGEND, put_key);
+    printf("</g>\n");
 }
 
 void put_drawing(const struct picture *picture)
@@ -111,7 +208,7 @@ void put_drawing(const struct picture *picture)
            (unsigned)WIDE, height, (unsigned)WIDE, height);
     put_text(picture->name == NULL ? "the run" : picture->name);
     printf("</title>\n<desc>");
-    put_text(picture->verdict.text);
+    put_verdict(&picture->verdict);
     printf("</desc>\n");
     put_patterns();
     printf("<rect width=\"%u\" height=\"%u\" fill=\"#fff\"/>\n<g transform=\"translate(.5 .5)\">\n", (unsigned)WIDE, height);

@@ -128,6 +128,7 @@ fn what_is_shipped(bench: &mut Bench, rng: &mut Rng) {
     pictures::of_tables(bench);
     pictures::in_docs(bench);
     pictures::at_random(bench, rng);
+    pictures::at_the_edges(bench);
     pictures::of_anybody(bench);
 }
 

@@ -11,6 +11,7 @@ use crate::program;
 use crate::reference::{self, Late, State, Task, Verdict, NONE};
 use std::collections::BTreeSet;
 use std::ffi::OsStr;
+use std::ops::Range;
 use std::os::unix::ffi::OsStrExt;
 use std::path::Path;
 use std::process::{Command, Output};
@@ -28,12 +29,17 @@ const MOST_SLOTS: u64 = 1_000_000;
 /// Slots of a task, and instants of one.
 type Places = BTreeSet<(usize, u64)>;
 
-/// A window of a run: who has and misses each slot, what is released, due and closed late at each instant, which are idle.
+/// A window of a run: who has each slot, waits and misses it, and which of these are jobs of the late interval; what is released, due and
+/// closed late at each instant; of each late job, by its task and deadline, how many slots are missing; which instants are idle.
 #[derive(Default, PartialEq, Debug)]
 struct Shown {
     has: Places,
     meant: Places,
+    waits: Places,
+    waits_meant: Places,
     missed: Places,
+    missed_meant: Places,
+    lacks: BTreeSet<(usize, u64, u64)>,
     released: Places,
     due: Places,
     closed: Places,
@@ -56,17 +62,22 @@ fn falls_on(task: &Task, first: u32, now: u64) -> bool {
     now >= u64::from(first) && (now - u64::from(first)) % u64::from(task.period) == 0
 }
 
-fn is_meant(task: &Task, late: &Option<Late>, now: u64) -> bool {
-    let release = release_of(task, now);
+/// Whether the job released then is one of the late interval.
+fn is_meant(task: &Task, late: &Option<Late>, release: u64) -> bool {
     late.map_or(false, |late| release >= late.start && release + u64::from(task.deadline) <= late.end)
 }
 
 impl Shown {
-    fn note_slot(&mut self, tasks: &[Task], late: &Option<Late>, now: u64, owner: usize) {
-        if owner < tasks.len() {
-            self.has.insert((owner, now));
-            if is_meant(&tasks[owner], late, now) {
-                self.meant.insert((owner, now));
+    fn note_slot(&mut self, tasks: &[Task], late: &Option<Late>, now: u64, after: &State) {
+        for (number, task) in tasks.iter().enumerate() {
+            let has = after.last as usize == number;
+            if !has && after.left[number] == 0 {
+                continue;
+            }
+            let (all, meant) = if has { (&mut self.has, &mut self.meant) } else { (&mut self.waits, &mut self.waits_meant) };
+            all.insert((number, now));
+            if is_meant(task, late, release_of(task, now)) {
+                meant.insert((number, now));
             }
         }
     }
@@ -83,8 +94,14 @@ impl Shown {
         }
     }
 
-    fn note_missed(&mut self, number: usize, now: u64, missing: u64, window: &Window) {
+    fn note_missed(&mut self, number: usize, now: u64, missing: u64, meant: bool, window: &Window) {
         let slots = now.max(window.from)..(now + missing).min(window.to);
+        if now >= window.from || !slots.is_empty() {
+            self.lacks.insert((number, now, missing));
+        }
+        if meant {
+            self.missed_meant.extend(slots.clone().map(|slot| (number, slot)));
+        }
         self.missed.extend(slots.map(|slot| (number, slot)));
     }
 
@@ -92,17 +109,19 @@ impl Shown {
         for (number, task) in tasks.iter().enumerate() {
             let closed = after.late >> number & 1 == 1;
             if closed {
-                self.note_missed(number, now, u64::from(before.left[number]), window);
+                let meant = is_meant(task, late, now - u64::from(task.deadline));
+                self.note_missed(number, now, u64::from(before.left[number]), meant, window);
             }
             if now >= window.from {
                 self.note_instant(number, task, now, closed);
             }
         }
         if now >= window.from && now < window.to {
-            self.note_slot(tasks, late, now, after.last as usize);
+            self.note_slot(tasks, late, now, after);
         }
     }
 
+    /// An instant is idle if by then no earlier job is open: each is finished, or was closed late before.
     fn by_reference(tasks: &[Task], late: &Option<Late>, window: &Window) -> Shown {
         let mut shown = Shown::default();
         let (mut state, mut done) = (reference::start(tasks), false);
@@ -164,25 +183,74 @@ fn rulers_fit(drawing: &Element, axes: &[Axis]) -> bool {
     drawing.of_class("ruler").iter().zip(axes).all(fits)
 }
 
+fn title_of(element: &Element) -> Option<String> {
+    Some(element.elements().find(|child| child.name == "title")?.text())
+}
+
 /// The number behind the word task in an element's title.
 fn task_of(element: &Element) -> Option<usize> {
-    let title = element.elements().find(|child| child.name == "title")?.text();
-    title.strip_prefix("task ")?.split([' ', ':', ',']).next()?.parse().ok()
+    title_of(element)?.strip_prefix("task ")?.split([' ', ':', ',']).next()?.parse().ok()
 }
 
-/// The slots under a box; none may be drawn twice.
-fn add_box(places: &mut Places, axis: &Axis, shape: &Element) -> Option<()> {
-    let (task, x, wide) = (task_of(shape)?, shape.number("x")?, shape.number("width")?);
-    let (from, to) = (axis.instant(x)?, axis.instant(x + wide)?);
-    let fresh = from < to && (from..to).all(|slot| places.insert((task, slot)));
-    Some(()).filter(|()| fresh)
+/// What an element says of a late job: task, deadline, slots missing.
+fn lack_of(element: &Element) -> Option<(usize, u64, u64)> {
+    let title = title_of(element)?;
+    let (task, rest) = title.strip_prefix("task ")?.split_once(", due at ")?;
+    let (due, rest) = rest.split_once(": late, and ")?;
+    Some((task.parse().ok()?, due.parse().ok()?, rest.strip_suffix(" missing")?.parse().ok()?))
 }
 
-fn boxes(groups: &[&Element], axes: &[Axis]) -> Option<Places> {
+/// The slots that a box stands under, or a line goes through.
+fn span_of(axis: &Axis, shape: &Element) -> Option<Range<u64>> {
+    let (x, end) = if shape.name == "rect" {
+        (shape.number("x")?, shape.number("x")? + shape.number("width")?)
+    } else {
+        let (from, to) = shape.attribute("d").strip_prefix('M')?.split_once('H')?;
+        (from.split(' ').next()?.parse().ok()?, to.parse().ok()?)
+    };
+    Some(axis.instant(x)?..axis.instant(end)?).filter(|span| !span.is_empty())
+}
+
+/// None may be drawn twice.
+fn add_span(places: &mut Places, axis: &Axis, shape: &Element) -> Option<()> {
+    let (task, mut span) = (task_of(shape)?, span_of(axis, shape)?);
+    Some(()).filter(|()| span.all(|slot| places.insert((task, slot))))
+}
+
+/// The groups of a class, of jobs of the late interval or of others; each block has one.
+fn groups<'a>(drawing: &'a Element, class: &str, meant: bool) -> Vec<&'a Element> {
+    drawing.of_class(class).into_iter().filter(|group| group.has_class("meant") == meant).collect()
+}
+
+fn shapes<'a>(groups: &[&'a Element], axes: &'a [Axis]) -> Vec<(&'a Element, &'a Axis)> {
+    groups.iter().zip(axes).flat_map(|(group, axis)| group.elements().map(move |shape| (shape, axis))).collect()
+}
+
+fn spans(drawing: &Element, class: &str, meant: bool, axes: &[Axis]) -> Option<Places> {
     let mut places = Places::new();
-    let in_blocks = groups.iter().zip(axes).flat_map(|(group, axis)| group.elements().map(move |shape| (shape, axis)));
-    in_blocks.map(|(shape, axis)| add_box(&mut places, axis, shape)).collect::<Option<Vec<()>>>()?;
+    let shapes = shapes(&groups(drawing, class, meant), axes);
+    shapes.into_iter().map(|(shape, axis)| add_span(&mut places, axis, shape)).collect::<Option<Vec<()>>>()?;
     Some(places)
+}
+
+/// All slots, and those of the jobs of the late interval.
+fn with_meant(drawing: &Element, class: &str, axes: &[Axis]) -> Option<(Places, Places)> {
+    let (plain, meant) = (spans(drawing, class, false, axes)?, spans(drawing, class, true, axes)?);
+    Some((&plain | &meant, meant)).filter(|(_, meant)| plain.is_disjoint(meant))
+}
+
+/// Every red box and red arrow tells of a late job, and stands where that one misses its slots or is due.
+fn lacks(drawing: &Element, axes: &[Axis]) -> Option<BTreeSet<(usize, u64, u64)>> {
+    let red = [groups(drawing, "missed", false), groups(drawing, "missed", true)];
+    let of_box = |(shape, axis): (&Element, &Axis)| {
+        let (lack, span) = (lack_of(shape)?, span_of(axis, shape)?);
+        Some(lack).filter(|&(_, due, missing)| span.start >= due && span.end <= due + missing)
+    };
+    let of_arrow = |(shape, axis): (&Element, &Axis)| {
+        lack_of(shape).filter(|&(task, due, _)| marks_of(axis, shape) == Some(vec![(task, due)]))
+    };
+    let boxes = red.iter().flat_map(|groups| shapes(groups, axes)).map(of_box);
+    boxes.chain(shapes(&drawing.of_class("closed"), axes).into_iter().map(of_arrow)).collect()
 }
 
 /// The instants of a lane's marks, each of which begins with a line up or down.
@@ -207,15 +275,19 @@ fn rings(drawing: &Element, axes: &[Axis]) -> Option<BTreeSet<u64>> {
 
 impl Shown {
     fn in_drawing(drawing: &Element, axes: &[Axis]) -> Option<Shown> {
-        let (all, meant) = (drawing.of_class("boxes"), drawing.of_class("meant"));
-        let plain: Vec<&Element> = all.into_iter().filter(|group| !group.has_class("meant")).collect();
-        let (plain, meant) = (boxes(&plain, axes)?, boxes(&meant, axes)?);
+        let (has, meant) = with_meant(drawing, "boxes", axes)?;
+        let (waits, waits_meant) = with_meant(drawing, "waits", axes)?;
+        let (missed, missed_meant) = with_meant(drawing, "missed", axes)?;
         let (due, closed) = (marks(drawing, "due", axes)?, marks(drawing, "closed", axes)?);
-        let apart = plain.is_disjoint(&meant) && due.is_disjoint(&closed);
+        let apart = due.is_disjoint(&closed);
         let shown = Shown {
-            has: &plain | &meant,
+            has,
             meant,
-            missed: boxes(&drawing.of_class("missed"), axes)?,
+            waits,
+            waits_meant,
+            missed,
+            missed_meant,
+            lacks: lacks(drawing, axes)?,
             released: marks(drawing, "released", axes)?,
             due: &due | &closed,
             closed,
@@ -225,16 +297,17 @@ impl Shown {
     }
 }
 
-/// No box goes on over a release: it is of one job.
+/// No box and no line goes on over a release: it is of one job.
 fn jobs_apart(drawing: &Element, axes: &[Axis], released: &Places) -> bool {
     let apart = |group: &Element, axis: &Axis| {
         group.elements().all(|shape| {
             let mut one = Places::new();
-            add_box(&mut one, axis, shape).is_some() && one.iter().skip(1).all(|place| !released.contains(place))
+            add_span(&mut one, axis, shape).is_some() && one.iter().skip(1).all(|place| !released.contains(place))
         })
     };
-    let all = |class: bool| drawing.of_class("boxes").into_iter().filter(move |group| group.has_class("meant") == class);
-    [true, false].into_iter().all(|class| all(class).zip(axes).all(|(group, axis)| apart(group, axis)))
+    let all = ["boxes", "waits"].into_iter().flat_map(|class| [(class, true), (class, false)]);
+    all.map(|(class, meant)| groups(drawing, class, meant))
+        .all(|groups| groups.into_iter().zip(axes).all(|(group, axis)| apart(group, axis)))
 }
 
 // What holds of every drawing.
@@ -254,6 +327,87 @@ fn is_plain(drawing: &Element) -> bool {
         && drawing.attribute("font-family") == "sans-serif"
         && all.iter().all(|element| ALLOWED.contains(&element.name.as_str()))
         && all.iter().flat_map(|element| &element.attributes).all(|(name, value)| quiet(name) && own(value))
+}
+
+/// How a text is set, by what stands around it.
+#[derive(Clone)]
+struct Style {
+    anchor: String,
+    size: f64,
+    bold: bool,
+    shift: f64,
+}
+
+/// How wide a bold letter is, in parts of its size: at least as in the wider of the usual fonts.
+fn letter_width(letter: char) -> f64 {
+    match letter {
+        'M' | 'W' | '@' | '%' | 'm' | 'w' => 1.11,
+        'f' | 'i' | 'j' | 'l' | 'r' | 't' | ' ' | '.' | ',' | ':' | ';' | '/' | '-' => 0.5,
+        '0'..='9' => 0.7,
+        'a'..='z' => 0.72,
+        ' '..='~' => 0.87,
+        _ => 1.3,
+    }
+}
+
+impl Style {
+    fn within(&self, element: &Element) -> Style {
+        let told = |name: &str| Some(element.attribute(name)).filter(|value| !value.is_empty());
+        let shift =
+            told("transform").and_then(|told| told.strip_prefix("translate(")?.split(' ').next()?.parse::<f64>().ok());
+        Style {
+            anchor: told("text-anchor").unwrap_or(&self.anchor).to_string(),
+            size: told("font-size").and_then(|size| size.parse().ok()).unwrap_or(self.size),
+            bold: told("font-weight").map_or(self.bold, |weight| weight == "bold"),
+            shift: self.shift + shift.unwrap_or(0.0),
+        }
+    }
+
+    fn edges(&self, element: &Element) -> (f64, f64) {
+        let letters: f64 = element.text().chars().map(letter_width).sum();
+        let wide = letters * self.size * if self.bold { 1.0 } else { 0.9 };
+        let x = self.shift + element.attribute("x").parse::<f64>().unwrap_or(0.0);
+        let left =
+            x - wide * ["start", "middle", "end"].iter().position(|anchor| *anchor == self.anchor).unwrap_or(0) as f64 / 2.0;
+        (left, left + wide)
+    }
+}
+
+/// No text runs off the sheet.
+fn texts_fit(element: &Element, style: &Style, wide: f64) -> bool {
+    let style = style.within(element);
+    let (left, right) = style.edges(element);
+    if element.name == "text" {
+        return left >= 0.0 && right <= wide;
+    }
+    element.elements().all(|child| texts_fit(child, &style, wide))
+}
+
+fn all_texts_fit(drawing: &Element) -> bool {
+    let style = Style { anchor: "start".to_string(), size: 0.0, bold: false, shift: 0.0 };
+    texts_fit(drawing, &style, drawing.number("width").unwrap_or(0) as f64)
+}
+
+/// The legend tells of what is drawn, and of nothing else.
+fn legend_fits(drawing: &Element, shown: &Shown, late: &Option<Late>, horizon: bool, window: &Window) -> bool {
+    let shaded = late.map_or(false, |late| late.start < window.to && late.end > window.from);
+    let keys = [
+        (shown.has != shown.meant, "has these slots"),
+        (shown.waits != shown.waits_meant, "waits"),
+        (!shown.released.is_empty(), "is released"),
+        (shown.due != shown.closed, "is due"),
+        (!shown.closed.is_empty(), "is due, and closed late"),
+        (shown.missed != shown.missed_meant, "late: so many slots are missing"),
+        (!shown.meant.is_empty(), "of the late interval: has these slots"),
+        (!shown.waits_meant.is_empty(), "of the late interval: waits"),
+        (!shown.missed_meant.is_empty(), "of the late interval: so many slots are missing"),
+        (shaded, "the late interval"),
+        (horizon, "the horizon"),
+        (!shown.idle.is_empty(), "idle: every earlier job is finished, or was closed late before"),
+    ];
+    let told: Vec<String> =
+        drawing.of_class("legend").iter().flat_map(|legend| legend.named("text")).map(Element::text).collect();
+    told.iter().eq(keys.iter().filter(|(seen, _)| *seen).map(|(_, words)| words))
 }
 
 /// No box, number or ring beyond the edges.
@@ -294,11 +448,15 @@ fn shades_fit(drawing: &Element, axes: &[Axis], late: &Option<Late>) -> bool {
     axes.iter().filter_map(|axis| part(axis).map(|part| (axis, part))).all(fits) && shades.next().is_none()
 }
 
+fn horizon_within(tasks: &[Task], window: &Window) -> bool {
+    let horizon = reference::horizon(tasks, reference::round(tasks).unwrap());
+    horizon >= window.from && horizon <= window.to
+}
+
 fn horizon_fits(drawing: &Element, tasks: &[Task], window: &Window) -> bool {
     let horizon = reference::horizon(tasks, reference::round(tasks).unwrap());
     let told: Vec<String> = drawing.of_class("horizon").iter().map(|group| group.text()).collect();
-    let within = horizon >= window.from && horizon <= window.to;
-    told == if within { vec![format!("horizon {horizon}")] } else { Vec::new() }
+    told == if horizon_within(tasks, window) { vec![format!("horizon {horizon}")] } else { Vec::new() }
 }
 
 /// The slots that a job closed late misses, as they are drawn from its deadline on.
@@ -342,17 +500,21 @@ fn drawing_fits(drawing: &Element, tasks: &[Task], budget: u64, window: &Window)
         && horizon_fits(drawing, tasks, window)
         && jobs_apart(drawing, &axes, &expected.released)
         && sum_fits(&expected, tasks, &late, window)
+        && legend_fits(drawing, &expected, &late, horizon_within(tasks, window), window)
+        && all_texts_fit(drawing)
+        && expected.closed.iter().all(|(_, now)| !expected.idle.contains(now))
         && Shown::in_drawing(drawing, &axes).map_or(false, |shown| shown == expected)
 }
 
 /// The window that the command chooses.
 fn usual_window(tasks: &[Task], budget: u64) -> Window {
     let horizon = reference::horizon(tasks, reference::round(tasks).unwrap());
-    let first = (0, horizon.clamp(LEAST, USUAL));
-    let late = late_of(tasks, budget).filter(|late| late.end + AROUND <= MOST_SLOTS);
+    let release = tasks.iter().map(|task| u64::from(task.offset)).min().unwrap_or(0).saturating_sub(AROUND);
+    let first = (release, horizon.clamp(release + LEAST, release + USUAL));
+    let late = late_of(tasks, budget).filter(|late| late.end <= MOST_SLOTS);
     let (from, to) = late.map_or(first, |late| {
-        let to = late.end + AROUND;
-        let from = late.start.saturating_sub(AROUND).max(to.saturating_sub(USUAL));
+        let to = (late.end + AROUND).min(MOST_SLOTS);
+        let from = late.start.saturating_sub(AROUND).max(to.saturating_sub(USUAL)).min(MOST_SLOTS - LEAST);
         (from, to.max(from + LEAST))
     });
     Window { from, to, early: false }
@@ -388,12 +550,35 @@ fn is_refused(output: &Output) -> bool {
     output.status.code() == Some(2) && output.stdout.is_empty() && output.stderr.starts_with(b"refused ")
 }
 
+/// What an undecided verdict will be, if an answer says so: a drawing goes by the quick one, a page by that of the distances too.
+fn foretold(tasks: &[Task], verdict: &Verdict, page: bool) -> Option<&'static str> {
+    match verdict {
+        Verdict::Undecided if reference::quick(tasks) => Some("and will give passes, as quick pass says"),
+        Verdict::Undecided if page && reference::by_distance(tasks) == 1 => {
+            Some("and will give passes, as distance pass says")
+        }
+        _ => None,
+    }
+}
+
+fn tells(text: &str, foretold: Option<&str>) -> bool {
+    foretold.map_or(!text.contains("will give passes"), |words| text.ends_with(&format!(" {words}")))
+}
+
+/// The verdict is told to those who see the drawing and to those who do not.
+fn heading_fits(drawing: &Element, foretold: Option<&str>) -> bool {
+    let lines = drawing.named("text").iter().filter(|line| Some(line.text().as_str()) == foretold).count();
+    tells(&drawing.named("desc")[0].text(), foretold) && lines == usize::from(foretold.is_some())
+}
+
 fn is_drawn(output: &Output, tasks: &[Task], budget: u64) -> bool {
-    let status = status_of(&reference::decide(tasks, budget).verdict);
+    let verdict = reference::decide(tasks, budget).verdict;
+    let (status, foretold) = (status_of(&verdict), foretold(tasks, &verdict, false));
     let drawing = markup::read(&output.stdout, XML);
-    output.status.code() == Some(status)
-        && output.stderr.is_empty()
-        && drawing.map_or(false, |drawing| drawing_fits(&drawing, tasks, budget, &usual_window(tasks, budget)))
+    let fits = |drawing: Element| {
+        drawing_fits(&drawing, tasks, budget, &usual_window(tasks, budget)) && heading_fits(&drawing, foretold)
+    };
+    output.status.code() == Some(status) && output.stderr.is_empty() && drawing.map_or(false, fits)
 }
 
 fn hex_of(page: &Element) -> Vec<u8> {
@@ -457,6 +642,7 @@ fn page_fits(page: &Element, tasks: &[Task], budget: u64) -> bool {
         && page.named("pre")[0].text() == reference::report(tasks, budget)
         && rows_fit(page, tasks, budget, &worst)
         && bars_fit(page, tasks, &worst)
+        && tells(&page.of_class("verdict")[0].text(), foretold(tasks, &verdict, true))
         && text.contains(quick)
         && text.contains(&format!("distance {}", ["none", "pass", "overload"][reference::by_distance(tasks) as usize]))
         && runs.len() == 1
@@ -467,7 +653,8 @@ fn page_fits(page: &Element, tasks: &[Task], budget: u64) -> bool {
 fn button_page_fits(page: &Element, tasks: &[Task], budget: u64) -> bool {
     let answer = ["distance none", "distance pass", "distance overload"][reference::by_distance(tasks) as usize];
     let told = page.text().contains(answer) && page.named("svg").is_empty();
-    told && is_a_page(page, budget, tasks) && rows_fit(page, tasks, budget, &[])
+    let proved = page.text().contains("Where it is pass, some way to\ngive out the slots keeps every deadline");
+    told && proved && is_a_page(page, budget, tasks) && rows_fit(page, tasks, budget, &[])
 }
 
 fn is_paged(output: &Output, tasks: &[Task], budget: u64) -> bool {
@@ -523,10 +710,13 @@ pub fn in_docs(bench: &mut Bench) {
 
 // Windows of random tables.
 
-fn window_words(rng: &mut Rng) -> (Window, Vec<String>) {
+fn any_window(rng: &mut Rng) -> (Window, Vec<String>) {
     let from = rng.pick(&[0_u64, 1, 9, 57, 300, 1_234]);
     let long = rng.pick(&[1_u64, 2, 7, 34, 77, 110, 111, 200, 205, 333, 1_500, 2_000]);
-    let early = rng.chance(30);
+    window_words(from, long, rng.chance(30))
+}
+
+fn window_words(from: u64, long: u64, early: bool) -> (Window, Vec<String>) {
     let mut words = vec!["draw".to_string(), "-".to_string(), "--to".to_string(), (from + long).to_string()];
     if from > 0 {
         words.extend(["--from".to_string(), from.to_string()]);
@@ -537,8 +727,7 @@ fn window_words(rng: &mut Rng) -> (Window, Vec<String>) {
     (Window { from, to: from + long, early }, words)
 }
 
-fn windowed(bench: &mut Bench, rng: &mut Rng, tasks: &[Task], budget: u64) {
-    let (window, words) = window_words(rng);
+fn windowed(bench: &mut Bench, (window, words): (Window, Vec<String>), tasks: &[Task], budget: u64) {
     let mut command = program(COMMAND);
     command.args(&words);
     let output = fed(command, &file_of(budget, tasks));
@@ -552,7 +741,7 @@ pub fn at_random(bench: &mut Bench, rng: &mut Rng) {
     for _ in 0..AT_RANDOM {
         let tasks = near_border(rng);
         let budget = budget_about(rng, &tasks);
-        windowed(bench, rng, &tasks, budget);
+        windowed(bench, any_window(rng), &tasks, budget);
         let text = plain::text_of(budget, &tasks);
         bench.count(is_drawn(&asked(&["draw", "-"], &text), &tasks, budget), || {
             format!("draw of {tasks:?} and budget {budget}")
@@ -562,6 +751,41 @@ pub fn at_random(bench: &mut Bench, rng: &mut Rng) {
         });
     }
     bench.end_group("pictures and pages at random");
+}
+
+// Windows of the command's own choice far out, windows that cut what is missed, and jobs that get no slot at all.
+
+/// Two tasks whose jobs of one slot come together first at this instant, and then only one of them is in time.
+fn meeting_at(instant: u32) -> Vec<Task> {
+    [997, 1_009].map(|period| reference::periodic(instant % period, 1, 1, period)).to_vec()
+}
+
+/// A job of 30 slots, with none to spare, and one of a slot that comes at the end of it first just before 999,995.
+const LONG: [Task; 2] = [reference::periodic(39_965, 30, 30, 60_000), reference::periodic(40_010, 1, 1, 59_999)];
+
+/// In every 60 slots one of two jobs misses 20 from 40 on.
+const MISSING: [Task; 2] = [reference::periodic(0, 30, 40, 60), reference::periodic(0, 30, 40, 60)];
+
+fn one_choice(bench: &mut Bench, tasks: &[Task], budget: u64) {
+    let text = plain::text_of(budget, tasks);
+    bench.count(is_drawn(&asked(&["draw", "-"], &text), tasks, budget), || format!("draw of {tasks:?} and budget {budget}"));
+    bench.count(is_paged(&asked(&["page", "-"], &text), tasks, budget), || format!("page of {tasks:?} and budget {budget}"));
+}
+
+pub fn at_the_edges(bench: &mut Bench) {
+    for instant in [503_485, 999_960, 999_989, 999_990, 999_999, 1_000_000] {
+        one_choice(bench, &meeting_at(instant), 3_000_000);
+    }
+    let crowd: Vec<Task> = (0..32).map(|number| reference::periodic(number % 3, 2, 40 + number % 5, 64)).collect();
+    one_choice(bench, &crowd, 1_000);
+    one_choice(bench, &LONG, 3_000_000);
+    for (from, long) in [(0, 40), (0, 41), (45, 5), (45, 15), (45, 30), (50, 200), (0, 330), (0, 1_999)] {
+        windowed(bench, window_words(from, long, false), &MISSING, 1_000);
+    }
+    for offset in [9, 10, 11, 250, 59_999] {
+        one_choice(bench, &[reference::periodic(offset, 2, 3, 4), reference::periodic(offset + 1, 1, 4, 4)], 200_000);
+    }
+    bench.end_group("pictures and pages: windows far out, and cut");
 }
 
 // Texts of anybody's.
@@ -574,10 +798,18 @@ const NAMES: &[(&[u8], &str)] = &[
     (b"\x01\x7f\xff\xc0\x80.txt", "?????.txt"),
     (b"\xed\xa0\x80\xef\xbf\xbe\xc2\x85\xf4\x90\x80\x80.txt", "????????????.txt"),
     (b"\xe2\x82", "??"),
+    (b"two\nlines.txt", "two?lines.txt"),
 ];
 
 /// A comment that must not come through either.
 const TEXT: &[u8] = b"# <script>alert(2)</script> & \" \xff\nbudget 1000\ntask 8 5 7 15 # ]]>\ntask 0 2 2 5\n";
+
+/// Above a drawing stands the name, or its end.
+fn name_fits(drawing: &Element, shown: &str) -> bool {
+    let told = drawing.of_class("name")[0].text();
+    let name = format!("target/host/{shown}");
+    told == name || told.strip_prefix("...").map_or(false, |end| name.ends_with(end) && told.chars().count() > 20)
+}
 
 fn shown_as(bench: &mut Bench, name: &[u8], shown: &str) {
     let folder = Path::new("target/host");
@@ -589,8 +821,9 @@ fn shown_as(bench: &mut Bench, name: &[u8], shown: &str) {
         let titled = |root: &Element| {
             root.named("title")[0].text() == format!("target/host/{shown}") && !root.text().contains("alert(2)")
         };
-        let good =
-            markup::read(&output.stdout, prologue).map_or(false, |root| titled(&root) && root.named("script").is_empty());
+        let fits = |root: &Element| word == "page" || (name_fits(root, shown) && all_texts_fit(root));
+        let good = markup::read(&output.stdout, prologue)
+            .map_or(false, |root| titled(&root) && fits(&root) && root.named("script").is_empty());
         bench.count(good && output.status.code() == Some(0), || {
             format!("{word} of a file named {shown} ends with {}", output.status)
         });
@@ -601,7 +834,8 @@ fn shown_as(bench: &mut Bench, name: &[u8], shown: &str) {
 
 pub fn of_anybody(bench: &mut Bench) {
     NAMES.iter().for_each(|(name, shown)| shown_as(bench, name, shown));
-    let long = "é".repeat(100);
-    shown_as(bench, long.as_bytes(), &long);
+    for long in ["é".repeat(100), "W".repeat(100), "@".repeat(240), "字".repeat(80), "n".repeat(240)] {
+        shown_as(bench, long.as_bytes(), &long);
+    }
     bench.end_group("pictures and pages: texts escaped");
 }
