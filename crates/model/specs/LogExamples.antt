@@ -4,7 +4,7 @@ use mathlib.Core.List.{List, [], _∷_, _++_, map}
 use mathlib.Core.Bool.{false}
 use Prim.Native.Nat.{ℕ, _-_, _*_, _+_, _^_}
 use lib.Dec.{eqb}
-use lib.ListN.{length, replicate}
+use lib.ListN.{replicate}
 use Rattle.model.specs.Notation.{sum, largest, count, first, fill}
 use Rattle.model.specs.Values.{Table, Admission, Finding, refusal, findingSaid}
 use Rattle.model.specs.Limits.{taskLimit, logLimit, countPlace}

@@ -1,13 +1,13 @@
 -- Whether a text has a line: its first line has it, or the lines behind it (`first-line-is`, `later-lines`).
-use mathlib.Core.Path.{_≡_, refl}
-use mathlib.Core.Bool.{Bool, true, false}
-use mathlib.Core.List.{List, [], _∷_}
+use mathlib.Core.Path.{_≡_}
+use mathlib.Core.Bool.{true, false}
+use mathlib.Core.List.{List}
 use Prim.Native.Nat.{ℕ, suc, _+_, _≤_, _<_}
 use native.Mathlib.Decide.{decLt}
 use native.Mathlib.Omega.{arith}
 use lib.ListN.{length, take, drop}
 use lib.Seq.{take-all}
-use Rattle.model.specs.PlainText.{isLineFeed, split, linesOf, same}
+use Rattle.model.specs.PlainText.{isLineFeed, linesOf, same}
 use Rattle.model.specs.ReportRead.{hasLine}
 use Rattle.pieces.specs.Marks.{lengthTo, length-to-le}
 use Rattle.pieces.specs.Pieces.{split-last, split-more}
