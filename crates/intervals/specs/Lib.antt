@@ -1,3 +1,2 @@
-pub mod Closed
 pub mod Light
 pub mod Starts

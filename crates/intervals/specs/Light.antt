@@ -1,7 +1,6 @@
 -- Where the load is at most 1, the jobs released in x slots ask for little more than x: no more than one job of each task.
-use mathlib.Core.Path.{_≡_, sym, _∙_}
 use Prim.Native.Nat.{ℕ, _+_, _-_, _*_, _/_, _≤_, _<_}
-use native.Mathlib.Nat.{le-refl, mul-comm, mul-mul-mul-comm, add-mul, mul-le-mul, mul-le-mul-left, le-of-mul-le-mul-left, div-mul-le-self, div-mul-cancel, lt-div-mul-add}
+use native.Mathlib.Nat.{mul-comm, add-mul, mul-le-mul-left, le-of-mul-le-mul-left, div-mul-le-self, lt-div-mul-add}
 use native.Mathlib.Decide.{decLt}
 use native.Mathlib.Omega.{arith}
 use Rattle.values.specs.declared.Task.{Task}
@@ -11,14 +10,8 @@ use Rattle.model.specs.Tasks.{task, release, round, load}
 use Rattle.counting.specs.Below.{below, below-most, below-next, grows-mono}
 use Rattle.counting.specs.Sum.{sum-le, sum-mul}
 use Rattle.wellformed.specs.Ranges.{InRange, Ranged}
-use Rattle.wellformed.specs.Round.{round-pos, period-divides, share}
-use Rattle.intervals.specs.Closed.{releases}
-
--- For H = q · p and b periods p within x slots.
-cross : (c b q p x : ℕ) → b * p ≤ x → q * p * (c * b) ≤ x * (c * q)
-cross c b q p x h =
-    let e : q * p * (c * b) ≡ b * p * (c * q) = rw (mul-comm c b, mul-comm c q) (mul-mul-mul-comm q p b c ∙ rw (mul-comm q b) (sym (mul-mul-mul-comm b p q c))) in
-    rw e (mul-le-mul h (le-refl (c * q)))
+use Rattle.wellformed.specs.Round.{round-pos, share, shares-round}
+use Rattle.wellformed.specs.Closed.{releases}
 
 -- Of whole periods alone: C · (x / T), summed, is at most x.
 pub shares-le : (t : Table) → Ranged t → load t ≤ round t → (x : ℕ) → sum (t .count) (share t x) ≤ x
@@ -29,7 +22,7 @@ shares-le t r light x =
     (round-pos t r)
   where
     each : (i : ℕ) → i < t .count → round t * share t x i ≤ x * share t (round t) i
-    each i l = rw (div-mul-cancel (task t i .period) (period-divides t r i l)) at (cross (task t i .cost) (x / task t i .period) (round t / task t i .period) (task t i .period) x (div-mul-le-self x (task t i .period)))
+    each i l = shares-round t r i l (x / task t i .period) x (div-mul-le-self x (task t i .period))
 
 -- The jobs of a task released from `later` on and before `from`: at most one, and one more for each whole period between.
 pub new-le : (k : Task) → InRange k → (later from : ℕ) → later < from → below (release k) from ≤ below (release k) later + (1 + (from - later - 1) / k .period)

@@ -16,9 +16,9 @@ use Rattle.model.specs.Demand.{jobsIn, demand, asksTooMuch, lateAt}
 use Rattle.counting.specs.Below.{below, lt-below, below-most, below-none, grows-lt}
 use Rattle.counting.specs.Sum.{sum-le, sum-by, sum-zero}
 use Rattle.wellformed.specs.Ranges.{Ranged}
+use Rattle.wellformed.specs.Closed.{releases, dues, jobs-inside}
 use Rattle.backlog.specs.TooMuch.{too-much-iff, late-at-iff}
 use Rattle.slots.specs.Slot.{at}
-use Rattle.intervals.specs.Closed.{releases, dues, jobs-inside}
 use Rattle.leaps.specs.Queue.{Queue, inserted, alike, last-least, but-last, put-in}
 use Rattle.leaps.specs.AtMost.{at-most}
 use Rattle.leaps.specs.Entry.{places, span, entry, entry-task, entry-time, entry-same, entry-le}

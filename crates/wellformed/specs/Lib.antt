@@ -3,6 +3,7 @@ pub mod Ranges
 pub mod Round
 pub mod WellFormed
 pub mod Demand
+pub mod Closed
 pub mod AtLimit
 pub mod Refused
 pub mod Admitted

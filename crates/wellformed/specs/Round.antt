@@ -1,7 +1,7 @@
 -- H of a table that keeps its ranges: the least common multiple of the periods, found as far as its limit.
 use mathlib.Core.Path.{_≡_, sym, _∙_}
 use Prim.Native.Nat.{ℕ, _*_, _/_, _^_, _≤_, _<_, _∣_}
-use native.Mathlib.Nat.{div-le-self, mul-le-mul, mul-div-le, mul-le-mul-right, le-trans}
+use native.Mathlib.Nat.{le-refl, le-trans, mul-comm, mul-mul-mul-comm, mul-le-mul, mul-le-mul-right, mul-div-le, div-le-self, div-mul-cancel}
 use native.Mathlib.Omega.{arith}
 use Rattle.values.specs.declared.Table.{Table}
 use Rattle.model.specs.Limits.{slotLimit, roundLimit}
@@ -75,3 +75,13 @@ pub share-le : (t : Table) → Ranged t → (h i : ℕ) → i < t .count → sha
 share-le t r h i l =
     let k = r .each i l in
     le-trans (mul-le-mul-right (h / task t i .period) (le-trans (k .cost-le) (k .deadline-le))) (mul-div-le h (task t i .period))
+
+-- For H = q · p and b periods p within x slots.
+cross : (c b q p x : ℕ) → b * p ≤ x → q * p * (c * b) ≤ x * (c * q)
+cross c b q p x h =
+    let e : q * p * (c * b) ≡ b * p * (c * q) = rw (mul-comm c b, mul-comm c q) (mul-mul-mul-comm q p b c ∙ rw (mul-comm q b) (sym (mul-mul-mul-comm b p q c))) in
+    rw e (mul-le-mul h (le-refl (c * q)))
+
+-- H-fold, what b jobs of task i ask for is at most x times what it asks for in a round, where b of its periods are at most x slots.
+pub shares-round : (t : Table) → Ranged t → (i : ℕ) → i < t .count → (b x : ℕ) → b * period t i ≤ x → round t * (task t i .cost * b) ≤ x * share t (round t) i
+shares-round t r i l b x h = rw (div-mul-cancel (period t i) (period-divides t r i l)) at (cross (task t i .cost) b (round t / period t i) (period t i) x h)

@@ -1,6 +1,6 @@
 -- The closed form.
 use borrow.Author.Needs.{needs}
-use Rattle.intervals.specs.Closed.{jobs-closed}
+use Rattle.wellformed.specs.Closed.{jobs-closed}
 use Rattle.intervals.proofs.jobs_in.Statement.{statement}
 use Rattle.intervals.proofs.jobs_in.Tie as tie
 
