@@ -12,6 +12,9 @@ pub mod Starting
 pub mod Calm
 pub mod WalkCalm
 pub mod Quick
+pub mod Asked
+pub mod Decided
+pub mod Slack
 -- Distances and the distance test.
 pub mod Reduced
 pub mod Distance
