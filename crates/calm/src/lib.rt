@@ -1,4 +1,4 @@
-// A walk to the first idle instant after 0, for the quick test and the distance test.
+// A walk to the first idle instant after 0, for the distance test.
 ghost use mathlib.Core.Path.{_≡_};
 ghost use Prim.Native.Nat.{_≤_};
 ghost use Rattle.model.specs.Limits.{taskLimit, roundLimit};

@@ -1,16 +1,142 @@
-// The quick test: all offsets 0, and a walk to the first idle instant.
+// The quick test: no overload, and with all tasks started at 0 no instant by which the jobs due ask for more slots than there are.
 ghost use mathlib.Core.Path.{_≡_};
+ghost use Prim.Native.Nat.{suc, _≤_, _<_, min};
 ghost use Rattle.values.specs.declared.Judgement.{Judgement};
+ghost use Rattle.model.specs.Limits.{roundLimit};
+ghost use Rattle.model.specs.Notation.{every};
 ghost use Rattle.model.specs.Tasks.{judgedMixed};
 ghost use Rattle.model.specs.Patterns.{quickPass, quickAnswer};
+ghost use Rattle.wellformed.specs.Ranges.{InRange, Ranged};
+ghost use Rattle.wellformed.specs.Round.{RoundKept};
+ghost use Rattle.patterns.specs.Asked.{dueBy, asked};
+ghost use Rattle.patterns.specs.Decided.{enough, EnoughBeyond};
+ghost use Rattle.patterns.specs.Slack.{slack as slackTotal, slackOf};
 ghost use Rattle.quick.specs.Answers.{isPass};
 use values::Judgement;
 use values::Measure;
 use values::QuickAnswer;
-use values::TASK_LIMIT;
+use values::SLOT_LIMIT;
 use values::Table;
+use values::Task;
 
-// No overload, and calm with all offsets 0. Of buttons too: what comes as it likes is worst if all comes at once.
+// How far up from 0 to look: some of the longest periods.
+const EARLY: u64 = 1_000_000;
+
+// What is asked for by an instant, and a later instant at which to look next: the first deadline after it.
+struct Seen {
+    asked: u64,
+    next: u64,
+}
+
+fn to_u64(x: u32) -> u64
+    ensures { λ r. ⌜ (r ≡ x) × (x < 4294967296) ⌝ }
+{
+    x as u64
+}
+
+fn smaller(x: u64, y: u64) -> u64
+    ensures { λ r. ⌜ r ≡ min x y ⌝ }
+{
+    if x < y { x } else { y }
+}
+
+// The jobs of a task that are due by `u`, all released from 0 on.
+fn due_by(k: Task, u: u64) -> u64
+    requires { ⌜ InRange k ⌝ }
+    requires { ⌜ u ≤ roundLimit ⌝ }
+    ensures { λ r. ⌜ r ≡ dueBy k u ⌝ }
+{
+    let period = to_u64(k.period);
+    (u + period - to_u64(k.deadline)) / period
+}
+
+fn look(t: Table, u: u64) -> Seen
+    requires { ⌜ Ranged t ⌝ }
+    requires { ⌜ u ≤ roundLimit ⌝ }
+    ensures { λ r. ⌜ r .asked ≡ asked t u ⌝ }
+{
+    let n = t.count;
+    let mut slots: u64 = 0;
+    let mut next = u + to_u64(SLOT_LIMIT);
+    for i in 0..n {
+        let task = t.tasks[i];
+        let jobs = due_by(task, u);
+        slots = slots + to_u64(task.cost) * jobs;
+        next = smaller(next, to_u64(task.deadline) + to_u64(task.period) * jobs);
+    }
+    Seen {
+        asked: slots,
+        next: next,
+    }
+}
+
+// Whether no instant up to the bound asks for too much. Down from it: no earlier instant asks for more than `high`, so that each from
+// there down to what `high` asks for has enough. And for a while up from 0, deadline by deadline: one that has not mostly comes early.
+fn all_enough(t: Table, bound: u64) -> bool
+    requires { ⌜ Ranged t ⌝ }
+    requires { ⌜ bound ≤ roundLimit ⌝ }
+    ensures { λ r. ⌜ r ≡ every (enough t) (suc bound) ⌝ }
+{
+    let mut high = bound;
+    let mut low: u64 = 0;
+    while 0 < high {
+        let above = look(t, high);
+        if high < above.asked {
+            return false;
+        }
+        high = smaller(above.asked, high - 1);
+        if low < EARLY {
+            let below = look(t, low);
+            if low < below.asked {
+                return false;
+            }
+            low = smaller(below.next, bound);
+        }
+    }
+    true
+}
+
+// By how much a task's deadline comes before its next release, once for each slot that it asks for in a round.
+fn slack_of(k: Task, round: u64) -> u64
+    requires { ⌜ InRange k ⌝ }
+    requires { ⌜ round ≤ roundLimit ⌝ }
+    ensures { λ r. ⌜ r ≡ slackOf k round ⌝ }
+{
+    let period = to_u64(k.period);
+    to_u64(k.cost) * ((period - to_u64(k.deadline)) * (round / period))
+}
+
+fn slack(t: Table, round: u64) -> u64
+    requires { ⌜ Ranged t ⌝ }
+    requires { ⌜ RoundKept t round ⌝ }
+    ensures { λ r. ⌜ r ≡ slackTotal t ⌝ }
+{
+    let n = t.count;
+    let mut total: u64 = 0;
+    for i in 0..n {
+        total = total + slack_of(t.tasks[i], round);
+    }
+    total
+}
+
+// Beyond it, and up to H, no instant asks for too much: each slot adds to what the load leaves over, until that outweighs the slack.
+fn bound(t: Table, m: Measure) -> u64
+    requires { ⌜ judgedMixed t ≡ Judgement.WellFormed m ⌝ }
+    requires { ⌜ m .load ≤ m .round ⌝ }
+    ensures { λ r. ⌜ (r ≤ m .round) × EnoughBeyond t r ⌝ }
+{
+    let slack = slack(t, m.round);
+    if slack < m.round {
+        return 0;
+    }
+    let spare = m.round - m.load;
+    if spare == 0 {
+        return m.round;
+    }
+    smaller((slack - m.round) / spare, m.round)
+}
+
+// No overload, and enough up to the bound. Of buttons too: what comes as it likes is worst if all comes at once.
 pub fn passes(t: Table, m: Measure) -> bool
     requires { ⌜ judgedMixed t ≡ Judgement.WellFormed m ⌝ }
     ensures { λ r. ⌜ r ≡ quickPass t ⌝ }
@@ -18,7 +144,7 @@ pub fn passes(t: Table, m: Measure) -> bool
     if m.round < m.load {
         return false;
     }
-    calm::is_calm(calm::starting(t, [0u32; TASK_LIMIT]))
+    all_enough(t, bound(t, m))
 }
 
 // The one answer to any table: refusals 1 to 7 and 11, pass, or none.

@@ -1,1 +1,1 @@
-// What a walk over a table holds before each slot, for the exact test and for the quick test.
+// What a walk over a table holds before each slot, for the exact test and for the distance test.

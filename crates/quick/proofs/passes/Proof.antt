@@ -1,27 +1,21 @@
--- By the load, and then by the walk.
+-- By the load, and then by what is asked for up to the bound.
 use native.Mathlib.Omega.{arith}
-use lib.ListN.{replicate}
-use Rattle.model.specs.Limits.{taskLimit}
 use Rattle.wellformed.specs.WellFormed.{well-mixed}
-use Rattle.slots.specs.Slot.{at}
-use Rattle.calm.specs.Fit.{starting-fits}
-use Rattle.quick.specs.Passing.{no-offset, overload-fails, calm-passes}
+use Rattle.quick.specs.Passing.{kept, overload-fails, bound-decides}
 use Rattle.quick.proofs.passes.Statement.{statement}
 use Rattle.quick.proofs.passes.Tie as tie
 
 returns : tie.Need-returns
-returns c = overload-fails _ (c .before .before .pre) (c .if1 .taken)
+returns c = overload-fails _ (c .before .before .pre) (omega arith)
 
-starting-requires : tie.Need-starting-requires
-starting-requires c κs = well-mixed _ _ (c .before .before .pre) .ranged .few
+bound-requires : tie.Need-bound-requires
+bound-requires c κs = (c .before .before .pre, omega arith)
 
-is-calm-requires : tie.Need-is-calm-requires
-is-calm-requires c κs =
-    let well = c .before .before .before .pre in
-    rw (c .starting .ensures) (starting-fits _ well (c .before .if1 .left) (at (replicate taskLimit 0)) (λ i l. omega (arith, no-offset _ well i l)))
+all-enough-requires : tie.Need-all-enough-requires
+all-enough-requires c κs = let well = c .before .before .before .pre in (well-mixed _ _ well .ranged, omega (arith, c .bound .ensures .0, kept _ well .le))
 
 returns-2 : tie.Need-returns-2
-returns-2 c = calm-passes _ (c .before .before .before .before .pre) (c .before .before .if1 .left) (rw (← c .before .starting .ensures) (c .is-calm .ensures))
+returns-2 c = let b = c .before in bound-decides _ (b .before .before .before .pre) (b .before .if1 .left) _ (b .bound .ensures .1) (c .all-enough .ensures)
 
 pub passes-spec : {M : Type 1} → statement M
-passes-spec = tie.close (tie.spec returns starting-requires is-calm-requires returns-2)
+passes-spec = tie.close (tie.spec returns bound-requires all-enough-requires returns-2)
