@@ -2,6 +2,7 @@
 use mathlib.Core.Path.{_≡_, sym}
 use mathlib.Core.Bool.{Bool, true, false, not}
 use Prim.Native.Nat.{ℕ, _≤_, _<_}
+use native.Mathlib.Omega.{arith}
 use lib.Dec.{T}
 use lib.ListN.{replicate}
 use Rattle.values.specs.declared.Task.{Task}
@@ -11,14 +12,15 @@ use Rattle.values.specs.declared.Judgement.{Judgement}
 use Rattle.model.specs.Limits.{taskLimit, roundLimit}
 use Rattle.model.specs.Notation.{some, every}
 use Rattle.model.specs.Tasks.{task, isButton, round, load, judgedMixed}
-use Rattle.model.specs.Patterns.{startingAt, light, quickPass, commonDivisor, distance, pattern, calmPatterns}
-use Rattle.counting.specs.Count.{tests, is-true, is-false, some-iff, every-iff}
+use Rattle.model.specs.Patterns.{startingAt, light, quickPass, commonDivisor, distance, pattern, calmPatterns, distancePass}
+use Rattle.counting.specs.Count.{tests, is-true, is-false, and-iff, some-iff, every-iff}
 use Rattle.counting.specs.Divisors.{gcd-pos}
 use Rattle.wellformed.specs.Ranges.{Ranged}
 use Rattle.wellformed.specs.WellFormed.{WellFormed, well-mixed}
 use Rattle.patterns.specs.Starting.{starting-eq}
 use Rattle.patterns.specs.Distance.{divisor-is}
 use Rattle.patterns.specs.DistancePass.{pattern-low}
+use Rattle.patterns.specs.QuickDistance.{quick-distance}
 use Rattle.slots.specs.Slot.{at}
 use Rattle.slots.specs.Columns.{column}
 use Rattle.slots.specs.Laws.{fill-has}
@@ -65,3 +67,9 @@ module _ (t : Table) {m : Measure} (well : judgedMixed t ≡ Judgement.WellForme
   pub quick-decides : m .load ≤ m .round → false ≡ some (λ i. not (isButton (task t i))) (t .count) → quickPass t ≡ calmPatterns t
   unfolding quickPass
   quick-decides h none = rw (is-light h, ← none)
+
+  -- A quick pass is one of every pattern.
+  pub quick-calm : (passed : Bool) → not passed ≡ false → passed ≡ quickPass t → passed ≡ calmPatterns t
+  unfolding distancePass
+  quick-calm true n e = sym (is-true (calmPatterns t) (and-iff (light t) (calmPatterns t) .0 (quick-distance t (facts .ranged) (rw (← e) tt)) .1))
+  quick-calm false n e = let z : _≡_ {A = ℕ} 0 1 = cc in absurd (omega arith)
