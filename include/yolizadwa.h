@@ -191,7 +191,7 @@ uint64_t yolizadwa_to_text(const uint8_t *file, size_t file_len, uint8_t *text, 
  * what is said of the worst responses hold.
  *
  * The time needed grows with the releases and finishes up to `settled`, which is at most the budget and at most 2,000,000,060,000,
- * and with those that the quick test looks at (see yolizadwa_quick), which the budget does not bound. No call can stop a check.
+ * and with the instants that the quick test looks at (see yolizadwa_quick), which the budget does not bound. No call can stop a check.
  * The time of start and step does not depend on the budget. Measured (docs/PERFORMANCE.md): compiled for an Arm machine
  * (Neoverse V1), a release or finish took 3 to 12 ns, the search for a late table's interval at most three quarters of the time up
  * to its deadline, and a step 0.5 microseconds with 16 tasks and 0.8 with 32; two tasks with periods of 60,000 and 59,996 were
@@ -231,16 +231,17 @@ uint64_t yolizadwa_check_plainly(const uint8_t *file, size_t file_len, uint8_t *
 uint64_t yolizadwa_passes(const uint8_t *report, size_t length);
 
 /*
- * The quick test: lets all tasks start at 0, whatever their offsets, and looks at the slots up to the first instant after 0
- * by which every job released before it is finished. The result is 1 for pass, if no deadline is missed by then, and 0 for
- * no answer. On overload there is no answer, and late is never said.
+ * The quick test: lets all tasks start at 0, whatever their offsets, and run up to the first instant after 0 by which every job
+ * released before it is finished. The result is 1 for pass, if no deadline is missed by then, and 0 for no answer. On overload
+ * there is no answer, and late is never said.
  *
  * Pass: a check of the file, with any budget that reaches the horizon, says `verdict passes`. No answer says nothing about
  * that. The budget must stand in the file, 1 or more, and plays no other part.
  *
- * Mostly few slots are looked at. But with a load near 1 they may be as many as a round has, up to 1,000,000,000,000, here and in a
- * check whatever its budget. It leaps as a check does; the longest that was measured, of 16 tasks with periods from 54,000 on,
- * took 5 ms (docs/PERFORMANCE.md). No call can stop it.
+ * No slot is walked: what the jobs due by an instant ask for is one sum over the tasks, and mostly some ten instants are looked at; where
+ * every deadline is the period, none. But with a load of 1, or very nearly so, and shorter deadlines they may be many, here and in a
+ * check whatever its budget: with a round of 450,838,288,810 slots and 14 tasks with periods from 70 to 1,582 they took 51 s, the longest
+ * that was measured (docs/PERFORMANCE.md). No call can stop it.
  *
  * Refusals: 20 to 27; 1 and 3 to 7; 11.
  */
@@ -248,10 +249,11 @@ uint64_t yolizadwa_quick(const uint8_t *file, size_t file_len);
 
 /*
  * The distance test, for tables with a long round and for tables with buttons: lets each task in turn start at 0 and every other at
- * its distance from it, and looks at the slots of each such pattern as the quick test does. The distance of task k from task i is the
- * least time from a release of i to one of k at the same instant or later: offset of k - offset of i, reduced upward into 0 to g - 1,
- * with g the greatest common divisor of their periods. In every pattern each button starts at 0 and comes as early as it may again; no
- * button is the one that the others start from. Of buttons alone there is one pattern, with all of them at 0.
+ * its distance from it, and looks at the slots of each such pattern up to its first instant after 0 by which every job released before
+ * it is finished. The distance of task k from task i is the least time from a release of i to one of k at the same instant or later:
+ * offset of k - offset of i, reduced upward into 0 to g - 1, with g the greatest common divisor of their periods. In every pattern each
+ * button starts at 0 and comes as early as it may again; no button is the one that the others start from. Of buttons alone there is one
+ * pattern, with all of them at 0.
  *
  * The result is 2 for overload; else 1 for pass, if no pattern misses a deadline, and 0 for no answer. Late is never said.
  *
@@ -260,8 +262,8 @@ uint64_t yolizadwa_quick(const uint8_t *file, size_t file_len);
  * the slots with every job in time. That way is another one for other presses, and no call here gives out slots to buttons. No answer
  * says nothing, with one exception: of buttons alone it means that there are presses with which no way keeps every deadline.
  *
- * No budget bounds the slots looked at: there is a walk for each task, mostly short, but with a load near 1 as long as the
- * quick test's may be, up to 32 times 1,000,000,000,000 slots in all. No call can stop it.
+ * Where the quick test passes, nothing else is looked at. No budget bounds the slots looked at where it does not: there is a walk for each
+ * task, mostly short, but with a load near 1 of up to a round, up to 32 times 1,000,000,000,000 slots in all. No call can stop it.
  *
  * Refusals: 20 to 27; 1 and 3 to 7; not 11.
  */
