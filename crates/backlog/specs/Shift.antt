@@ -81,7 +81,7 @@ module _ (S : System) (Y : Cycle S) where
   rel-later-le : (i t : ℕ) → i < size S → released J (t + Y .round) i ≤ released J t i + costOf S i * Y .times i
   rel-later-le i t l = omega (arith, mul-le-mul-left (costOf S i) (below-later-le (releaseOf S i) (J .rel-grows i l) (Y .times i) (Y .round) (release-later i l) t))
 
-  rel-later-from : (i t : ℕ) → i < size S → offsetOf S i ≤ t → released J (t + Y .round) i ≡ released J t i + costOf S i * Y .times i
+  pub rel-later-from : (i t : ℕ) → i < size S → offsetOf S i ≤ t → released J (t + Y .round) i ≡ released J t i + costOf S i * Y .times i
   rel-later-from i t l h = omega (arith, ap (λ (x : ℕ). costOf S i * x) (below-later (releaseOf S i) (J .rel-grows i l) (Y .times i) (Y .round) (release-later i l) t (omega arith)))
 
   rel-later : (i t : ℕ) → i < size S → (released J t i ≡ 0) ⊎ (released J (t + Y .round) i ≡ released J t i + costOf S i * Y .times i)
@@ -118,7 +118,7 @@ module _ (S : System) (Y : Cycle S) (s : ℕ → ℕ → ℕ) (R : Run (jobs S) 
   lft κ t = left (jobs S) s κ t
 
   -- What is left now is left a round later.
-  left-up : (κ t : ℕ) → left (jobs S) s κ t ≤ left (jobs S) s (κ + spread S * Y .round) (t + Y .round)
+  pub left-up : (κ t : ℕ) → left (jobs S) s κ t ≤ left (jobs S) s (κ + spread S * Y .round) (t + Y .round)
   left-up κ t = go (eq-zero-or-pos (lft κ t))
     where
       go : (lft κ t ≡ 0) ⊎ (0 < lft κ t) → lft κ t ≤ lft (κ + spread S * Y .round) (t + Y .round)

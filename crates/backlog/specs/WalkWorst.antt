@@ -50,7 +50,7 @@ worstBy t zero = replicate taskLimit 0
 worstBy t (suc n) =
     cond (finishing t n) (noted (worstBy t n) (ownerAt t quiet n) (task t (ownerAt t quiet n) .period - waitOf (stateAt t quiet (suc n)) (ownerAt t quiet n))) (worstBy t n)
 
-worst-length : (t : Table) (n : ℕ) → length (worstBy t n) ≡ taskLimit
+pub worst-length : (t : Table) (n : ℕ) → length (worstBy t n) ≡ taskLimit
 unfolding worstBy
 worst-length t zero = length-replicate {A = ℕ} taskLimit 0
 worst-length t (suc n) = go (finishing t n) (worst-length t n)
@@ -65,7 +65,7 @@ module _ (t : Table) where
   none-noted i = getD-same taskLimit 0 i
 
   -- Past the last task nothing is noted.
-  none-past : (n i : ℕ) → t .count ≤ i → getD (worstBy t n) i 0 ≡ 0
+  pub none-past : (n i : ℕ) → t .count ≤ i → getD (worstBy t n) i 0 ≡ 0
   unfolding worstBy
   none-past zero i l = none-noted i
   none-past (suc n) i l = go (finishing t n) refl (none-past n i l)
@@ -145,11 +145,11 @@ module _ (t : Table) (r : Ranged t) where
     attained : (getD (worstBy t n) i 0 ≡ 0) ⊎ ((j : ℕ) × (f : ℕ) × DoneFirst (jobs S) (servedOf S) i j f × (f - releaseOf S i j ≡ getD (worstBy t n) i 0))
 
   -- Slot n notes a response of task i, or leaves what was noted of it.
-  data Noting (n i : ℕ) : Type 0 where
+  pub data Noting (n i : ℕ) : Type 0 where
     noting : owner-at n ≡ i → leftOf (walked t (suc n)) i ≡ 0 → getD (worstBy t (suc n)) i 0 ≡ max (getD (worstBy t n) i 0) (task t i .period - waitOf (walked t (suc n)) i) → Noting n i
     leaving : (owner-at n ≡ i → leftOf (walked t (suc n)) i ≡ 0 → ⊥) → getD (worstBy t (suc n)) i 0 ≡ getD (worstBy t n) i 0 → Noting n i
 
-  notes : (n i : ℕ) → i < t .count → Noting n i
+  pub notes : (n i : ℕ) → i < t .count → Noting n i
   unfolding worstBy
   notes n i l = go (finishing t n) refl (ℕ-discrete (owner-at n) i)
     where

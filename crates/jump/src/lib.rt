@@ -84,7 +84,8 @@ fn walk(t: Table, m: Measure, budget: u64) -> Answer
     requires { ⌜ m .load ≤ m .round ⌝ }
     ensures { λ r. ⌜ Permitted t budget r ⌝ }
 {
-    let reached = leaps::walk(t, answers::smaller(budget, m.horizon), false);
+    let end = answers::smaller(budget, m.horizon);
+    let reached = leaps::walk(t, end, m.horizon - m.round, false);
     let here = reached.here;
     let worst = reached.worst;
     let at = here.time;

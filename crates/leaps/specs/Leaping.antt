@@ -1,11 +1,11 @@
 -- A WALK BY LEAPS (`leaping-start`): what holds before each leap, from the start on, and where the walk is over.
-use mathlib.Core.Path.{_≡_, refl, sym, ap, subst, _∙_}
-use mathlib.Core.Logic.{_⊎_, inl, inr}
+use mathlib.Core.Path.{_≡_, sym, ap, _∙_}
+use mathlib.Core.Logic.{_⊎_}
 use mathlib.Core.List.{List}
-use mathlib.Core.Bool.{Bool, true, false, _&&_, _||_}
+use mathlib.Core.Bool.{Bool, true, false}
 use Prim.Native.Nat.{ℕ, suc, _+_, _-_, _≤_, _<_}
 use native.Mathlib.Omega.{arith}
-use lib.Dec.{T, ltb, ltb→lt}
+use lib.Dec.{T}
 use lib.ListN.{replicate, length-replicate}
 use Rattle.values.specs.declared.Table.{Table}
 use Rattle.model.specs.Limits.{taskLimit}
@@ -13,7 +13,6 @@ use Rattle.model.specs.Tasks.{task, round, load, offset}
 use Rattle.model.specs.Demand.{lateAt}
 use Rattle.model.specs.Dispatcher.{waitOf, leftOf, waitReleased, leftReleased}
 use Rattle.model.specs.History.{stateAt}
-use Rattle.counting.specs.Count.{is-true, and-iff}
 use Rattle.counting.specs.Fill.{getD-same}
 use Rattle.wellformed.specs.Ranges.{Ranged}
 use Rattle.wellformed.specs.WellFormed.{horizonLimit}
@@ -84,23 +83,6 @@ module _ {t : Table} {period cost deadline releases ready left worst : List ℕ}
   -- Where the walk goes on, it does so from the landing.
   pub here-next : {releases′ ready′ left′ worst′ : List ℕ} {y : Landed} → Landing t (x .time) end releases′ ready′ left′ worst′ y → y .over ≡ false → Here t period cost deadline releases′ ready′ left′ worst′ last end y
   here-next z e = record { ranged = h .ranged; light = h .light; columns = h .columns; limit = h .limit; before = z .upto; clear = z .clear; tally = z .tally; held = z .goes e .1 }
-
--- Where the walk stops, it is over.
-module _ {t : Table} {n end : ℕ} {releases ready left worst : List ℕ} {y : Landed} (z : Landing t n end releases ready left worst y) (idling : Bool) where
-  pub ended : (y .over || (idling && ltb 0 (y .idle))) ≡ true → Ended t end idling y worst
-  ended stopped = record { upto = z .upto; clear = z .clear; tally = z .tally; late = z .late; ends = λ f. go f (y .over) refl stopped }
-    where
-      go : y .late ≡ false → (over : Bool) → y .over ≡ over → (over || (idling && ltb 0 (y .idle))) ≡ true → ((y .time ≡ end) × Clear t (suc (y .time))) ⊎ ((idling ≡ true) × (0 < y .idle))
-      go f true e s = inl (z .ends e f)
-      go f false e s = let (a, b) = and-iff idling (ltb 0 (y .idle)) .0 (subst T (sym s) tt) in inr (is-true idling a, ltb→lt 0 (y .idle) b)
-
--- Where it does not, it is not.
-pub not-over : (y : Landed) (idling : Bool) → (y .over || (idling && ltb 0 (y .idle))) ≡ false → y .over ≡ false
-not-over y idling = go (y .over) (idling && ltb 0 (y .idle))
-  where
-    go : (over more : Bool) → (over || more) ≡ false → over ≡ false
-    go true more e = e
-    go false more e = refl
 
 module _ (t : Table) (r : Ranged t) where
   wait-first : (i : ℕ) → i < t .count → waitOf (walked t 0) i ≡ offset (task t i)

@@ -12,3 +12,4 @@ pub mod Landed
 pub mod Land
 pub mod Turn
 pub mod Leaping
+pub mod Skipping

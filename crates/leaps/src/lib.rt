@@ -1,8 +1,8 @@
 // A walk over a table from one release or finish to the next.
 ghost use mathlib.Core.Path.{_≡_};
-ghost use mathlib.Core.Bool.{true, false, cond, _&&_, _||_};
+ghost use mathlib.Core.Bool.{true, false, cond};
 ghost use Prim.Native.Nat.{_+_, _-_, _*_, _/_, _%_, _^_, _≤_, _<_};
-ghost use lib.Dec.{leb, ltb};
+ghost use lib.Dec.{leb};
 ghost use lib.ListN.{set};
 ghost use Rattle.values.specs.declared.Table.{Table};
 ghost use Rattle.model.specs.Limits.{taskLimit};
@@ -21,6 +21,7 @@ ghost use Rattle.leaps.specs.Columns.{columnsOf, Marked};
 ghost use Rattle.leaps.specs.Leaping.{Due, Ready, Here, Ended};
 ghost use Rattle.leaps.specs.Landed.{goingAt, overAt, restedAt, doneAt, nextLate};
 ghost use Rattle.leaps.specs.Turn.{Landing};
+ghost use Rattle.leaps.specs.Skipping.{Rounded, Stops, Skips};
 use slots::Numbers;
 use values::TASK_LIMIT;
 use values::Table;
@@ -383,11 +384,33 @@ fn leap(
     )
 }
 
-// A walk is over at its end or at a late deadline; one to the first idle instant is over there too.
-fn stops(here: Landed, idling: bool) -> bool
-    ensures { λ r. ⌜ r ≡ (here .over || (idling && ltb 0 (here .idle))) ⌝ }
+// A walk stops where it is over, and with no job open at `again` or later.
+fn stops(here: Landed, again: u64) -> bool
+    ensures { λ r. ⌜ Stops again here r ⌝ }
 {
-    here.over || idling && 0 < here.idle
+    if here.over {
+        return true;
+    }
+    if 0 < here.jobs {
+        return false;
+    }
+    if here.time < again {
+        return false;
+    }
+    true
+}
+
+// Where a walk stopped that was not to end there, what follows has been seen: it is over at its end.
+fn skip(here: Landed, end: u64, idling: bool) -> Landed
+    ensures { λ r. ⌜ Skips end idling here r ⌝ }
+{
+    if here.over {
+        return here;
+    }
+    if idling {
+        return here;
+    }
+    ended(end, 0, here.idle, false)
 }
 
 // Where a walk was over, and the worst responses that it has seen.
@@ -396,11 +419,13 @@ pub struct Reached {
     pub worst: Numbers,
 }
 
-// From event to event, to the end, to the first late deadline, or, if it is asked for, to the first idle instant after 0.
-pub fn walk(t: Table, end: u64, idling: bool) -> Reached
+// From event to event, to the end or to the first late deadline. It stops with no job open at `again` or later: there one that is to
+// be idle ends, and for any other a round has gone by since the last first release, so that what follows has been seen.
+pub fn walk(t: Table, end: u64, again: u64, idling: bool) -> Reached
     requires { ⌜ Ranged t ⌝ }
     requires { ⌜ load t ≤ round t ⌝ }
     requires { ⌜ end ≤ horizonLimit ⌝ }
+    requires { ⌜ (idling ≡ false → Rounded t again) ⌝ }
     ensures { λ r. ⌜ Ended t end idling (r .here) (r .worst) ⌝ }
 {
     let last = t.count - 1;
@@ -427,9 +452,10 @@ pub fn walk(t: Table, end: u64, idling: bool) -> Reached
             end,
             here,
         );
-        if stops(here, idling) {
+        if stops(here, again) {
             break;
         }
     }
+    let here = skip(here, end, idling);
     Reached { here, worst }
 }

@@ -17,24 +17,29 @@ use Rattle.model.specs.Schedule.{Schedule, Good}
 use Rattle.model.specs.Arrivals.{Respects, GoodFor}
 use Rattle.model.specs.Run.{Order, tieOrder, choose, ownerOf, served}
 use Rattle.model.specs.Verdict.{verdict}
+use Rattle.model.specs.Dispatcher.{leftOf}
 use Rattle.model.specs.Idle.{idleAt, firstIdle, missedAt}
 use Rattle.model.specs.Patterns.{startingAt, light, calmBy, calm, simultaneous, quickPass, commonDivisor, distance, pattern, distancePass}
 use Rattle.model.specs.TableFile.{tableOf}
 use Rattle.model.specs.Examples.{of, table-b, table-d, table-g}
 use Rattle.model.specs.ButtonExamples.{button, table-shutter}
+use Rattle.counting.specs.Count.{is-true, every-iff}
 use Rattle.wellformed.specs.Ranges.{Ranged}
 use Rattle.wellformed.specs.WellFormed.{well-mixed}
 use Rattle.backlog.specs.System.{System, jobs, dues}
-use Rattle.backlog.specs.TableSystem.{tieSystem}
+use Rattle.backlog.specs.TableSystem.{tieSystem, tieCycle}
 use Rattle.backlog.specs.TooMuch.{never-iff}
 use Rattle.backlog.specs.ModelRun.{servedOf, model-run}
 use Rattle.backlog.specs.Criterion.{late-iff-over}
 use Rattle.backlog.specs.EveryInstant.{over-iff}
 use Rattle.backlog.specs.Feasible.{Feasible}
-use Rattle.backlog.specs.Walk.{Clear}
+use Rattle.backlog.specs.Walk.{walked, Clear}
+use Rattle.backlog.specs.WalkWorst.{worstBy}
 use Rattle.patterns.specs.IdleInstants.{CaughtUp, idle-iff}
 use Rattle.patterns.specs.FirstIdle.{first-idle, passed-idle, first-any-order}
 use Rattle.patterns.specs.WalkIdle.{noneLeft, walk-idle-at}
+use Rattle.patterns.specs.RoundAgain.{Rests}
+use Rattle.patterns.specs.WorstAgain.{worst-ever}
 use Rattle.patterns.specs.Calm.{calm-iff, calm-any-order}
 use Rattle.patterns.specs.WalkCalm.{walk-calm}
 use Rattle.patterns.specs.Pulled.{pulled-late}
@@ -93,6 +98,14 @@ g-walk-idle = walk-idle-at table-g g-ranged 4 (g-clear 4)
 g-walk-calm : T (calm table-g)
 unfolding firstIdle idleAt first round load sum count served ownerOf choose
 g-walk-calm = walk-calm table-g g-ranged (lit≤ tt) 4 (g-clear 4) (lit≤ tt)
+
+-- Its round from 0 on ends there, so that it repeats from 0 on: no response is larger than those seen by 4.
+g-rests : Rests table-g g-ranged (tieCycle table-g g-ranged) 0
+unfolding idleAt largest round first count served ownerOf choose
+g-rests = record { started = lit≤ tt; clear = g-clear 4; shut = λ i l. eqb-true _ _ (is-true _ (every-iff (λ k. eqb (leftOf (walked table-g 4) k) 0) 2 .0 (rw g-walk-idle tt) i l)) }
+
+g-worst : (n : ℕ) → 0 + round table-g ≤ n → worstBy table-g n ≡ worstBy table-g (0 + round table-g)
+g-worst = worst-ever table-g g-ranged (tieCycle table-g g-ranged) 0 g-rests
 
 -- And so it is by the run of any order.
 g-calm-by : (rank : Order) → T (calmBy rank table-g)

@@ -7,6 +7,12 @@ pub mod IdleInstants
 pub mod FirstIdle
 pub mod WalkIdle
 pub mod Missed
+-- One round of a walk from an idle instant on is all of it.
+pub mod IdleBefore
+pub mod ServedLater
+pub mod RoundAgain
+pub mod LateAgain
+pub mod WorstAgain
 -- Calm patterns and the quick test.
 pub mod Starting
 pub mod Calm

@@ -1,13 +1,14 @@
 -- The walk finds an idle instant or a late deadline within H.
+use mathlib.Core.Path.{subst}
 use native.Mathlib.Omega.{arith}
-use lib.Dec.{lt→ltb}
+use lib.Dec.{T, lt→ltb}
 use Rattle.counting.specs.Count.{tests}
 use Rattle.calm.specs.Calmed.{calmed}
 use Rattle.calm.proofs.is_calm.Statement.{statement}
 use Rattle.calm.proofs.is_calm.Tie as tie
 
 walk-requires : tie.Need-walk-requires
-walk-requires c κs = (c .pre .0, (c .pre .1 .0, omega arith))
+walk-requires c κs = (c .pre .0, (c .pre .1 .0, (omega arith, λ e. absurd (subst T e tt))))
 
 returns : tie.Need-returns
 returns c =

@@ -11,20 +11,29 @@ use Rattle.answers.specs.Answers.{permitted-quiet, permitted-late}
 use Rattle.jump.proofs.walk.Statement.{statement}
 use Rattle.jump.proofs.walk.Tie as tie
 
+-- Where the function began.
+abbrev begin : tie.After-walk → tie.Start
+begin c = c .before .before .before
+
 -- What is known of the table, and of where the walk was over.
-facts : (c : tie.After-walk) → let s = c .before .before in WellFormed (s .args .t) (s .args .m)
-facts c = well-formed _ _ (c .before .before .pre .0)
+facts : (c : tie.After-walk) → let s = begin c in WellFormed (s .args .t) (s .args .m)
+facts c = well-formed _ _ (begin c .pre .0)
 
 time-le : (c : tie.After-walk) → c .walk .result .here .time ≤ horizonLimit
-time-le c = omega (arith, c .walk .ensures .upto, c .before .smaller .ensures, facts c .horizon-is, facts c .horizon-le)
+time-le c = omega (arith, c .walk .ensures .upto, c .before .before .smaller .ensures, facts c .horizon-is, facts c .horizon-le)
 
 smaller-requires : tie.Need-smaller-requires
 smaller-requires c κs = search needs
 
+-- A round is within the horizon, and one before its end every task has had its first release for a round.
+sub-walk : tie.Need-sub-walk
+sub-walk c = let f = well-formed _ _ (c .before .before .pre .0) in omega (arith, f .round-is, f .horizon-is, f .offset-le 0 (f .ranged .some))
+
 walk-requires : tie.Need-walk-requires
 walk-requires c κs =
-    let f = well-formed _ _ (c .before .pre .0) in
-    (f .ranged, (omega (arith, c .before .pre .1, f .load-is, f .round-is), omega (arith, c .smaller .ensures, f .horizon-is, f .horizon-le)))
+    let s = c .before .before in
+    let f = well-formed _ _ (s .pre .0) in
+    (f .ranged, (omega (arith, s .pre .1, f .load-is, f .round-is), (omega (arith, c .before .smaller .ensures, f .horizon-is, f .horizon-le), λ e i l. omega (arith, f .round-is, f .horizon-is, f .offset-le i l))))
 
 unpack-requires : tie.Need-unpack-requires
 unpack-requires c κs = facts (c .before .before .before) .ranged
@@ -48,9 +57,9 @@ returns c =
     let l = k .before .before .before .before in
     let w = l .before .before .before in
     let x = w .walk .ensures in
-    let s = w .before .before in
+    let s = begin w in
     let (less, much, none) = k .start .ensures in
-    rw (c .conclude .ensures) (permitted-late (s .args .t) (s .args .m) (s .args .budget) (s .pre .0) (s .pre .1) (x .tally) _ _ (omega (arith, x .upto, w .before .smaller .ensures)) (x .clear) (x .late (l .if1 .taken)) less (c .before .demand .ensures) (omega (arith, much, c .before .demand .ensures)) none)
+    rw (c .conclude .ensures) (permitted-late (s .args .t) (s .args .m) (s .args .budget) (s .pre .0) (s .pre .1) (x .tally) _ _ (omega (arith, x .upto, w .before .before .smaller .ensures)) (x .clear) (x .late (l .if1 .taken)) less (c .before .demand .ensures) (omega (arith, much, c .before .demand .ensures)) none)
 
 conclude-requires-2 : tie.Need-conclude-requires-2
 conclude-requires-2 c κs = search needs
@@ -59,9 +68,9 @@ returns-2 : tie.Need-returns-2
 returns-2 c =
     let w = c .before .before .before .before in
     let x = w .walk .ensures in
-    let s = w .before .before in
+    let s = begin w in
     rw (c .conclude2 .ensures) (elim (x .ends (c .before .if1 .left)) [
-      | inl (ends, clear) ↦ permitted-quiet (s .args .t) (s .args .m) (s .args .budget) (s .pre .0) (s .pre .1) (x .tally) 0 clear (ends ∙ w .before .smaller .ensures)
+      | inl (ends, clear) ↦ permitted-quiet (s .args .t) (s .args .m) (s .args .budget) (s .pre .0) (s .pre .1) (x .tally) 0 clear (ends ∙ w .before .before .smaller .ensures)
       | inr (asked, idle) ↦ absurd (subst T (sym asked) tt)
     ])
 
@@ -70,6 +79,7 @@ walk-spec =
     tie.close
     (tie.spec
     smaller-requires
+    sub-walk
     walk-requires
     unpack-requires
     start-requires

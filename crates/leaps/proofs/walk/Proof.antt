@@ -1,5 +1,4 @@
 -- Before each leap the walk holds what the dispatcher would without done reports, in its queues.
-use mathlib.Core.Path.{sym, _∙_}
 use Prim.Native.Nat.{_-_}
 use native.Mathlib.Omega.{arith}
 use lib.ListN.{replicate}
@@ -7,16 +6,17 @@ use borrow.Author.Needs.{needs}
 use Rattle.values.specs.declared.Table.{Table}
 use Rattle.model.specs.Limits.{taskLimit}
 use Rattle.leaps.specs.Columns.{marked, columned}
-use Rattle.leaps.specs.Leaping.{Here, leaping-start, here-next, ended, not-over}
+use Rattle.leaps.specs.Leaping.{Here, leaping-start, here-next}
+use Rattle.leaps.specs.Skipping.{skipped}
 use Rattle.leaps.proofs.walk.Statement.{statement}
 use Rattle.leaps.proofs.walk.Tie as tie
 
 abbrev Inv-loop : tie.InvT-loop
-Inv-loop end idling last period cost deadline releases₀ ready₀ left₀ worst₀ here₀ releases ready left worst here =
+Inv-loop end again idling last period cost deadline releases₀ ready₀ left₀ worst₀ here₀ releases ready left worst here =
     (t : Table) → Here t period cost deadline releases₀ ready₀ left₀ worst₀ last end here₀ → Here t period cost deadline releases ready left worst last end here
 
 abbrev μ-loop : tie.MeasureT-loop
-μ-loop end idling last period cost deadline releases₀ ready₀ left₀ worst₀ here₀ releases ready left worst here = end - here .time
+μ-loop end again idling last period cost deadline releases₀ ready₀ left₀ worst₀ here₀ releases ready left worst here = end - here .time
 
 -- Where the function began, and the table.
 abbrev start : tie.At-loop Inv-loop μ-loop → tie.Start Inv-loop μ-loop
@@ -32,7 +32,7 @@ first c =
     let f = c .before .before in
     let u = f .before .before .before .before .before .before in
     let s = start c in
-    leaping-start _ (s .pre .0) (s .pre .1 .0) (columned _ (s .pre .0 .few) (u .unpack .ensures)) (s .pre .1 .1) (f .first-releases .ensures) (c .before .going .ensures)
+    leaping-start _ (s .pre .0) (s .pre .1 .0) (columned _ (s .pre .0 .few) (u .unpack .ensures)) (s .pre .1 .1 .0) (f .first-releases .ensures) (c .before .going .ensures)
 
 sub-last : tie.Need-sub-last Inv-loop μ-loop
 sub-last c = omega (arith, c .before .pre .0 .some)
@@ -67,19 +67,24 @@ loop-less c =
     let b = c .before .before in
     let a = home b in
     let z = b .leap .ensures _ (a .loop .inv _ (first a)) in
-    omega (arith, z .upto, z .goes (not-over (b .leap .result) (start (home b) .args .idling) (sym (c .before .stops .ensures) ∙ c .if1 .left)) .0)
+    omega (arith, z .upto, z .goes (c .before .stops .ensures .0 (c .if1 .left)) .0)
 
 loop-again : tie.Need-loop-again Inv-loop μ-loop
 loop-again c t h =
     let b = c .before .before in
     let y = home b .loop .inv t h in
-    here-next y (b .leap .ensures t y) (not-over (b .leap .result) (start (home b) .args .idling) (sym (c .before .stops .ensures) ∙ c .if1 .left))
+    here-next y (b .leap .ensures t y) (c .before .stops .ensures .0 (c .if1 .left))
+
+skip-requires : tie.Need-skip-requires Inv-loop μ-loop
+skip-requires c κs = search needs
 
 returns : tie.Need-returns Inv-loop μ-loop
 returns c =
-    let b = c .before .before in
+    let k = c .before in
+    let b = k .before .before in
     let a = home b in
-    ended (b .leap .ensures _ (a .loop .inv _ (first a))) _ (sym (c .before .stops .ensures) ∙ c .if1 .taken)
+    let s = start a in
+    skipped _ (s .pre .0) (s .pre .1 .0) (b .leap .ensures _ (a .loop .inv _ (first a))) (s .pre .1 .1 .1) (k .before .stops .ensures .1 (k .if1 .taken)) (c .skip .ensures)
 
 pub walk-spec : {M : Type 1} → statement M
 walk-spec =
@@ -96,4 +101,5 @@ walk-spec =
     stops-requires
     loop-less
     loop-again
+    skip-requires
     returns)
