@@ -18,10 +18,10 @@ use Rattle.model.specs.Limits.{taskLimit, slotCountLimit}
 use Rattle.model.specs.Values.{refusal}
 use Rattle.model.specs.Tasks.{task, release, due, taskFault, firstFaulty, round, load, horizon, judgedMixed, firstButton, judged}
 use Rattle.model.specs.Demand.{arrivedIn, demand, lateAt, asksTooMuch}
-use Rattle.model.specs.Run.{Order, choose, run, Worst}
+use Rattle.model.specs.Run.{Order, tieOrder, choose, run, Worst}
 use Rattle.model.specs.Verdict.{needed, lateStart, verdict, settledBy, Worsts, Permitted}
-use Rattle.model.specs.Dispatcher.{State, Stepped, givenOf, slotCount, firstStrange, startOf, isLate, ownerNow, after, turn, refuseStep, stepped}
-use Rattle.model.specs.History.{stateAt, ownerAt, had, Finished}
+use Rattle.model.specs.Dispatcher.{State, Stepped, givenOf, slotCount, firstStrange, startOf, isLate, ownerNowBy, after, afterBy, turn, refuseStep, stepped}
+use Rattle.model.specs.History.{stateAt, stateAtBy, ownerAt, had, Finished}
 use Rattle.model.specs.TableFile.{tableOf}
 use Rattle.model.specs.Easing.{Eased, Lowered, easing}
 use Rattle.model.specs.Largest.{withCost, largestCost}
@@ -255,7 +255,7 @@ d-start = start-is table-d 7 0 tt d-largest
 
 -- So a walk sees a job at its deadline there.
 d-seen : (i : ℕ) × (i < 2) × T (isLate table-d (stateAt table-d quiet 7) false i)
-d-seen = late-iff table-d d-ranged 7 (λ u l. d-late .1 u l) .1 (d-late .0)
+d-seen = late-iff table-d d-ranged (tieOrder table-d) 7 (λ u l. d-late .1 u l) .1 (d-late .0)
 
 -- Table i is overloaded, so no schedule of it is good.
 i-ranged : Ranged table-i
@@ -282,42 +282,42 @@ reports : ℕ → Bool
 reports n = eqb n 1
 
 g-in-time : (j : ℕ) → (w : ℕ) × Finished table-g reports 0 j (release (task table-g 0) j + w)
-g-in-time j = let (w, v) = worst-of table-g g-ranged 8 g-passes _ 0 (lit< tt) in (w, in-time table-g g-ranged reports 8 g-passes 0 w (lit< tt) v j)
+g-in-time j = let (w, v) = worst-of table-g g-ranged 8 g-passes _ 0 (lit< tt) in (w, in-time table-g g-ranged (tieOrder table-g) reports 8 g-passes 0 w (lit< tt) v j)
 
 g-idle : ownerAt table-g reports 3 ≡ taskLimit
-unfolding reports stateAt startOf after ownerNow choose fill
+unfolding reports stateAtBy startOf afterBy ownerNowBy choose fill
 g-idle = refl
 
 g-none-waits : Finished table-g reports 1 0 3
-g-none-waits = none-waits table-g g-ranged reports 8 g-passes 3 g-idle 1 0 (lit< tt) (lit≤ tt)
+g-none-waits = none-waits table-g g-ranged (tieOrder table-g) reports 8 g-passes 3 g-idle 1 0 (lit< tt) (lit≤ tt)
 
 g-none-after : ownerAt table-g reports 1 ≡ 0 → ⊥
-unfolding reports stateAt startOf after ownerNow choose fill
-g-none-after = none-after table-g g-ranged reports 1 0 0 (lit< tt) (lit≤ tt) (lit< tt) (inr (1, lit< tt, lit≤ tt, tt))
+unfolding reports stateAtBy startOf afterBy ownerNowBy choose fill
+g-none-after = none-after table-g g-ranged (tieOrder table-g) reports 1 0 0 (lit< tt) (lit≤ tt) (lit< tt) (inr (1, lit< tt, lit≤ tt, tt))
 
 g-owned : (j : ℕ) × (release (task table-g 1) j ≤ 1) × (1 < due (task table-g 1) j)
-unfolding reports stateAt startOf after ownerNow choose fill
-g-owned = owned-ready table-g g-ranged reports 1 1 (lit< tt) refl
+unfolding reports stateAtBy startOf afterBy ownerNowBy choose fill
+g-owned = owned-ready table-g g-ranged (tieOrder table-g) reports 1 1 (lit< tt) refl
 
 g-past : (getD (stateAt table-g reports 5 .wait) 2 0 ≡ 0) × (getD (stateAt table-g reports 5 .left) 2 0 ≡ 0) × (getD (stateAt table-g reports 5 .given) 2 0 ≡ 0)
-g-past = past-none table-g reports 5 2 (lit≤ tt)
+g-past = past-none table-g (tieOrder table-g) reports 5 2 (lit≤ tt)
 
 g-never-more : had table-g reports 0 0 4 ≤ 2
-g-never-more = never-more table-g g-ranged reports 0 0 4 (lit< tt) (lit≤ tt)
+g-never-more = never-more table-g g-ranged (tieOrder table-g) reports 0 0 4 (lit< tt) (lit≤ tt)
 
 g-none-cut : (n : ℕ) → (turn table-g (stateAt table-g reports n) (reports n) .late ≡ 0) × (turn table-g (stateAt table-g reports n) (reports n) .closed ≡ 0) × (turn table-g (stateAt table-g reports n) (reports n) .lowest ≡ taskLimit)
-g-none-cut = none-cut table-g g-ranged reports 8 g-passes
+g-none-cut = none-cut table-g g-ranged (tieOrder table-g) reports 8 g-passes
 
 g-never-refused : (n : ℕ) → n < slotCountLimit → _≡_ {A = Stepped} (stepped table-g (stateAt table-g reports n) (reports n)) (record { answer = SlotAnswer.Slot (turn table-g (stateAt table-g reports n) (reports n)); state = stateAt table-g reports (suc n) })
 unfolding judged judgedMixed firstButton firstFaulty taskFault first round load horizon largest sum count
-g-never-refused n = never-refused table-g (record { round = 4; load = 4; horizon = 8 }) refl reports n
+g-never-refused n = never-refused table-g (record { round = 4; load = 4; horizon = 8 }) refl (tieOrder table-g) reports n
 
 g-full : stepped table-g (stateAt table-g reports slotCountLimit) (reports slotCountLimit) ≡ refuseStep (refusal 9 0) (stateAt table-g reports slotCountLimit)
 unfolding judged judgedMixed firstButton firstFaulty taskFault first round load horizon largest sum count
-g-full = full table-g (record { round = 4; load = 4; horizon = 8 }) refl reports slotCountLimit refl
+g-full = full table-g (record { round = 4; load = 4; horizon = 8 }) refl (tieOrder table-g) reports slotCountLimit refl
 
 g-counted : (slotCount table-g (stateAt table-g reports 5) ≡ 5) × (givenOf (stateAt table-g reports 5) 1 ≡ count (λ k. eqb (ownerAt table-g reports k) 1) 5) × (stateAt table-g reports 5 .empty ≡ count (λ k. eqb (ownerAt table-g reports k) taskLimit) 5)
-g-counted = (slots-are table-g g-ranged reports 5, given-is table-g g-ranged reports 5 1 (lit< tt), empty-is table-g reports 5)
+g-counted = (slots-are table-g g-ranged (tieOrder table-g) reports 5, given-is table-g g-ranged (tieOrder table-g) reports 5 1 (lit< tt), empty-is table-g (tieOrder table-g) reports 5)
 
 -- A state of table g that somebody else made: task 0 is open with one slot left and its wait is 2, and task 1 ran last.
 other : State
@@ -328,10 +328,10 @@ unfolding other firstStrange first
 g-belongs = record { waits = refl; lefts = refl; gives = refl; each = lit≤ tt; ran = refl }
 
 g-belongs-after : Belongs table-g (after table-g other true)
-g-belongs-after = belongs-after table-g g-ranged other true g-belongs
+g-belongs-after = belongs-after table-g g-ranged (tieOrder table-g) other true g-belongs
 
 g-slots-after : slotCount table-g (after table-g other true) ≡ slotCount table-g other + 1
-g-slots-after = slots-after table-g g-ranged other true g-belongs
+g-slots-after = slots-after table-g g-ranged (tieOrder table-g) other true g-belongs
 
 -- Table f has load exactly 1 and is late at 5, past its horizon of 4; so it is late within it too.
 f-ranged : Ranged table-f

@@ -47,7 +47,7 @@ pub mod Lowered
 pub mod Largest
 pub mod Unique
 pub mod AnswersSay
--- What the dispatcher does, in the model's words.
+-- What the dispatcher does, in the model's words and in any order of the tasks.
 pub mod Taken
 pub mod Stepping
 pub mod Accounts
@@ -60,7 +60,7 @@ pub mod NoneAfter
 pub mod NoneCut
 pub mod InTime
 pub mod NoneWaits
--- What a walk to the horizon sees, and the answer by it.
+-- What a walk to the horizon sees, in any order of the tasks, and the answer by it in ours.
 pub mod Walk
 pub mod WalkLate
 pub mod WalkWorst

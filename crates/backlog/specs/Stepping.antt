@@ -10,22 +10,23 @@ use lib.ListN.{getD}
 use Rattle.values.specs.declared.Table.{Table}
 use Rattle.model.specs.Limits.{taskLimit}
 use Rattle.model.specs.Tasks.{task}
-use Rattle.model.specs.Dispatcher.{State, waitOf, leftOf, startOf, isLate, waitReleased, leftReleased, after}
-use Rattle.model.specs.History.{stateAt, ownerAt}
+use Rattle.model.specs.Run.{Order}
+use Rattle.model.specs.Dispatcher.{State, waitOf, leftOf, startOf, isLate, waitReleased, leftReleased, afterBy}
+use Rattle.model.specs.History.{stateAtBy, ownerAtBy}
 use Rattle.counting.specs.Fill.{fill-ahead, getD-same}
 use Rattle.counting.specs.Below.{below-none}
 use Rattle.wellformed.specs.Ranges.{Ranged}
 use Rattle.backlog.specs.Domination.{Releases, releases}
 use Rattle.backlog.specs.System.{System, releaseOf, dueOf, jobs, releasedBy}
-use Rattle.backlog.specs.TableSystem.{tieSystem}
+use Rattle.backlog.specs.TableSystem.{systemOf}
 use Rattle.backlog.specs.Taken.{Belongs, KeptOrClosed, closed-late-iff, left-done-le, kept-or-closed, wait-start, left-start, belongs-start, wait-after, left-after, belongs-after, kept-open, dueIn}
 
-module _ (t : Table) (r : Ranged t) (done : ℕ → Bool) where
+module _ (t : Table) (r : Ranged t) (rank : Order) (done : ℕ → Bool) where
   abbrev S : System
-  S = tieSystem t r
+  S = systemOf t r rank
 
   abbrev before : ℕ → State
-  before n = stateAt t done n
+  before n = stateAtBy t rank done n
 
   -- What holds of every state.
   pub record Sound (n : ℕ) : Type 0 where
@@ -88,21 +89,21 @@ module _ (t : Table) (r : Ranged t) (done : ℕ → Bool) where
           (j, k .passed ∙ b, omega (arith, k .wait, r .each i l .deadline-le), omega (arith, apart, r .each i l .deadline-le))
 
   -- What a step leaves of a job.
-  pub left-next : (n i : ℕ) → Sound n → i < t .count → leftOf (before (suc n)) i ≡ leftReleased t (before n) (done n) i - cond (eqb (ownerAt t done n) i) 1 0
-  unfolding stateAt
-  left-next n i s l = left-after t r (before n) (done n) (s .belongs) i l
+  pub left-next : (n i : ℕ) → Sound n → i < t .count → leftOf (before (suc n)) i ≡ leftReleased t (before n) (done n) i - cond (eqb (ownerAtBy t rank done n) i) 1 0
+  unfolding stateAtBy
+  left-next n i s l = left-after t r rank (before n) (done n) (s .belongs) i l
 
   -- Every state is sound.
   sound-after : (n : ℕ) → Sound n → Sound (suc n)
-  unfolding stateAt
+  unfolding stateAtBy
   sound-after n s = record {
-    belongs = belongs-after t r (before n) (done n) (s .belongs);
-    next = λ i l. omega (arith, wait-after t r (before n) (done n) (s .belongs) i l, next-wait n i s l);
+    belongs = belongs-after t r rank (before n) (done n) (s .belongs);
+    next = λ i l. omega (arith, wait-after t r rank (before n) (done n) (s .belongs) i l, next-wait n i s l);
     current = λ i l p. let (j, b, e, d) = ready-is n i s l (omega (arith, left-next n i s l)) in (j, b, d);
   }
 
   pub sound : (n : ℕ) → Sound n
-  unfolding stateAt
+  unfolding stateAtBy
   sound zero = record {
     belongs = belongs-start t r;
     next = λ i l. omega (arith, wait-start t r i l, ap (releaseOf S i) (below-none (releaseOf S i)));
@@ -110,9 +111,9 @@ module _ (t : Table) (r : Ranged t) (done : ℕ → Bool) where
   }
   sound (suc n) = sound-after n (sound n)
 
-module _ (t : Table) (done : ℕ → Bool) where
+module _ (t : Table) (rank : Order) (done : ℕ → Bool) where
   -- Entries past the table's last task are 0 from the start on.
-  pub past-none : (n i : ℕ) → t .count ≤ i → (getD (stateAt t done n .wait) i 0 ≡ 0) × (getD (stateAt t done n .left) i 0 ≡ 0) × (getD (stateAt t done n .given) i 0 ≡ 0)
-  unfolding stateAt startOf after
+  pub past-none : (n i : ℕ) → t .count ≤ i → (getD (stateAtBy t rank done n .wait) i 0 ≡ 0) × (getD (stateAtBy t rank done n .left) i 0 ≡ 0) × (getD (stateAtBy t rank done n .given) i 0 ≡ 0)
+  unfolding stateAtBy startOf afterBy
   past-none zero i l = (fill-ahead (t .count) _ _ i 0 l ∙ getD-same taskLimit 0 i, getD-same taskLimit 0 i, getD-same taskLimit 0 i)
   past-none (suc n) i l = (fill-ahead (t .count) _ _ i 0 l ∙ past-none n i l .0, fill-ahead (t .count) _ _ i 0 l ∙ past-none n i l .1, fill-ahead (t .count) _ _ i 0 l ∙ past-none n i l .2)

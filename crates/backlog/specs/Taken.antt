@@ -12,8 +12,8 @@ use Rattle.values.specs.declared.Table.{Table}
 use Rattle.model.specs.Limits.{taskLimit}
 use Rattle.model.specs.Notation.{bit, sum}
 use Rattle.model.specs.Tasks.{task, offset}
-use Rattle.model.specs.Run.{tieOrder}
-use Rattle.model.specs.Dispatcher.{State, waitOf, leftOf, isOpen, givenOf, slotCount, strange, firstStrange, lastStrange, startOf, leftDone, isLate, leftLate, waitReleased, leftReleased, ownerNow, after}
+use Rattle.model.specs.Run.{Order}
+use Rattle.model.specs.Dispatcher.{State, waitOf, leftOf, isOpen, givenOf, slotCount, strange, firstStrange, lastStrange, startOf, leftDone, isLate, leftLate, waitReleased, leftReleased, ownerNowBy, afterBy}
 use Rattle.counting.specs.Count.{and-iff, eq→eqb, one-of-iff, or-left, or-right}
 use Rattle.counting.specs.Search.{first-before, first-none}
 use Rattle.counting.specs.Sum.{sum-eq, sum-by}
@@ -118,22 +118,22 @@ module _ (t : Table) where
   dueIn d done i = waitReleased t d done i - (task t i .period - task t i .deadline)
 
   -- The slot goes to the open job of the earliest deadline.
-  abbrev pub Picks : State → Bool → Type 0
-  Picks d done = Chosen (λ i. ltb 0 (leftReleased t d done i)) (dueIn d done) (tieOrder t) (t .count) (ownerNow t d done)
+  abbrev pub Picks : Order → State → Bool → Type 0
+  Picks rank d done = Chosen (λ i. ltb 0 (leftReleased t d done i)) (dueIn d done) rank (t .count) (ownerNowBy t rank d done)
 
-  pub chosen : (d : State) (done : Bool) → t .count ≤ taskLimit → Picks d done
-  unfolding ownerNow
-  chosen d done few = choose-is _ _ _ (t .count) few
+  pub chosen : (rank : Order) (d : State) (done : Bool) → t .count ≤ taskLimit → Picks rank d done
+  unfolding ownerNowBy
+  chosen rank d done few = choose-is _ _ _ (t .count) few
 
   -- A task that it goes to has slots left; there is one, or it goes to none.
-  pub owner-ready : (d : State) (done : Bool) → t .count ≤ taskLimit → (i : ℕ) → i < t .count → ownerNow t d done ≡ i → 0 < leftReleased t d done i
-  owner-ready d done few i l e = elim (chosen d done few) [
+  pub owner-ready : (rank : Order) (d : State) (done : Bool) → t .count ≤ taskLimit → (i : ℕ) → i < t .count → ownerNowBy t rank d done ≡ i → 0 < leftReleased t d done i
+  owner-ready rank d done few i l e = elim (chosen rank d done few) [
     | inl c ↦ absurd (omega (arith, c .none))
     | inr c ↦ ltb→lt 0 (leftReleased t d done i) (subst (λ (k : ℕ). T (ltb 0 (leftReleased t d done k))) e (c .opened))
   ]
 
-  pub owner-one : (d : State) (done : Bool) → t .count ≤ taskLimit → (ownerNow t d done ≡ taskLimit) ⊎ (ownerNow t d done < t .count)
-  owner-one d done few = elim (chosen d done few) [ inl c ↦ inl (c .none) | inr c ↦ inr (c .bound) ]
+  pub owner-one : (rank : Order) (d : State) (done : Bool) → t .count ≤ taskLimit → (ownerNowBy t rank d done ≡ taskLimit) ⊎ (ownerNowBy t rank d done < t .count)
+  owner-one rank d done few = elim (chosen rank d done few) [ inl c ↦ inl (c .none) | inr c ↦ inr (c .bound) ]
 
   -- No job has more slots left than its cost.
   pub released-le : (d : State) (done : Bool) → Belongs d → (i : ℕ) → i < t .count → leftReleased t d done i ≤ task t i .cost
@@ -167,22 +167,22 @@ module _ (t : Table) where
       ran = refl;
     }
 
-    module _ (d : State) (done : Bool) (b : Belongs d) where
-      pub wait-after : (i : ℕ) → i < t .count → waitOf (after t d done) i ≡ waitReleased t d done i - 1
-      unfolding after
+    module _ (rank : Order) (d : State) (done : Bool) (b : Belongs d) where
+      pub wait-after : (i : ℕ) → i < t .count → waitOf (afterBy t rank d done) i ≡ waitReleased t d done i - 1
+      unfolding afterBy
       wait-after i l = fill-passed (t .count) (λ i. waitReleased t d done i - 1) (d .wait) i 0 l (omega (arith, b .waits, r .few))
 
-      pub left-after : (i : ℕ) → i < t .count → leftOf (after t d done) i ≡ leftReleased t d done i - cond (eqb (ownerNow t d done) i) 1 0
-      unfolding after
-      left-after i l = fill-passed (t .count) (λ i. leftReleased t d done i - cond (eqb (ownerNow t d done) i) 1 0) (d .left) i 0 l (omega (arith, b .lefts, r .few))
+      pub left-after : (i : ℕ) → i < t .count → leftOf (afterBy t rank d done) i ≡ leftReleased t d done i - cond (eqb (ownerNowBy t rank d done) i) 1 0
+      unfolding afterBy
+      left-after i l = fill-passed (t .count) (λ i. leftReleased t d done i - cond (eqb (ownerNowBy t rank d done) i) 1 0) (d .left) i 0 l (omega (arith, b .lefts, r .few))
 
-      ordinary-after : (i : ℕ) → i < t .count → Ordinary (after t d done) i
+      ordinary-after : (i : ℕ) → i < t .count → Ordinary (afterBy t rank d done) i
       ordinary-after i l = go (ℕ-discrete (waitOf d i) 0)
         where
-          left-le : leftOf (after t d done) i ≤ task t i .cost
+          left-le : leftOf (afterBy t rank d done) i ≤ task t i .cost
           left-le = omega (arith, left-after i l, released-le d done b i l)
 
-          go : Dec (waitOf d i ≡ 0) → Ordinary (after t d done) i
+          go : Dec (waitOf d i ≡ 0) → Ordinary (afterBy t rank d done) i
           go (yes e) =
               let w : waitReleased t d done i ≡ task t i .period = rw (eq-eqb (waitOf d i) 0 e) in
               let k = r .each i l in
@@ -195,7 +195,7 @@ module _ (t : Table) where
           go (no e) =
               let w : waitReleased t d done i ≡ waitOf d i = rw (ne-eqb (waitOf d i) 0 e) in
               let o = known d b i l in
-              let was : 0 < leftOf (after t d done) i → (0 < leftOf d i) × (waitOf d i ≢ task t i .period - task t i .deadline) = λ p. kept-open d done i l e (omega (arith, left-after i l)) in
+              let was : 0 < leftOf (afterBy t rank d done) i → (0 < leftOf d i) × (waitOf d i ≢ task t i .period - task t i .deadline) = λ p. kept-open d done i l e (omega (arith, left-after i l)) in
               record {
                 wait-le = omega (arith, wait-after i l, w, o .wait-le);
                 left-le = left-le;
@@ -204,28 +204,28 @@ module _ (t : Table) where
               }
 
       -- The successor belongs to the table.
-      pub belongs-after : Belongs (after t d done)
-      unfolding after
+      pub belongs-after : Belongs (afterBy t rank d done)
+      unfolding afterBy
       belongs-after = record {
         waits = fill-length (t .count) _ _ ∙ b .waits;
         lefts = fill-length (t .count) _ _ ∙ b .lefts;
         gives = fill-length (t .count) _ _ ∙ b .gives;
-        each = none-strange (after t d done) ordinary-after;
-        ran = one-of-iff (ownerNow t d done) taskLimit (t .count) .1 (owner-one d done (r .few));
+        each = none-strange (afterBy t rank d done) ordinary-after;
+        ran = one-of-iff (ownerNowBy t rank d done) taskLimit (t .count) .1 (owner-one rank d done (r .few));
       }
 
       -- Each task has counted one slot more if it is the owner.
-      pub given-after : (i : ℕ) → i < t .count → givenOf (after t d done) i ≡ givenOf d i + bit (eqb (ownerNow t d done) i)
-      unfolding after
-      given-after i l = fill-passed (t .count) (λ i. givenOf d i + bit (eqb (ownerNow t d done) i)) (d .given) i 0 l (omega (arith, b .gives, r .few))
+      pub given-after : (i : ℕ) → i < t .count → givenOf (afterBy t rank d done) i ≡ givenOf d i + bit (eqb (ownerNowBy t rank d done) i)
+      unfolding afterBy
+      given-after i l = fill-passed (t .count) (λ i. givenOf d i + bit (eqb (ownerNowBy t rank d done) i)) (d .given) i 0 l (omega (arith, b .gives, r .few))
 
       -- The slots counted are one more, be they given or empty.
-      pub slots-after : slotCount t (after t d done) ≡ slotCount t d + 1
-      unfolding slotCount after
-      slots-after = go (owner-one d done (r .few))
+      pub slots-after : slotCount t (afterBy t rank d done) ≡ slotCount t d + 1
+      unfolding slotCount afterBy
+      slots-after = go (owner-one rank d done (r .few))
         where
-          go : (ownerNow t d done ≡ taskLimit) ⊎ (ownerNow t d done < t .count) → sum (t .count) (givenOf (after t d done)) + (d .empty + bit (eqb (ownerNow t d done) taskLimit)) ≡ sum (t .count) (givenOf d) + d .empty + 1
-          go (inl e) = rw (eq-eqb (ownerNow t d done) taskLimit e) (omega (arith, sum-eq (t .count) (givenOf (after t d done)) (givenOf d) (λ i l. rw (ne-eqb (ownerNow t d done) i (λ x. absurd (omega (arith, r .few)))) at (given-after i l) ∙ omega arith)))
+          go : (ownerNowBy t rank d done ≡ taskLimit) ⊎ (ownerNowBy t rank d done < t .count) → sum (t .count) (givenOf (afterBy t rank d done)) + (d .empty + bit (eqb (ownerNowBy t rank d done) taskLimit)) ≡ sum (t .count) (givenOf d) + d .empty + 1
+          go (inl e) = rw (eq-eqb (ownerNowBy t rank d done) taskLimit e) (omega (arith, sum-eq (t .count) (givenOf (afterBy t rank d done)) (givenOf d) (λ i l. rw (ne-eqb (ownerNowBy t rank d done) i (λ x. absurd (omega (arith, r .few)))) at (given-after i l) ∙ omega arith)))
           go (inr l) =
-              rw (ne-eqb (ownerNow t d done) taskLimit (λ x. absurd (omega (arith, r .few))))
-              (omega (arith, sum-by (t .count) (givenOf (after t d done)) (givenOf d) (ownerNow t d done) 1 l (rw (eq-eqb (ownerNow t d done) (ownerNow t d done) refl) at (given-after (ownerNow t d done) l)) (λ i m x. rw (ne-eqb (ownerNow t d done) i (λ y. x (sym y))) at (given-after i m) ∙ omega arith)))
+              rw (ne-eqb (ownerNowBy t rank d done) taskLimit (λ x. absurd (omega (arith, r .few))))
+              (omega (arith, sum-by (t .count) (givenOf (afterBy t rank d done)) (givenOf d) (ownerNowBy t rank d done) 1 l (rw (eq-eqb (ownerNowBy t rank d done) (ownerNowBy t rank d done) refl) at (given-after (ownerNowBy t rank d done) l)) (λ i m x. rw (ne-eqb (ownerNowBy t rank d done) i (λ y. x (sym y))) at (given-after i m) ∙ omega arith)))

@@ -19,7 +19,7 @@ use Rattle.model.specs.Limits.{taskLimit, slotCountLimit}
 use Rattle.model.specs.Notation.{bit, bits, fill}
 use Rattle.model.specs.Tasks.{task, measure}
 use Rattle.model.specs.Run.{tieOrder}
-use Rattle.model.specs.Dispatcher.{State, Stepped, waitOf, givenOf, slotCount, admittedBy, leftDone, isLate, leftLate, leftReleased, ownerNow, after, turn, stepAdmitted}
+use Rattle.model.specs.Dispatcher.{State, Stepped, waitOf, givenOf, slotCount, admittedBy, leftDone, isLate, leftLate, leftReleased, ownerNow, ownerNowBy, after, afterBy, turn, turnBy, stepAdmittedBy}
 use Rattle.counting.specs.Count.{and-iff, one-of-iff}
 use Rattle.counting.specs.Sum.{sum-member}
 use Rattle.counting.specs.Fill.{fill-eq, fill-same, fill-again}
@@ -42,7 +42,7 @@ taken t d done = record { answer = SlotAnswer.Slot (turn t d done); state = afte
 
 -- A step on a well-formed table: refused by 8 or by 9, or taken.
 abbrev pub stepWellFormed : Table → State → Bool → Stepped
-stepWellFormed t d done = stepAdmitted t d done (admittedBy t d (Judgement.WellFormed (measure t)))
+stepWellFormed t d done = stepAdmittedBy t (tieOrder t) d done (admittedBy t d (Judgement.WellFormed (measure t)))
 
 -- These lists, of n tasks, are the table's.
 abbrev pub Unpacked : Table → List ℕ → List ℕ → List ℕ → List ℕ → ℕ → Type 0
@@ -126,7 +126,7 @@ module _ (t : Table) (d : State) (done : Bool) (unrefused : Unrefused t d) (whol
     slot = table-served t (unrefused .ranged .few) (d .wait) left (waitOf d) (leftLate t d done) (λ i l. refl) (filled-has (leftLate t d done) e) (s .slot none-late)
 
     owner-is : seen .owner ≡ ownerNow t d done
-    unfolding ownerNow
+    unfolding ownerNowBy
     owner-is = slot .owned
 
     lefts-are : left′ ≡ fill (t .count) (λ i. leftReleased t d done i - cond (eqb (ownerNow t d done) i) 1 0) (d .left)
@@ -151,25 +151,25 @@ module _ (t : Table) (d : State) (done : Bool) (unrefused : Unrefused t d) (whol
     serving = rw (ap (λ (x : Columns). x .period) (c .1), ap (λ (x : Columns). x .cost) (c .1), slacks, ap (λ (x : Columns). x .rank) (c .1), c .0) at s
 
     pub advanced-is : Advanced t d done (record { wait = wait′; left = left′; owner = seen .owner; late = late })
-    unfolding after
+    unfolding afterBy
     advanced-is = record { waits = slot lefts-left serving .waits; lefts = lefts-are lefts-left serving; owned = owner-is lefts-left serving; lates = late-are }
 
 -- And the slot counted: the owner is a task of the table or none, and its count has room for one slot more.
 module _ (t : Table) (d : State) (done : Bool) (unrefused : Unrefused t d) (m : Moved) (a : Advanced t d done m) where
   one : (m .owner ≡ taskLimit) ⊎ (m .owner < t .count)
-  one = rw (a .owned) (owner-one t d done (unrefused .ranged .few))
+  one = rw (a .owned) (owner-one t (tieOrder t) d done (unrefused .ranged .few))
 
   pub owner-room : m .owner < taskLimit → getD (d .given) (m .owner) 0 < slotCountLimit
   unfolding slotCount
   owner-room l = elim one [ inl e ↦ absurd (omega arith) | inr k ↦ omega (arith, unrefused .room, sum-member (t .count) (givenOf d) (m .owner) k) ]
 
   pub state-is : {given : List ℕ} {empty : ℕ} → given ≡ counted (d .given) (m .owner) → empty ≡ d .empty + bit (eqb (m .owner) taskLimit) → stateWith (m .wait) (m .left) (m .owner) given empty ≡ after t d done
-  unfolding after
+  unfolding afterBy
   state-is g h =
       let gives : counted (d .given) (m .owner) ≡ fill (t .count) (λ i. givenOf d i + bit (eqb (ownerNow t d done) i)) (d .given) = counted-fill (t .count) (d .given) (m .owner) (unrefused .ranged .few) one ∙ rw (a .owned) in
       rw (g, h, gives, a .waits, a .lefts, a .owned)
 
   pub taken-is : {answer : Turn} {given : List ℕ} {empty : ℕ} → given ≡ counted (d .given) (m .owner) → answer ≡ turnOf (m .owner) (m .late) → empty ≡ d .empty + bit (eqb (m .owner) taskLimit)
       → record { answer = SlotAnswer.Slot answer; state = stateWith (m .wait) (m .left) (m .owner) given empty } ≡ taken t d done
-  unfolding turn
+  unfolding turnBy
   taken-is g w h = rw (w, state-is g h, a .owned, a .lates, ones-bits, trailing-bits)

@@ -11,12 +11,13 @@ use lib.ListN.{replicate}
 use Rattle.values.specs.declared.Table.{Table}
 use Rattle.model.specs.Limits.{taskLimit}
 use Rattle.model.specs.Tasks.{task, round, load}
+use Rattle.model.specs.Run.{tieOrder}
 use Rattle.model.specs.Dispatcher.{startOf}
 use Rattle.model.specs.History.{stateAt, ownerAt}
 use Rattle.wellformed.specs.Ranges.{Ranged}
 use Rattle.backlog.specs.Taken.{owner-one}
 use Rattle.backlog.specs.Walk.{quiet}
-use Rattle.backlog.specs.WalkWorst.{worstBy}
+use Rattle.backlog.specs.WalkWorst.{worstBy, worstSeen}
 use Rattle.slots.specs.Columns.{columnsOf}
 use Rattle.slots.specs.Laws.{fill-has}
 use Rattle.slots.specs.declared.Seen.{Seen}
@@ -42,8 +43,8 @@ module _ (t : Table) (r : Ranged t) (light : load t ≤ round t) (n : ℕ) {wait
 -- The responses are noted at the last slot of a job.
 module _ (t : Table) (r : Ranged t) (n : ℕ) {wait left : List ℕ} {owner : ℕ} (w : Walked t (suc n) wait left) (owned : owner ≡ ownerAt t quiet n) where
   worst-next : notedOf (worstBy t n) owner (columnsOf t .period) wait left ≡ worstBy t (suc n)
-  unfolding worstBy columnsOf
-  worst-next = go (rw owned (owner-one t (stateAt t quiet n) false (r .few)))
+  unfolding worstSeen columnsOf
+  worst-next = go (rw owned (owner-one t (tieOrder t) (stateAt t quiet n) false (r .few)))
     where
       go : (owner ≡ taskLimit) ⊎ (owner < t .count) → notedOf (worstBy t n) owner (columnsOf t .period) wait left ≡ worstBy t (suc n)
       go (inl e) = rw (le-ltb owner taskLimit (omega arith), ← owned, le-ltb owner (t .count) (omega (arith, r .few)))

@@ -11,6 +11,7 @@ use lib.Seq.{getD-set-same, getD-set-other}
 use Rattle.values.specs.declared.Table.{Table}
 use Rattle.model.specs.Limits.{taskLimit}
 use Rattle.model.specs.Demand.{lateAt}
+use Rattle.model.specs.Run.{tieOrder}
 use Rattle.model.specs.Dispatcher.{waitOf, leftOf}
 use Rattle.wellformed.specs.Ranges.{Ranged}
 use Rattle.backlog.specs.Taken.{closed-late-iff}
@@ -46,7 +47,7 @@ module _ (t : Table) (r : Ranged t) {n e : ℕ} (later : n < e) (leapt : Leapt t
 
   -- One that is makes e late.
   pub late-there : (k : ℕ) → k < t .count → 0 < leftOf (walked t e) k → e ≡ n + (W t r n k - slack t k) → T (lateAt t e)
-  late-there k l p d = late-iff t r e (leapt .clear) .0 (k, l, closed-late-iff t (walked t e) false k .1 (l, p, omega (arith, leapt .wait k l)))
+  late-there k l p d = late-iff t r (tieOrder t) e (leapt .clear) .0 (k, l, closed-late-iff t (walked t e) false k .1 (l, p, omega (arith, leapt .wait k l)))
 
   module _ {releases ready left : List ℕ} {jobs : ℕ} (h : Held t n (W t r n) (L t r n) releases ready left jobs) where
     still-coming : Queue (Coming t e (waitOf (walked t e))) releases (t .count)

@@ -13,7 +13,7 @@ use Rattle.model.specs.Tasks.{task}
 use Rattle.model.specs.Demand.{lateAt}
 use Rattle.model.specs.Run.{tieOrder}
 use Rattle.model.specs.Dispatcher.{waitOf, leftOf, isLate, leftLate, waitReleased, leftReleased}
-use Rattle.model.specs.History.{stateAt, ownerAt}
+use Rattle.model.specs.History.{stateAtBy, ownerAt}
 use Rattle.counting.specs.Count.{is-false}
 use Rattle.counting.specs.Search.{below-suc}
 use Rattle.wellformed.specs.Ranges.{Ranged}
@@ -22,7 +22,7 @@ use Rattle.backlog.specs.Taken.{closed-late-iff, chosen, wait-after, left-after
 use Rattle.backlog.specs.Stepping.{sound}
 use Rattle.backlog.specs.Walk.{quiet, walked, Clear}
 use Rattle.backlog.specs.WalkLate.{late-iff}
-use Rattle.backlog.specs.WalkWorst.{noted, worstBy}
+use Rattle.backlog.specs.WalkWorst.{noted, worstBy, worstSeen}
 
 -- What a task waits at its deadline: T - D.
 abbrev pub slack : Table → ℕ → ℕ
@@ -31,16 +31,16 @@ slack t i = task t i .period - task t i .deadline
 module _ (t : Table) (r : Ranged t) where
   -- Once no job is late at n, one slot takes one off every wait, and one off what its owner has left.
   pub slot-wait : (n i : ℕ) → i < t .count → waitOf (walked t (suc n)) i ≡ waitReleased t (walked t n) false i - 1
-  unfolding stateAt
-  slot-wait n i l = wait-after t r (walked t n) false (sound t r quiet n .belongs) i l
+  unfolding stateAtBy
+  slot-wait n i l = wait-after t r (tieOrder t) (walked t n) false (sound t r (tieOrder t) quiet n .belongs) i l
 
   pub slot-left : (n i : ℕ) → i < t .count → leftOf (walked t (suc n)) i ≡ leftReleased t (walked t n) false i - cond (eqb (ownerAt t quiet n) i) 1 0
-  unfolding stateAt
-  slot-left n i l = left-after t r (walked t n) false (sound t r quiet n .belongs) i l
+  unfolding stateAtBy
+  slot-left n i l = left-after t r (tieOrder t) (walked t n) false (sound t r (tieOrder t) quiet n .belongs) i l
 
   -- Where no deadline up to n is late, none is closed.
   pub none-closed : (n : ℕ) → Clear t (suc n) → (i : ℕ) → i < t .count → leftLate t (walked t n) false i ≡ leftOf (walked t n) i
-  none-closed n c i l = rw (is-false (isLate t (walked t n) false i) (λ h. c n (le-refl (suc n)) (late-iff t r n (λ u m. c u (le-step m)) .0 (i, l, h)))) refl
+  none-closed n c i l = rw (is-false (isLate t (walked t n) false i) (λ h. c n (le-refl (suc n)) (late-iff t r (tieOrder t) n (λ u m. c u (le-step m)) .0 (i, l, h)))) refl
 
 module _ (t : Table) (r : Ranged t) (n : ℕ) where
   -- The waits and slots left once the jobs of slot n are released, and its owner.
@@ -72,7 +72,7 @@ module _ (t : Table) (r : Ranged t) (n : ℕ) where
 
   -- Of the open tasks the owner comes first.
   first-due : (i : ℕ) → i < t .count → 0 < L i → (owner < t .count) × NoLater (λ k. W k - slack t k) (tieOrder t) owner i
-  first-due i l p = elim (chosen t (walked t n) false (r .few)) [
+  first-due i l p = elim (chosen t (tieOrder t) (walked t n) false (r .few)) [
     | inl c ↦ absurd (c .shut i l (lt→ltb 0 (L i) p))
     | inr c ↦ (c .bound, c .ahead i l (lt→ltb 0 (L i) p))
   ]
@@ -82,7 +82,7 @@ module _ (t : Table) (r : Ranged t) (n : ℕ) where
 
   -- The first slot.
   once : Clear t (suc n) → Within (suc n) → Leapt (suc n)
-  unfolding worstBy
+  unfolding worstSeen
   once c b = record {
     clear = c;
     wait = λ i l. omega (arith, slot-wait t r n i l, b .waits i l);
@@ -105,7 +105,7 @@ module _ (t : Table) (r : Ranged t) (n : ℕ) where
 
     calm : T (lateAt t e) → ⊥
     calm h =
-        let (i, l, x) = late-iff t r e (at .clear) .1 h in
+        let (i, l, x) = late-iff t r (tieOrder t) e (at .clear) .1 h in
         let (m, p, q) = closed-late-iff t (walked t e) false i .0 x in
         omega (arith, at .wait i l, due-ahead i l (was-open i l p))
 
@@ -125,8 +125,8 @@ module _ (t : Table) (r : Ranged t) (n : ℕ) where
         (λ i l p. lt→ltb 0 (L i) (was-open i l (omega (arith, left-same i l, ltb→lt 0 (leftReleased t (walked t e) false i) p))))
         (λ i l p. lt→ltb 0 (leftReleased t (walked t e) false i) (omega (arith, left-same i l, still-open i l (ltb→lt 0 (L i) p))))
         (λ i k l m p q x. alike i k l m (was-open i l (omega (arith, left-same i l, ltb→lt 0 (leftReleased t (walked t e) false i) p))) (was-open k m (omega (arith, left-same k m, ltb→lt 0 (leftReleased t (walked t e) false k) q))) x)
-        (chosen t (walked t e) false (r .few))
-        (chosen t (walked t n) false (r .few))
+        (chosen t (tieOrder t) (walked t e) false (r .few))
+        (chosen t (tieOrder t) (walked t n) false (r .few))
       where
         moved : (i : ℕ) → i < t .count → 0 < L i → waitReleased t (walked t e) false i - slack t i + e ≡ W i - slack t i + n
         moved i l p = omega (arith, wait-same i l, at .wait i l, due-ahead i l p)
@@ -147,7 +147,7 @@ module _ (t : Table) (r : Ranged t) (n : ℕ) where
         ]
 
     again : Leapt (suc e)
-    unfolding worstBy
+    unfolding worstSeen
     again = record {
       clear = clear-next;
       wait = λ i l. omega (arith, slot-wait t r e i l, wait-same i l, at .wait i l, b .waits i l);

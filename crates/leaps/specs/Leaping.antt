@@ -12,7 +12,7 @@ use Rattle.model.specs.Limits.{taskLimit}
 use Rattle.model.specs.Tasks.{task, round, load, offset}
 use Rattle.model.specs.Demand.{lateAt}
 use Rattle.model.specs.Dispatcher.{waitOf, leftOf, waitReleased, leftReleased}
-use Rattle.model.specs.History.{stateAt}
+use Rattle.model.specs.History.{stateAtBy}
 use Rattle.counting.specs.Fill.{getD-same}
 use Rattle.wellformed.specs.Ranges.{Ranged}
 use Rattle.wellformed.specs.WellFormed.{horizonLimit}
@@ -86,11 +86,11 @@ module _ {t : Table} {period cost deadline releases ready left worst : List ℕ}
 
 module _ (t : Table) (r : Ranged t) where
   wait-first : (i : ℕ) → i < t .count → waitOf (walked t 0) i ≡ offset (task t i)
-  unfolding stateAt
+  unfolding stateAtBy
   wait-first i l = wait-start t r i l
 
   left-first : (i : ℕ) → leftOf (walked t 0) i ≡ 0
-  unfolding stateAt
+  unfolding stateAtBy
   left-first i = left-start t i
 
   pub leaping-start : load t ≤ round t → {period cost deadline releases : List ℕ} {last end : ℕ} → Columned t last period cost deadline → end ≤ horizonLimit → Queue (Coming t 0 (λ i. offset (task t i))) releases (t .count)

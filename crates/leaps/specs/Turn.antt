@@ -43,7 +43,7 @@ calm-clear t r {n} c ahead = below-suc (λ u. T (lateAt t u) → ⊥) n c never
   where
     never : T (lateAt t n) → ⊥
     never h =
-        let (i, l, x) = late-iff t r n c .1 h in
+        let (i, l, x) = late-iff t r (tieOrder t) n c .1 h in
         let (m, p, q) = closed-late-iff t (walked t n) false i .0 x in
         omega (arith, ahead i l p)
 
@@ -101,7 +101,7 @@ module _
       shut k l p = let (a, m, e) = h .waiting .found _ (k, l, p, refl) in omega arith
 
       nobody : owner t r n ≡ taskLimit
-      nobody = elim (chosen t (walked t n) false (r .few)) [ inl c ↦ c .none | inr c ↦ absurd (shut (owner t r n) (c .bound) (lt-of (c .opened))) ]
+      nobody = elim (chosen t (tieOrder t) (walked t n) false (r .few)) [ inl c ↦ c .none | inr c ↦ absurd (shut (owner t r n) (c .bound) (lt-of (c .opened))) ]
         where
           lt-of : T (ltb 0 (L t r n (owner t r n))) → 0 < L t r n (owner t r n)
           lt-of x = ltb→lt 0 (L t r n (owner t r n)) x
@@ -165,7 +165,7 @@ module _
 
       pub owner-is : key % places ≡ o
       owner-is =
-          chosen-same _ _ _ _ (tieOrder t) (t .count) (key % places) o (r .few) (λ i l p. p) (λ i l p. p) (λ i k l m p q x. x) (inr first) (chosen t (walked t n) false (r .few))
+          chosen-same _ _ _ _ (tieOrder t) (t .count) (key % places) o (r .few) (λ i l p. p) (λ i l p. p) (λ i k l m p q x. x) (inr first) (chosen t (tieOrder t) (walked t n) false (r .few))
         where
           ahead : (d e i k : ℕ) → i < t .count → k < t .count → entry t (n + d) i ≤ entry t (n + e) k → Ahead d (standing (tieOrder t) i) e (standing (tieOrder t) k)
           ahead d e i k l m x = elim (entry-order t r (n + d) (n + e) i k l m x) [ inl p ↦ inl (omega arith) | inr p ↦ inr (omega (arith, p .0), p .1) ]
@@ -196,7 +196,7 @@ module _
       left-is = ap (at left) owner-is ∙ h .lefts o bound
 
       pub left-small : at left (key % places) ≤ slotLimit
-      left-small = omega (arith, left-is, released-le t (walked t n) false (sound t r quiet n .belongs) o bound, r .each o bound .cost-le, r .each o bound .deadline-le, r .each o bound .period-le)
+      left-small = omega (arith, left-is, released-le t (walked t n) false (sound t r (tieOrder t) quiet n .belongs) o bound, r .each o bound .cost-le, r .each o bound .deadline-le, r .each o bound .period-le)
 
       due-gt : n < n + (W t r n o - slack t o)
       due-gt = omega (arith, h .ahead o bound opened)
@@ -208,7 +208,7 @@ module _
           waits : W t r n o ≤ task t o .period
           waits = elim (ℕ-discrete (waitOf (walked t n) o) 0) [
             | yes e ↦ rw (eq-eqb (waitOf (walked t n) o) 0 e) (le-refl _)
-            | no e ↦ rw (ne-eqb (waitOf (walked t n) o) 0 e) (omega (arith, known t (walked t n) (sound t r quiet n .belongs) o bound .open-to (kept-open t (walked t n) false o bound e opened .0)))
+            | no e ↦ rw (ne-eqb (waitOf (walked t n) o) 0 e) (omega (arith, known t (walked t n) (sound t r (tieOrder t) quiet n .belongs) o bound .open-to (kept-open t (walked t n) false o bound e opened .0)))
           ]
 
       within-busy : (e : ℕ) → e ≤ soon → e ≤ n + L t r n o → e ≤ n + (W t r n o - slack t o) → Within t r n e

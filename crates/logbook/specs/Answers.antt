@@ -15,8 +15,9 @@ use Rattle.values.specs.declared.Judgement.{Judgement}
 use Rattle.values.specs.declared.Finding.{Finding}
 use Rattle.model.specs.Limits.{taskLimit, logLimit}
 use Rattle.model.specs.Tasks.{judged}
+use Rattle.model.specs.Run.{tieOrder}
 use Rattle.model.specs.Dispatcher.{startOf}
-use Rattle.model.specs.History.{stateAt, ownerAt}
+use Rattle.model.specs.History.{stateAt, stateAtBy, ownerAt}
 use Rattle.model.specs.Log.{Log, Fed, readBy, readByte, readAll, atEnd, unread, logJudged, slotRecord, doneRecord, logOf}
 use Rattle.model.specs.LogMeaning.{Final, IsSlot, IsPart, Begins, Found, good, differs, unknown, unheard, behind, endless, long}
 use Rattle.counting.specs.Count.{is-false}
@@ -30,8 +31,8 @@ module _ (t : Table) (few : t .count ≤ taskLimit) (done : ℕ → Bool) where
   read-slot : (n p : ℕ) → p + length (slotRecord (ownerAt t done n)) ≤ logLimit
       → readAll t (logAt t few done n false p Finding.Nothing) (slotRecord (ownerAt t done n))
       ≡ record { state = stateAt t done (suc n); opened = false; done = false; slots = n + 1; bytes = p + length (slotRecord (ownerAt t done n)); found = Finding.Nothing }
-  unfolding readAll readByte stateAt
-  read-slot n p = go (owner-one t (stateAt t done n) (done n) few)
+  unfolding readAll readByte stateAtBy
+  read-slot n p = go (owner-one t (tieOrder t) (stateAt t done n) (done n) few)
     where
       go : (ownerAt t done n ≡ taskLimit) ⊎ (ownerAt t done n < t .count) → p + length (slotRecord (ownerAt t done n)) ≤ logLimit
           → readAll t (logAt t few done n false p Finding.Nothing) (slotRecord (ownerAt t done n))
@@ -60,7 +61,7 @@ module _ (t : Table) (few : t .count ≤ taskLimit) (done : ℕ → Bool) where
 
   -- What a camera has written of n slots is read as these n slots.
   pub read-camera : done 0 ≡ false → (n : ℕ) → length (logOf t done n) ≤ logLimit → readAll t (unread (startOf t)) (logOf t done n) ≡ logAt t few done n false (length (logOf t done n)) Finding.Nothing
-  unfolding logOf stateAt readAll
+  unfolding logOf stateAtBy readAll
   read-camera none zero h = rw none
   read-camera none (suc n) h =
       let first = logOf t done n in

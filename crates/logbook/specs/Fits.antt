@@ -16,6 +16,7 @@ use Rattle.values.specs.declared.Admission.{Admission}
 use Rattle.values.specs.declared.Finding.{Finding}
 use Rattle.model.specs.Limits.{taskLimit, logLimit}
 use Rattle.model.specs.Tasks.{judged}
+use Rattle.model.specs.Run.{tieOrder}
 use Rattle.model.specs.Dispatcher.{State, slotCount, admitted}
 use Rattle.model.specs.Log.{Log, passed, stopped, fault, dueOwner, slotRead, taskRead, kindRead, readBy, readByte, readAll, miscounted, logAdmittedBy, logAdmitted}
 use Rattle.wellformed.specs.Ranges.{Ranged}
@@ -112,8 +113,8 @@ fits-byte t r l f = after-byte t l (f .bytes-le) (Fits t) f (λ n low high. stay
 
     steps : l .bytes < logLimit → Fits t (slotRead t l true)
     steps room = record {
-      belongs = belongs-after t r (l .state) (l .done) (f .belongs);
-      counted = omega (arith, f .counted, slots-after t r (l .state) (l .done) (f .belongs));
+      belongs = belongs-after t r (tieOrder t) (l .state) (l .done) (f .belongs);
+      counted = omega (arith, f .counted, slots-after t r (tieOrder t) (l .state) (l .done) (f .belongs));
       slots-le = omega (arith, f .slots-le);
       bytes-le = omega arith;
     }

@@ -14,7 +14,7 @@ use Rattle.values.specs.declared.Finding.{Finding}
 use Rattle.model.specs.Limits.{logLimit}
 use Rattle.model.specs.Tasks.{judged}
 use Rattle.model.specs.Dispatcher.{State, startOf, after}
-use Rattle.model.specs.History.{stateAt}
+use Rattle.model.specs.History.{stateAt, stateAtBy}
 use Rattle.model.specs.Log.{Log, readByte, readAll, atEnd, closed, unread}
 use Rattle.wellformed.specs.Ranges.{Ranged}
 use Rattle.wellformed.specs.WellFormed.{well-formed}
@@ -38,7 +38,7 @@ pub record Kept (t : Table) (l : Log) : Type 0 where
 module _ (t : Table) (r : Ranged t) where
   -- One report more.
   next : (done : ℕ → Bool) (n : ℕ) (b : Bool) → after t (stateAt t done n) b ≡ stateAt t (λ k. cond (eqb k n) b (done k)) (n + 1)
-  unfolding stateAt
+  unfolding stateAtBy
   next done n b =
       let reports : ℕ → Bool = λ k. cond (eqb k n) b (done k) in
       let before : stateAt t reports n ≡ stateAt t done n = same-state t reports done n (λ k l. rw (ne-eqb k n (λ e. absurd (omega arith)))) in
@@ -69,6 +69,6 @@ module _ (t : Table) (r : Ranged t) where
       go (Finding.Fault n p) h = h
 
 pub kept : (t : Table) (m : Measure) → judged t ≡ Judgement.WellFormed m → (s : List ℕ) → Kept t (readAll t (unread (startOf t)) s)
-unfolding stateAt
+unfolding stateAtBy
 kept t m well s =
     kept-all t (well-formed t m well .ranged) (unread (startOf t)) s (record { done = λ k. false; state = refl; told = tt; fits = start-fits t m well })

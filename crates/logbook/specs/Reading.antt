@@ -13,8 +13,9 @@ use lib.ListN.{length, length-append}
 use Rattle.values.specs.declared.Table.{Table}
 use Rattle.values.specs.declared.Finding.{Finding}
 use Rattle.model.specs.Limits.{taskLimit, logLimit}
+use Rattle.model.specs.Run.{tieOrder}
 use Rattle.model.specs.Dispatcher.{startOf, after}
-use Rattle.model.specs.History.{stateAt, ownerAt}
+use Rattle.model.specs.History.{stateAt, stateAtBy, ownerAt}
 use Rattle.model.specs.Log.{Log, slotRead, taskRead, doneRead, kindRead, readBy, readByte, readAll, atEnd, unread, slotRecord, logOf}
 use Rattle.model.specs.LogMeaning.{Final, IsSlot, IsPart, Begins, Found, good, differs, unknown, unheard, behind, endless, long}
 use Rattle.counting.specs.Count.{and-iff, is-true, is-false, decT, eq→eqb}
@@ -24,7 +25,7 @@ use Rattle.logbook.specs.Cuts.{byte-stays}
 -- What happened before slot n depends only on the reports given to the steps before it, and what was written of it on one report more.
 module _ (t : Table) (done done′ : ℕ → Bool) where
   pub same-state : (n : ℕ) → ((k : ℕ) → k < n → done k ≡ done′ k) → stateAt t done n ≡ stateAt t done′ n
-  unfolding stateAt
+  unfolding stateAtBy
   same-state zero same = refl
   same-state (suc n) same = rw (same-state n (λ k l. same k (omega arith)), same n (omega arith))
 
@@ -95,7 +96,7 @@ module _ (t : Table) (few : t .count ≤ taskLimit) where
 
     -- The judge's slot is the dispatcher's next one.
     slot-log : (part : List ℕ) → Heard s done n part → _≡_ {A = Log} (record { state = after t (stateAt t done n) (done n); opened = false; done = false; slots = n + 1; bytes = length s + 1; found = Finding.Nothing }) (logAt done (suc n) false (length (s ++ (b ∷ []))) Finding.Nothing)
-    unfolding stateAt
+    unfolding stateAtBy
     slot-log part h = rw (h .quiet (suc n) (omega arith), longer s b, add-one n)
 
     slot-same : (part : List ℕ) → Heard s done n part → length s < logLimit → part ++ (b ∷ []) ≡ slotRecord (ownerAt t done n) → (opened : Bool) → Reads (s ++ (b ∷ [])) (slotRead t (logAt done n opened (length s) Finding.Nothing) true)
@@ -185,7 +186,7 @@ module _ (t : Table) (few : t .count ≤ taskLimit) where
         rw (ne-eqb (ownerAt t done n) taskLimit (λ y. absurd (omega (arith, ltb→lt k (t .count) a))), e)
 
     task-only : 16 ∷ k ∷ [] ≡ slotRecord (ownerAt t done n) → T (ltb k (t .count) && eqb k (ownerAt t done n))
-    task-only x = go (owner-one t (stateAt t done n) (done n) few)
+    task-only x = go (owner-one t (tieOrder t) (stateAt t done n) (done n) few)
       where
         go : (ownerAt t done n ≡ taskLimit) ⊎ (ownerAt t done n < t .count) → T (ltb k (t .count) && eqb k (ownerAt t done n))
         go (inl e) = let y : _≡_ {A = List ℕ} (16 ∷ k ∷ []) (17 ∷ []) = rw (eq-eqb (ownerAt t done n) taskLimit e) at x in let z : _≡_ {A = ℕ} 16 17 = cc in absurd (omega arith)
@@ -229,7 +230,7 @@ module _ (t : Table) (few : t .count ≤ taskLimit) where
   reads-more s l (b ∷ more) r = rw (append-assoc s (b ∷ []) more) at (reads-more (s ++ (b ∷ [])) (readByte t l b) more (reads-byte s l b r))
 
   reads-start : Reads [] (unread (startOf t))
-  unfolding stateAt logOf
+  unfolding stateAtBy logOf
   reads-start = between (λ k. false) 0 (record { none = refl; quiet = λ k l. refl; bytes = refl; room = omega arith }) refl
 
   pub reads : (s : List ℕ) → Reads s (readAll t (unread (startOf t)) s)

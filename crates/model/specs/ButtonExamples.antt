@@ -16,7 +16,7 @@ use Rattle.model.specs.Idle.{idleAt, firstIdle, missedAt}
 use Rattle.model.specs.Patterns.{startingAt, light, calm, quickAnswer, commonDivisor, distance, pattern}
 use Rattle.model.specs.Patterns.{calmPatterns, distancePass, distanceAnswer}
 use Rattle.model.specs.TableFile.{tableOf, bytesOf, taskRecords, fileOf, readFrom, formOf, fileRead, periodicFrom}
-use Rattle.model.specs.Dispatcher.{admitted, started, stepped}
+use Rattle.model.specs.Dispatcher.{admitted, started, stepped, steppedBy}
 use Rattle.model.specs.Writer.{tableIn, firstStranger}
 use Rattle.model.specs.PlainText.{split, filled, allDigits, valueAfter, numbersFault, same, budgetLine, taskLine}
 use Rattle.model.specs.PlainText.{lineOf, readLines, textForm, textRead, taskTexts, textOf}
@@ -151,7 +151,7 @@ only-periodic :
     ≡ SlotAnswer.Refused (refusal 11 2))
     × (easedExported file-b file-shutter ≡ 4 * (65536 * 11 + 2) + 3)
     × (easedExported file-shutter [] ≡ 4 * (65536 * 11 + 2) + 2)
-unfolding quickAnswer costAnswer started stepped admitted fileRead periodicFrom formOf readFrom judged judgedMixed
+unfolding quickAnswer costAnswer started steppedBy admitted fileRead periodicFrom formOf readFrom judged judgedMixed
     firstButton firstFaulty taskFault first round load horizon largest sum count bytesOf
 only-periodic = (refl, refl, refl, refl, refl, refl)
 

@@ -4,7 +4,7 @@ use Rattle.model.specs.Notation.{bit, sum, count, first, bits, fill}
 use Rattle.model.specs.Values.{Table, Refusal, Judgement, Admission, Turn, SlotAnswer, refusal}
 use Rattle.model.specs.Limits.{taskLimit, slotCountLimit, sumPlace}
 use Rattle.model.specs.Tasks.{task, judged, offset}
-use Rattle.model.specs.Run.{tieOrder, choose}
+use Rattle.model.specs.Run.{Order, tieOrder, choose}
 
 -- For each task the slots until its next release, and those that its open job may still use;
 -- which task ran last, or `taskLimit`; and the slots that were given to each task, and those that were empty.
@@ -118,35 +118,37 @@ module _ (t : Table) (d : State) (done : Bool) where
   abbrev pub leftReleased : ℕ → ℕ
   leftReleased i = cond (eqb (waitOf d i) 0) (task t i .cost) (leftLate i)
 
+-- The rest of a step, in any order of the tasks.
+module _ (t : Table) (rank : Order) (d : State) (done : Bool) where
   -- Rule 4: the open job with the earliest deadline gets the slot, the one with the fewest slots to its deadline;
-  -- ties go as in the run.
-  unfoldable pub ownerNow : ℕ
-  ownerNow =
-      choose (λ i. ltb 0 (leftReleased i))
-      (λ i. waitReleased i - (task t i .period - task t i .deadline)) (tieOrder t) (t .count)
+  -- ties go by the order, as in the run.
+  unfoldable pub ownerNowBy : ℕ
+  ownerNowBy =
+      choose (λ i. ltb 0 (leftReleased t d done i))
+      (λ i. waitReleased t d done i - (task t i .period - task t i .deadline)) rank (t .count)
 
   -- It has one slot fewer left, and every wait goes down by one. The slot is counted as its owner's, or as empty.
   -- Entries past the last task stay as they came.
-  unfoldable pub after : State
-  after =
-      let left = fill (t .count) (λ i. leftReleased i - cond (eqb ownerNow i) 1 0) (d .left) in
-      let given = fill (t .count) (λ i. givenOf d i + bit (eqb ownerNow i)) (d .given) in
+  unfoldable pub afterBy : State
+  afterBy =
+      let left = fill (t .count) (λ i. leftReleased t d done i - cond (eqb ownerNowBy i) 1 0) (d .left) in
+      let given = fill (t .count) (λ i. givenOf d i + bit (eqb ownerNowBy i)) (d .given) in
       record {
-        wait = fill (t .count) (λ i. waitReleased i - 1) (d .wait);
+        wait = fill (t .count) (λ i. waitReleased t d done i - 1) (d .wait);
         left = left;
-        last = ownerNow;
+        last = ownerNowBy;
         given = given;
-        empty = d .empty + bit (eqb ownerNow taskLimit);
+        empty = d .empty + bit (eqb ownerNowBy taskLimit);
       }
 
   -- The answer: the owner, which tasks were closed late, how many, and the lowest-numbered of them.
-  unfoldable pub turn : Turn
-  turn =
+  unfoldable pub turnBy : Turn
+  turnBy =
       record {
-        owner = ownerNow;
-        late = bits isLate taskLimit;
-        closed = count isLate taskLimit;
-        lowest = first isLate 0 taskLimit;
+        owner = ownerNowBy;
+        late = bits (isLate t d done) taskLimit;
+        closed = count (isLate t d done) taskLimit;
+        lowest = first (isLate t d done) 0 taskLimit;
       }
 
 -- A step on any table and any state: refused as the state is, then by 9 if it can count no more slots, or taken.
@@ -154,11 +156,25 @@ module _ (t : Table) (d : State) (done : Bool) where
 abbrev pub refuseStep : Refusal → State → Stepped
 refuseStep r d = record { answer = SlotAnswer.Refused r; state = d }
 
-abbrev pub stepAdmitted : Table → State → Bool → Admission → Stepped
-stepAdmitted t d done (Admission.Refused r) = refuseStep r d
-stepAdmitted t d done Admission.Admitted =
+abbrev pub stepAdmittedBy : Table → Order → State → Bool → Admission → Stepped
+stepAdmittedBy t rank d done (Admission.Refused r) = refuseStep r d
+stepAdmittedBy t rank d done Admission.Admitted =
     cond (eqb (slotCount t d) slotCountLimit) (refuseStep (refusal 9 0) d)
-    (record { answer = SlotAnswer.Slot (turn t d done); state = after t d done })
+    (record { answer = SlotAnswer.Slot (turnBy t rank d done); state = afterBy t rank d done })
 
-unfoldable pub stepped : Table → State → Bool → Stepped
-stepped t d done = stepAdmitted t d done (admitted t d)
+unfoldable pub steppedBy : Table → Order → State → Bool → Stepped
+steppedBy t rank d done = stepAdmittedBy t rank d done (admitted t d)
+
+-- The dispatcher goes by our order, as the run that is reported does: each word at it.
+module _ (t : Table) where
+  abbrev pub ownerNow : State → Bool → ℕ
+  ownerNow = ownerNowBy t (tieOrder t)
+
+  abbrev pub after : State → Bool → State
+  after = afterBy t (tieOrder t)
+
+  abbrev pub turn : State → Bool → Turn
+  turn = turnBy t (tieOrder t)
+
+  abbrev pub stepped : State → Bool → Stepped
+  stepped = steppedBy t (tieOrder t)

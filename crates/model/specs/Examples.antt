@@ -25,9 +25,9 @@ use Rattle.model.specs.Patterns.{distance, pattern, distancePass, distan
 use Rattle.model.specs.Verdict.{needed, lateStart, verdict, settledBy, brief, Permitted}
 use Rattle.model.specs.TableFile.{taskIn, tableOf, bytesOf, taskRecords, fileOf, readFrom, formOf, fileRead}
 use Rattle.model.specs.TableFile.{periodicFrom}
-use Rattle.model.specs.Dispatcher.{State, slotCount, firstStrange, admitted, startOf, started, ownerNow, after}
-use Rattle.model.specs.Dispatcher.{turn, stepped}
-use Rattle.model.specs.History.{stateAt, ownerAt, saidDone, had, Finished}
+use Rattle.model.specs.Dispatcher.{State, slotCount, firstStrange, admitted, startOf, started}
+use Rattle.model.specs.Dispatcher.{ownerNowBy, after, afterBy, turn, turnBy, stepped, steppedBy}
+use Rattle.model.specs.History.{stateAt, stateAtBy, ownerAt, ownerAtBy, saidDone, had, hadBy, Finished}
 use Rattle.model.specs.Report.{worstLines, reportOf, refused, written, Checked, quickExported, distanceExported}
 use Rattle.model.specs.Report.{Printed}
 use Rattle.model.specs.StateBuffer.{stateBytes, halves, bufferOf, stateIn, startExported, stepExported, handed}
@@ -467,15 +467,17 @@ steps t d [] = []
 steps t d (done ∷ more) = turn t d done .owner ∷ steps t (after t d done) more
 
 -- g with task 0 done after one slot; f, whose task 1 is closed late in the second step;
--- the lamp, whose task 1 has the tie at slot 3, though task 0 ran last.
+-- the lamp, whose task 1 has the tie at slot 3, though task 0 ran last; and the lamp by number alone, where it has not.
 dispatched :
     (steps table-g (startOf table-g) (false ∷ true ∷ false ∷ false ∷ false ∷ []) ≡ 0 ∷ 1 ∷ 1 ∷ taskLimit ∷ 0 ∷ [])
     × (steps table-f (startOf table-f) (false ∷ false ∷ []) ≡ 0 ∷ taskLimit ∷ [])
     × (turn table-f (after table-f (startOf table-f) false) false
     ≡ record { owner = taskLimit; late = 2; closed = 1; lowest = 1 })
     × (steps table-lamp (startOf table-lamp) (replicate 6 false) ≡ 0 ∷ 0 ∷ 0 ∷ 1 ∷ 0 ∷ taskLimit ∷ [])
-unfolding steps startOf after turn ownerNow choose fill bits sum count first
-dispatched = (refl, refl, refl, refl)
+    × (map (ownerAtBy table-lamp (λ k. k) (λ n. false)) (0 ∷ 1 ∷ 2 ∷ 3 ∷ 4 ∷ 5 ∷ [])
+    ≡ 0 ∷ 0 ∷ 0 ∷ 0 ∷ 1 ∷ taskLimit ∷ [])
+unfolding steps stateAtBy startOf afterBy turnBy ownerNowBy choose fill bits sum count first
+dispatched = (refl, refl, refl, refl, refl)
 
 -- The earliest deadline goes first, not the next release;
 -- a job at its deadline is closed before the next one of its task is released.
@@ -487,7 +489,7 @@ in-order :
     × (steps table-l (startOf table-l) (replicate 7 false) ≡ 0 ∷ 0 ∷ 1 ∷ 1 ∷ 1 ∷ 0 ∷ 0 ∷ [])
     × (turn table-g (uncounted (padded 0 []) (padded 0 (1 ∷ [])) 1) false
     ≡ record { owner = 0; late = 1; closed = 1; lowest = 0 })
-unfolding steps startOf after turn ownerNow choose fill bits sum count first
+unfolding steps startOf afterBy turnBy ownerNowBy choose fill bits sum count first
 in-order = (refl, refl, refl)
 
 -- Two jobs closed at once, the most, and that of the last task alone; where none is closed the lowest number is none.
@@ -502,7 +504,7 @@ closings :
     (uncounted (padded 1 []) (replicate (taskLimit - 1) 0 ++ (1 ∷ [])) taskLimit) false
     ≡ record { owner = taskLimit; late = 2 ^ (taskLimit - 1); closed = 1; lowest = taskLimit - 1 })
     × (turn table-g (startOf table-g) true ≡ record { owner = 0; late = 0; closed = 0; lowest = taskLimit })
-unfolding turn startOf ownerNow choose fill bits sum count first
+unfolding turnBy startOf ownerNowBy choose fill bits sum count first
 closings = (refl, refl, refl, refl)
 
 -- A start on a table: the waits are the offsets; a refused start; a step taken.
@@ -512,8 +514,8 @@ starts :
     × (started (tableOf []) ≡ record { admission = at 1 0; state = uncounted (padded 0 []) (padded 0 []) 0 })
     × (stepped table-g (startOf table-g) false .answer
     ≡ SlotAnswer.Slot (record { owner = 0; late = 0; closed = 0; lowest = taskLimit }))
-unfolding started startOf stepped admitted slotCount turn ownerNow choose fill bits firstStrange judged judgedMixed
-    firstButton firstFaulty taskFault first round load horizon largest sum count
+unfolding started startOf steppedBy admitted slotCount turnBy ownerNowBy choose fill bits firstStrange judged
+    judgedMixed firstButton firstFaulty taskFault first round load horizon largest sum count
 starts = (refl, refl, refl)
 
 -- A task with O 0, C 2, D 3, T 4 and one with O 9.
@@ -529,14 +531,14 @@ any-state = record { wait = 1 ∷ 2 ∷ []; left = 3 ∷ 4 ∷ []; last = 5; giv
 
 handed-back : map (λ t. stepped t any-state true) (tableOf [] ∷ two ∷ [])
     ≡ map (λ r. record { answer = SlotAnswer.Refused r; state = any-state }) (refusal 1 0 ∷ refusal 8 0 ∷ [])
-unfolding stepped admitted slotCount firstStrange judged judgedMixed firstButton
+unfolding steppedBy admitted slotCount firstStrange judged judgedMixed firstButton
     firstFaulty taskFault first round load horizon largest sum count
 handed-back = refl
 
 -- A closed job may wait for as long as the offset or the period is.
 no-strangers :
     state 4 9 0 0 taskLimit ≡ SlotAnswer.Slot (record { owner = taskLimit; late = 0; closed = 0; lowest = taskLimit })
-unfolding state stepped admitted slotCount turn ownerNow choose bits firstStrange judged judgedMixed firstButton
+unfolding state steppedBy admitted slotCount turnBy ownerNowBy choose bits firstStrange judged judgedMixed firstButton
     firstFaulty taskFault first round load horizon largest sum count
 no-strangers = refl
 
@@ -546,7 +548,7 @@ strangers :
     state 5 0 0 0 taskLimit ∷ state 0 10 0 0 taskLimit ∷ state 2 0 3 0 taskLimit ∷ state 0 0 1 0 taskLimit
     ∷ state 4 0 1 0 taskLimit ∷ state 0 4 0 1 taskLimit ∷ state 0 0 0 0 2 ∷ state 0 0 0 0 (taskLimit + 1) ∷ []
     ≡ map (λ p. SlotAnswer.Refused (refusal 8 p)) (0 ∷ 1 ∷ 0 ∷ 0 ∷ 0 ∷ 1 ∷ taskLimit ∷ taskLimit ∷ [])
-unfolding state stepped admitted slotCount firstStrange judged judgedMixed firstButton
+unfolding state steppedBy admitted slotCount firstStrange judged judgedMixed firstButton
     firstFaulty taskFault first round load horizon largest sum count
 strangers = refl
 
@@ -571,8 +573,8 @@ at-deadline :
       };
     })
     × (turn two (uncounted (padded 0 (1 ∷ 9 ∷ [])) (padded 7 (2 ∷ 0 ∷ [])) 0) true .closed ≡ 0)
-unfolding stepped admitted slotCount turn after ownerNow choose fill bits firstStrange judged judgedMixed firstButton
-    firstFaulty taskFault first round load horizon largest sum count
+unfolding steppedBy admitted slotCount turnBy afterBy ownerNowBy choose fill bits firstStrange judged
+    judgedMixed firstButton firstFaulty taskFault first round load horizon largest sum count
 at-deadline = (refl, refl)
 
 -- A state's slots: only the tasks of the table and the empty slots are summed.
@@ -595,7 +597,7 @@ accounts :
     ≡ SlotAnswer.Slot (record { owner = 0; late = 0; closed = 0; lowest = taskLimit })
     ∷ map SlotAnswer.Refused (refusal 9 0 ∷ refusal 8 sumPlace ∷ refusal 8 sumPlace
     ∷ refusal 8 taskLimit ∷ refusal 8 taskLimit ∷ [])
-unfolding counted stepped admitted slotCount turn ownerNow choose bits firstStrange judged judgedMixed firstButton
+unfolding counted steppedBy admitted slotCount turnBy ownerNowBy choose bits firstStrange judged judgedMixed firstButton
     firstFaulty taskFault first round load horizon largest sum count
 accounts = refl
 
@@ -612,18 +614,18 @@ history :
     × (saidDone table-g once-done 1 1 ≡ false)
     × (map (λ from. had table-g once-done 1 from 3) (0 ∷ 1 ∷ 2 ∷ []) ≡ 2 ∷ 2 ∷ 1 ∷ [])
     × (map (had table-g once-done 1 0) (1 ∷ 2 ∷ []) ≡ 0 ∷ 1 ∷ [])
-unfolding once-done stateAt had startOf after ownerNow choose fill count
+unfolding once-done stateAtBy hadBy startOf afterBy ownerNowBy choose fill count
 history = (refl, refl, refl, refl, refl)
 
 -- After five slots: two of task 0, two of task 1, and one empty.
 history-counts : (stateAt table-g once-done 5 .given ≡ padded 0 (2 ∷ 2 ∷ []))
     × (stateAt table-g once-done 5 .empty ≡ 1) × (slotCount table-g (stateAt table-g once-done 5) ≡ 5)
-unfolding once-done stateAt slotCount sum startOf after ownerNow choose fill count
+unfolding once-done stateAtBy slotCount sum startOf afterBy ownerNowBy choose fill count
 history-counts = (refl, refl, refl)
 
 -- A job is finished: reported done to step 1; by its slots; and so is the next one of task 0, whose slots are its own.
 finished : Finished table-g once-done 0 0 1 × Finished table-g once-done 1 0 3 × Finished table-g once-done 0 1 6
-unfolding once-done stateAt had startOf after ownerNow choose fill count
+unfolding once-done stateAtBy hadBy startOf afterBy ownerNowBy choose fill count
 finished = (inr (1, lit< tt, lit≤ tt, tt), inl refl, inl refl)
 
 -- ---- the report
@@ -813,15 +815,15 @@ camera-steps :
     × (handed file-f (replicate stateBytes 9) (λ n. 0) 2
     ≡ replicate (8 * taskLimit) 0 ++ word taskLimit ++ word 2 ++ word 1 ++ word 1 ++ word 1
     ++ replicate (8 * taskLimit - 4) 0 ++ word 1 ++ word 0)
-unfolding reports handed stateIn bufferOf bytesOf halves started startOf stepped admitted slotCount after
-    turn ownerNow choose fill bits firstStrange formOf readFrom judged judgedMixed firstButton
+unfolding reports handed stateIn bufferOf bytesOf halves started startOf steppedBy admitted slotCount afterBy
+    turnBy ownerNowBy choose fill bits firstStrange formOf readFrom judged judgedMixed firstButton
     firstFaulty taskFault first round load horizon largest sum count
 camera-steps = (refl, refl)
 
 -- A state that is not g's is 8, and stays.
 camera-stranger :
     stepExported file-g (replicate stateBytes 7) 0 ≡ record { number = 524288; buffer = replicate stateBytes 7 }
-unfolding stateIn stepped admitted slotCount fill firstStrange formOf readFrom judged judgedMixed firstButton
+unfolding stateIn steppedBy admitted slotCount fill firstStrange formOf readFrom judged judgedMixed firstButton
     firstFaulty taskFault first round load horizon largest sum count
 camera-stranger = refl
 

@@ -11,8 +11,9 @@ use Rattle.model.specs.Limits.{taskLimit, logLimit, countPlace}
 use Rattle.model.specs.Tasks.{taskFault, firstFaulty, round, load, horizon, judgedMixed, firstButton, judged}
 use Rattle.model.specs.Run.{choose}
 use Rattle.model.specs.TableFile.{tableOf, bytesOf, readFrom, formOf}
-use Rattle.model.specs.Dispatcher.{State, slotCount, firstStrange, admitted, startOf, started, ownerNow, after}
-use Rattle.model.specs.History.{stateAt}
+use Rattle.model.specs.Dispatcher.{State, slotCount, firstStrange, admitted, startOf, started}
+use Rattle.model.specs.Dispatcher.{ownerNowBy, afterBy}
+use Rattle.model.specs.History.{stateAtBy}
 use Rattle.model.specs.StateBuffer.{stateBytes, halves, bufferOf, stateIn}
 use Rattle.model.specs.Log.{Log, readByte, readAll, unread, logAdmitted, logStarted, fed, logFinished, feeds}
 use Rattle.model.specs.Log.{logJudged, logOf}
@@ -38,7 +39,7 @@ good-logs :
     ++ (said table-j ((17 ∷ 18 ∷ 17 ∷ 19 ∷ []) ∷ []) ∷ [])
     ≡ replicate 5 (1 ∷ [])
 unfolding said logStarted feeds fed readAll readByte logFinished logAdmitted started admitted
-    slotCount startOf after ownerNow choose fill firstStrange judged judgedMixed firstButton
+    slotCount startOf afterBy ownerNowBy choose fill firstStrange judged judgedMixed firstButton
     firstFaulty taskFault first round load horizon largest sum count
 good-logs = refl
 
@@ -49,7 +50,7 @@ differing-logs :
     ++ (said table-j ((16 ∷ taskLimit ∷ 19 ∷ []) ∷ []) ∷ [])
     ≡ map (λ slot. 2 ∷ slot ∷ []) (1 ∷ 0 ∷ 1 ∷ 0 ∷ [])
 unfolding said logStarted feeds fed readAll readByte logFinished logAdmitted started admitted
-    slotCount startOf after ownerNow choose fill firstStrange judged judgedMixed firstButton
+    slotCount startOf afterBy ownerNowBy choose fill firstStrange judged judgedMixed firstButton
     firstFaulty taskFault first round load horizon largest sum count
 differing-logs = refl
 
@@ -59,7 +60,7 @@ faulty-logs :
     ((16 ∷ 0 ∷ 20 ∷ 17 ∷ []) ∷ (18 ∷ []) ∷ (16 ∷ 0 ∷ 18 ∷ 18 ∷ []) ∷ (19 ∷ 19 ∷ []) ∷ [] ∷ (16 ∷ 0 ∷ 16 ∷ []) ∷ [])
     ≡ (40 ∷ 2 ∷ []) ∷ (41 ∷ 0 ∷ []) ∷ (41 ∷ 3 ∷ []) ∷ (42 ∷ 1 ∷ []) ∷ (43 ∷ 0 ∷ []) ∷ (43 ∷ 3 ∷ []) ∷ []
 unfolding said logStarted feeds fed readAll readByte logFinished logAdmitted started admitted
-    slotCount startOf after ownerNow choose fill firstStrange judged judgedMixed firstButton
+    slotCount startOf afterBy ownerNowBy choose fill firstStrange judged judgedMixed firstButton
     firstFaulty taskFault first round load horizon largest sum count
 faulty-logs = refl
 
@@ -79,7 +80,7 @@ long-logs :
     × (readByte table-g (log-g 0 logLimit (Finding.Fault 40 7)) 19 ≡ log-g 0 logLimit (Finding.Fault 40 7))
     × (fed table-g (logFinished table-g (log-g 0 5 Finding.Nothing) .log) (19 ∷ []) .log
     ≡ log-g 0 5 (Finding.Fault 43 5))
-unfolding fed readAll readByte logFinished logAdmitted admitted slotCount startOf ownerNow choose fill firstStrange
+unfolding fed readAll readByte logFinished logAdmitted admitted slotCount startOf ownerNowBy choose fill firstStrange
     judged judgedMixed firstButton firstFaulty taskFault first round load horizon largest sum count
 long-logs = (refl, refl, refl, refl, refl, refl)
 
@@ -111,7 +112,7 @@ refused-logs = (refl, refl, refl, refl)
 
 -- What a camera writes of five slots of g, with task 0 done after one.
 written-log : logOf table-g (λ n. eqb n 1) 5 ≡ 16 ∷ 0 ∷ 18 ∷ 16 ∷ 1 ∷ 16 ∷ 1 ∷ 17 ∷ 16 ∷ 0 ∷ []
-unfolding logOf stateAt startOf after ownerNow choose fill count
+unfolding logOf stateAtBy startOf afterBy ownerNowBy choose fill count
 written-log = refl
 
 -- In a buffer: good is 2^32, a difference at slot 1 is 2 · 2^32 + 1, and 43 at 2; nothing found yet is 0;
@@ -124,6 +125,6 @@ exported-logs :
     × (logFeedExported file-g (replicate stateBytes 9) []
     ≡ record { number = 3277336; buffer = replicate stateBytes 9 })
 unfolding feedsIn logBufferOf logIn stateIn bufferOf bytesOf halves logStarted fed readAll readByte logFinished
-    logAdmitted started admitted slotCount startOf after ownerNow choose fill firstStrange formOf readFrom judged
+    logAdmitted started admitted slotCount startOf afterBy ownerNowBy choose fill firstStrange formOf readFrom judged
     judgedMixed firstButton firstFaulty taskFault first round load horizon largest sum count
 exported-logs = (refl, refl, refl)

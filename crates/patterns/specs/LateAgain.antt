@@ -6,6 +6,7 @@ use native.Mathlib.Omega.{arith}
 use lib.Dec.{T}
 use Rattle.values.specs.declared.Table.{Table}
 use Rattle.model.specs.Demand.{lateAt}
+use Rattle.model.specs.Run.{tieOrder}
 use Rattle.counting.specs.Search.{below-suc}
 use Rattle.wellformed.specs.Ranges.{Ranged}
 use Rattle.backlog.specs.Shift.{Cycle}
@@ -18,8 +19,8 @@ module _ (t : Table) (r : Ranged t) (Y : Cycle (tieSystem t r)) (u : ℕ) (rests
   -- The first late deadline would have been late a round before.
   late-back : (n : ℕ) → u ≤ n → Clear t (n + Y .round) → T (lateAt t (n + Y .round)) → ⊥
   late-back n m clear h =
-      let (i, l, x) = late-iff t r (n + Y .round) clear .1 h in
-      clear n (omega (arith, Y .round-pos)) (late-iff t r n (λ v k. clear v (omega arith)) .0 (i, l, subst T (sym (late-same t (again t r Y u rests n m) i)) x))
+      let (i, l, x) = late-iff t r (tieOrder t) (n + Y .round) clear .1 h in
+      clear n (omega (arith, Y .round-pos)) (late-iff t r (tieOrder t) n (λ v k. clear v (omega arith)) .0 (i, l, subst T (sym (late-same t (again t r Y u rests n m) i)) x))
 
   late-never : (n : ℕ) → Clear t n → T (lateAt t n) → ⊥
   late-never n before h = elim (decLt n (u + Y .round)) [

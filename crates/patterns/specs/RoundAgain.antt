@@ -9,8 +9,9 @@ use native.Mathlib.Omega.{arith}
 use lib.ListN.{length, getD}
 use lib.Seq.{ext-getD}
 use Rattle.values.specs.declared.Table.{Table}
-use Rattle.model.specs.Dispatcher.{State, waitOf, leftOf, isLate, ownerNow, after}
-use Rattle.model.specs.History.{stateAt}
+use Rattle.model.specs.Dispatcher.{State, waitOf, leftOf, isLate, ownerNow, ownerNowBy, after, afterBy}
+use Rattle.model.specs.History.{stateAtBy}
+use Rattle.model.specs.Run.{tieOrder}
 use Rattle.counting.specs.Below.{below-later}
 use Rattle.wellformed.specs.Ranges.{Ranged}
 use Rattle.backlog.specs.System.{System, releaseOf, jobs, releasedBy}
@@ -38,11 +39,11 @@ module _ (t : Table) {d e : State} (s : Same d e) where
   late-same i = ap (λ (x : State). isLate t x false i) (same-read s)
 
   pub owner-same : ownerNow t d false ≡ ownerNow t e false
-  unfolding ownerNow
+  unfolding ownerNowBy
   owner-same = ap (λ (x : State). ownerNow t x false) (same-read s)
 
   after-same : Same (after t d false) (after t e false)
-  unfolding after ownerNow
+  unfolding afterBy ownerNowBy
   after-same = record { waits = ap (λ (x : State). after t x false .wait) (same-read s); lefts = ap (λ (x : State). after t x false .left) (same-read s) }
 
 module _ (t : Table) (r : Ranged t) (Y : Cycle (tieSystem t r)) where
@@ -61,20 +62,20 @@ module _ (t : Table) (r : Ranged t) (Y : Cycle (tieSystem t r)) where
   module _ (u : ℕ) (rests : Rests u) where
     -- So it had none left at u.
     shut-before : (i : ℕ) → i < t .count → leftOf (walked t u) i ≡ 0
-    shut-before i l = omega (arith, agrees t r u (λ v m. rests .clear v (omega arith)) i l, idle-before S Y (servedOf S) (model-run S) u (λ k m. omega (arith, agrees t r (u + Y .round) (rests .clear) k m, rests .shut k m)) i l)
+    shut-before i l = omega (arith, agrees t r (tieOrder t) u (λ v m. rests .clear v (omega arith)) i l, idle-before S Y (servedOf S) (model-run S) u (λ k m. omega (arith, agrees t r (tieOrder t) (u + Y .round) (rests .clear) k m, rests .shut k m)) i l)
 
     -- And its waits are the same.
     wait-later : (i : ℕ) → i < t .count → waitOf (walked t u) i ≡ waitOf (walked t (u + Y .round)) i
     wait-later i l =
         let more : releasedBy S i (u + Y .round) ≡ releasedBy S i u + Y .times i = below-later (releaseOf S i) ((jobs S) .rel-grows i l) (Y .times i) (Y .round) (release-later S Y i l) u (omega (arith, Y .starts i l, rests .started)) in
-        omega (arith, sound t r quiet u .next i l, sound t r quiet (u + Y .round) .next i l, ap (releaseOf S i) more, release-later S Y i l (releasedBy S i u))
+        omega (arith, sound t r (tieOrder t) quiet u .next i l, sound t r (tieOrder t) quiet (u + Y .round) .next i l, ap (releaseOf S i) more, release-later S Y i l (releasedBy S i u))
 
     same-first : SameLater u
     same-first =
-        let now = sound t r quiet u .belongs in
-        let later = sound t r quiet (u + Y .round) .belongs in
-        let none = past-none t quiet u in
-        let none-later = past-none t quiet (u + Y .round) in
+        let now = sound t r (tieOrder t) quiet u .belongs in
+        let later = sound t r (tieOrder t) quiet (u + Y .round) .belongs in
+        let none = past-none t (tieOrder t) quiet u in
+        let none-later = past-none t (tieOrder t) quiet (u + Y .round) in
         record {
           waits = listed (now .waits ∙ sym (later .waits)) wait-later (λ i l. none i l .0 ∙ sym (none-later i l .0));
           lefts = listed (now .lefts ∙ sym (later .lefts)) (λ i l. shut-before i l ∙ sym (rests .shut i l)) (λ i l. none i l .1 ∙ sym (none-later i l .1));
@@ -84,7 +85,7 @@ module _ (t : Table) (r : Ranged t) (Y : Cycle (tieSystem t r)) where
         listed {v} {w} e tasks others = ext-getD 0 v w e (λ i l. elim (decLt i (t .count)) [ yes p ↦ tasks i p | no p ↦ others i (omega arith) ])
 
   same-next : (n : ℕ) → SameLater n → SameLater (suc n)
-  unfolding stateAt
+  unfolding stateAtBy
   same-next n s = rw suc-add (after-same t s)
 
   pub again : (u : ℕ) → Rests u → (n : ℕ) → u ≤ n → Same (walked t n) (walked t (n + Y .round))

@@ -27,5 +27,5 @@ module _ (t : Table) (r : Ranged t) where
   pub walk-idle-at : (n : ℕ) → Clear t n → noneLeft t n ≡ idleAt t (tieOrder t) n
   walk-idle-at n c =
       same-test _ _
-      (λ h. idle-streams S n .1 (λ i l. omega (tests, every-iff _ _ .0 h i l, agrees t r n c i l)))
-      (λ h. every-iff _ _ .1 (λ i l. eq→eqb (leftOf (walked t n) i) 0 (omega (arith, agrees t r n c i l, idle-streams S n .0 h i l))))
+      (λ h. idle-streams S n .1 (λ i l. omega (tests, every-iff _ _ .0 h i l, agrees t r (tieOrder t) n c i l)))
+      (λ h. every-iff _ _ .1 (λ i l. eq→eqb (leftOf (walked t n) i) 0 (omega (arith, agrees t r (tieOrder t) n c i l, idle-streams S n .0 h i l))))

@@ -20,7 +20,7 @@ use Rattle.model.specs.Values.{refusal}
 use Rattle.model.specs.Notation.{count}
 use Rattle.model.specs.Tasks.{judged}
 use Rattle.model.specs.TableFile.{eight, formOf, periodicFrom}
-use Rattle.model.specs.Dispatcher.{admitted, turn, started, stepped}
+use Rattle.model.specs.Dispatcher.{admitted, turn, started, stepped, steppedBy}
 use Rattle.model.specs.Report.{Exported, refused}
 use Rattle.model.specs.Examples.{table-g, file-g}
 use Rattle.model.specs.History.{stateAt, ownerAt}
@@ -61,7 +61,7 @@ refused-camera-start file buffer r size h = elim (periodic-for file r h) [
 
 pub refused-camera-step : (file buffer : List ℕ) (done : ℕ) (r : Refusal) → length buffer ≡ stateBytes
     → periodicFrom file .admission ≡ Admission.Refused r → stepExported file buffer done ≡ refused r buffer
-unfolding stepped admitted
+unfolding steppedBy admitted
 refused-camera-step file buffer done r size h = elim (periodic-for file r h) [
   | inl f ↦ rw (eq-eqb (length buffer) stateBytes size, f, onFile)
   | inr (f, j) ↦ rw (eq-eqb (length buffer) stateBytes size, f, onFile, j)

@@ -28,8 +28,9 @@ use Rattle.model.specs.Tasks.{task, isButton, round, measure, judgedMixed, judg
 use Rattle.model.specs.Verdict.{brief, Permitted}
 use Rattle.model.specs.TableFile.{budgetKind, eight, admit, taskRecord, taskRecords, fileOf, formOf, fileRead}
 use Rattle.model.specs.TableFile.{periodicFrom}
+use Rattle.model.specs.Run.{tieOrder}
 use Rattle.model.specs.Dispatcher.{State, slotCount, firstStrange, lastStrange, admitted as stateAdmitted, turn, after}
-use Rattle.model.specs.Dispatcher.{started, stepped, isLate, ownerNow}
+use Rattle.model.specs.Dispatcher.{turnBy, started, stepped, steppedBy, isLate, ownerNow}
 use Rattle.dispatch.specs.declared.Dispatcher.{Dispatcher}
 use Rattle.dispatch.specs.declared.Started.{Started}
 use Rattle.dispatch.specs.declared.Stepped.{Stepped}
@@ -255,7 +256,7 @@ refused-start t r e = rw e refl
 
 pub refused-table-step : (t : Table) (d : State) (done : Bool) (r : Refusal)
     → judged t ≡ Judgement.Refused r → slotSaid (stepped t d done .answer) ≡ refusalSaid r
-unfolding stepped stateAdmitted
+unfolding steppedBy stateAdmitted
 refused-table-step t d done r e = rw e refl
 
 -- A file whose form is bad is refused for it, whatever its table.
@@ -284,30 +285,30 @@ refused-answer-said t budget r a e p = ap (λ (x : Answer). outcomeSaid (x .outc
 -- one that can count no slot more is refused by 9.
 module _ (t : Table) (m : Measure) (d : State) (done : Bool) (well : judged t ≡ Judgement.WellFormed m) where
   pub strange-state : firstStrange t d < t .count → slotSaid (stepped t d done .answer) ≡ 8 ∷ firstStrange t d ∷ []
-  unfolding stepped stateAdmitted
+  unfolding steppedBy stateAdmitted
   strange-state h = rw (well, lt-ltb (firstStrange t d) (t .count) h) refl
 
   module _ (each : t .count ≤ firstStrange t d) where
     pub strange-last : lastStrange t d ≡ true → slotSaid (stepped t d done .answer) ≡ 8 ∷ taskLimit ∷ []
-    unfolding stepped stateAdmitted
+    unfolding steppedBy stateAdmitted
     strange-last last = rw (well, le-ltb (firstStrange t d) (t .count) each, last) refl
 
     pub strange-sum : lastStrange t d ≡ false → slotCountLimit < slotCount t d
         → slotSaid (stepped t d done .answer) ≡ 8 ∷ sumPlace ∷ []
-    unfolding stepped stateAdmitted
+    unfolding steppedBy stateAdmitted
     strange-sum last more =
         rw (well, le-ltb (firstStrange t d) (t .count) each, last, lt-ltb slotCountLimit (slotCount t d) more) refl
 
     pub full-state : lastStrange t d ≡ false → slotCount t d ≡ slotCountLimit
         → slotSaid (stepped t d done .answer) ≡ 9 ∷ 0 ∷ []
-    unfolding stepped
+    unfolding steppedBy
     full-state last full =
         rw (state-admitted t m well d each last (omega arith), eq-eqb (slotCount t d) slotCountLimit full) refl
 
     -- Every other state is taken.
     pub taken-state : lastStrange t d ≡ false → slotCount t d < slotCountLimit
         → stepped t d done ≡ record { answer = SlotAnswer.Slot (turn t d done); state = after t d done }
-    unfolding stepped
+    unfolding steppedBy
     taken-state last room =
         let more = ne-eqb (slotCount t d) slotCountLimit (λ e. absurd (omega arith)) in
         rw (state-admitted t m well d each last (omega arith), more) refl
@@ -317,7 +318,7 @@ module _ (t : Table) (m : Measure) (d : State) (done : Bool) (well : judged t �
     pub taken-said : lastStrange t d ≡ false → slotCount t d < slotCountLimit
         → slotSaid (stepped t d done .answer) ≡ 0 ∷ ownerNow t d done ∷ bits (isLate t d done) taskLimit
         ∷ count (isLate t d done) taskLimit ∷ first (isLate t d done) 0 taskLimit ∷ []
-    unfolding turn
+    unfolding turnBy
     taken-said last room = rw (taken-state last room) refl
 
 -- A state that is taken leads to one that counts one slot more and that 8 does not refuse, whoever made it: once a step
@@ -331,8 +332,8 @@ pub taken-next : (t : Table) (m : Measure) (d : State) (done : Bool) → judged 
 taken-next t m d done well waits lefts gives each ran =
     let r = judged-iff t m .0 well .0 in
     let belongs : Belongs t d = record { waits = waits; lefts = lefts; gives = gives; each = each; ran = ran } in
-    let b = belongs-after t r d done belongs in
-    (b .waits, b .lefts, b .gives, b .each, b .ran, slots-after t r d done belongs)
+    let b = belongs-after t r (tieOrder t) d done belongs in
+    (b .waits, b .lefts, b .gives, b .each, b .ran, slots-after t r (tieOrder t) d done belongs)
 
 -- A refused step hands the state back as it came.
 pub refused-step : (t : Table) (d : State) (done : Bool) (r : Refusal)

@@ -21,8 +21,8 @@ use Rattle.model.specs.Demand.{arrivedIn, demand, lateAt}
 use Rattle.model.specs.Run.{tieOrder, choose, ownerOf, served, Worst}
 use Rattle.model.specs.Idle.{idleAt, firstIdle}
 use Rattle.model.specs.Verdict.{needed, lateStart, verdict, settledBy, Permitted}
-use Rattle.model.specs.Dispatcher.{startOf, ownerNow, after}
-use Rattle.model.specs.History.{stateAt}
+use Rattle.model.specs.Dispatcher.{startOf, ownerNowBy, afterBy}
+use Rattle.model.specs.History.{stateAtBy}
 use Rattle.model.specs.TableFile.{tableOf, periodicFrom}
 use Rattle.model.specs.Easing.{Eased, Lowered, easing, firstTasks, easedExported}
 use Rattle.model.specs.Examples.{of, table-e, two-due}
@@ -30,7 +30,7 @@ use Rattle.wellformed.specs.WellFormed.{well-formed}
 use Rattle.backlog.specs.Eased.{eased-passes, eased-again, eased-of-lowered}
 use Rattle.backlog.specs.FirstChoice.{Told, first-choice, eased-told}
 use Rattle.backlog.specs.Lowered.{lowered-worst}
-use Rattle.backlog.specs.WalkWorst.{worstBy}
+use Rattle.backlog.specs.WalkWorst.{worstSeen}
 use Rattle.backlog.specs.Computed.{answerOf}
 use Rattle.tablefile.specs.Periodic.{well-periodic}
 pub use Rattle.telling.specs.Easings.{EasedMeans}
@@ -87,8 +87,8 @@ pub longer-deadline-slows :
     × ((a a' : Answer) → Permitted (two-due 1) 8 a → Permitted (two-due 3) 8 a'
     → (getD (a .worst) 0 0 ≡ 1) × (getD (a' .worst) 0 0 ≡ 2))
 unfolding answerOf judged judgedMixed firstButton firstFaulty taskFault first last round load horizon
-    largest sum count verdict settledBy needed lateStart lateAt demand arrivedIn worstBy stateAt
-    startOf after ownerNow choose fill firstIdle idleAt ownerOf served
+    largest sum count verdict settledBy needed lateStart lateAt demand arrivedIn worstSeen stateAtBy
+    startOf afterBy ownerNowBy choose fill firstIdle idleAt ownerOf served
 longer-deadline-slows =
     let worst : Answer → ℕ = λ a. getD (a .worst) 0 0 in
     (due-eased, λ a a' p p'. (ap worst (only-answer (two-due 1) 8 a p), ap worst (only-answer (two-due 3) 8 a' p')))

@@ -3,6 +3,7 @@
 use mathlib.Core.Path.{_≡_, refl}
 use mathlib.Core.List.{List, [], _∷_, map}
 use Prim.Native.Nat.{ℕ}
+use lib.Dec.{lit<}
 use Rattle.values.specs.declared.Table.{Table}
 use Rattle.values.specs.declared.Measure.{Measure}
 use Rattle.values.specs.declared.Verdict.{Verdict}
@@ -12,14 +13,16 @@ use Rattle.model.specs.Values.{outcomeSaid}
 use Rattle.model.specs.Notation.{sum, largest, count, first, last, fill}
 use Rattle.model.specs.Tasks.{taskFault, firstFaulty, round, load, horizon, judgedMixed, firstButton, judged}
 use Rattle.model.specs.Demand.{arrivedIn, demand, lateAt}
-use Rattle.model.specs.Run.{choose, ownerOf, served}
+use Rattle.model.specs.Run.{Worst, choose, ownerOf, served}
 use Rattle.model.specs.Idle.{idleAt, firstIdle}
 use Rattle.model.specs.Verdict.{needed, lateStart, verdict, settledBy, brief}
-use Rattle.model.specs.Dispatcher.{startOf, ownerNow, after}
-use Rattle.model.specs.History.{stateAt}
+use Rattle.model.specs.Dispatcher.{startOf, ownerNowBy, afterBy}
+use Rattle.model.specs.History.{stateAtBy}
 use Rattle.model.specs.Examples.{padded, table-a, table-b, table-c, table-d, table-e, table-f, table-g, table-h}
 use Rattle.model.specs.Examples.{table-i, table-j, table-lamp}
-use Rattle.backlog.specs.WalkWorst.{worstBy}
+use Rattle.wellformed.specs.WellFormed.{well-formed}
+use Rattle.backlog.specs.PassedWorst.{met-of-passed}
+use Rattle.backlog.specs.WalkWorst.{worstSeen, walk-worst}
 use Rattle.backlog.specs.Computed.{answerOf}
 pub use Rattle.telling.specs.Rows.{Row, AllPermitted}
 use Rattle.telling.specs.Rows.{all-permitted}
@@ -59,8 +62,8 @@ rows =
 -- Every row's answer is the one permitted.
 pub tables-answered : AllPermitted rows
 unfolding answerOf judged judgedMixed firstButton firstFaulty taskFault first last round load horizon
-    largest sum count verdict settledBy needed lateStart lateAt demand arrivedIn worstBy stateAt
-    startOf after ownerNow choose fill firstIdle idleAt ownerOf served
+    largest sum count verdict settledBy needed lateStart lateAt demand arrivedIn worstSeen stateAtBy
+    startOf afterBy ownerNowBy choose fill firstIdle idleAt ownerOf served
 tables-answered = all-permitted rows refl
 
 -- In the specification's numbers: 4 passes, 3 late with its interval and demand, 2 undecided, 1 overload.
@@ -70,3 +73,12 @@ pub tables-said :
     ∷ (3 ∷ 0 ∷ 1 ∷ 2 ∷ []) ∷ (4 ∷ []) ∷ (3 ∷ 4 ∷ 7 ∷ 4 ∷ []) ∷ (1 ∷ []) ∷ (4 ∷ [])
     ∷ (2 ∷ []) ∷ (4 ∷ []) ∷ (2 ∷ []) ∷ (3 ∷ 8 ∷ 15 ∷ 8 ∷ []) ∷ (4 ∷ []) ∷ []
 tables-said = refl
+
+-- The lamp with ties by number alone, as they went before T-06: 5 and 3, where our order has 6 and 1.
+pub lamp-by-number : Worst table-lamp (λ i. i) 0 5 × Worst table-lamp (λ i. i) 1 3
+unfolding judged judgedMixed firstButton firstFaulty taskFault first last round load horizon largest sum count
+    verdict needed lateStart lateAt demand arrivedIn worstSeen stateAtBy startOf afterBy ownerNowBy choose fill
+lamp-by-number =
+    let ranged = well-formed table-lamp (measured 6 6 15) refl .ranged in
+    let met = met-of-passed table-lamp ranged 1000 refl (λ i. i) in
+    (walk-worst table-lamp ranged (λ i. i) met 0 (lit< tt), walk-worst table-lamp ranged (λ i. i) met 1 (lit< tt))

@@ -18,8 +18,9 @@ use Rattle.model.specs.Limits.{taskLimit, wordLimit, budgetLimit, slotCountLimi
 use Rattle.model.specs.Notation.{count}
 use Rattle.model.specs.Tasks.{judged}
 use Rattle.model.specs.TableFile.{eight, formOf}
-use Rattle.model.specs.Dispatcher.{State, givenOf, started, stepped, turn}
-use Rattle.model.specs.History.{stateAt, ownerAt}
+use Rattle.model.specs.Run.{tieOrder}
+use Rattle.model.specs.Dispatcher.{State, givenOf, started, stepped, turn, turnBy}
+use Rattle.model.specs.History.{stateAt, stateAtBy, ownerAt}
 use Rattle.model.specs.Report.{Exported}
 use Rattle.model.specs.StateBuffer.{countsAt, stateBytes, bufferOf, stateIn, quiet, startWritten, stepWritten, onFile, startExported, stepExported, handed}
 use Rattle.counting.specs.Count.{count-bound, one-of-iff}
@@ -36,32 +37,32 @@ use Rattle.statebuffer.specs.RoundTrip.{Fits, state-back, buffer-size}
 module _ (t : Table) (r : Ranged t) (done : ℕ → Bool) where
   wait-small : (n i : ℕ) → getD (stateAt t done n .wait) i 0 < wordLimit
   wait-small n i = elim (decLt i (t .count)) [
-    | yes l ↦ omega (arith, known t (stateAt t done n) (sound t r done n .belongs) i l .wait-le, r .each i l .offset-le, r .each i l .period-le)
-    | no l ↦ omega (arith, past-none t done n i (omega arith) .0)
+    | yes l ↦ omega (arith, known t (stateAt t done n) (sound t r (tieOrder t) done n .belongs) i l .wait-le, r .each i l .offset-le, r .each i l .period-le)
+    | no l ↦ omega (arith, past-none t (tieOrder t) done n i (omega arith) .0)
   ]
 
   left-small : (n i : ℕ) → getD (stateAt t done n .left) i 0 < wordLimit
   left-small n i = elim (decLt i (t .count)) [
-    | yes l ↦ omega (arith, known t (stateAt t done n) (sound t r done n .belongs) i l .left-le, r .each i l .cost-le, r .each i l .deadline-le, r .each i l .period-le)
-    | no l ↦ omega (arith, past-none t done n i (omega arith) .1)
+    | yes l ↦ omega (arith, known t (stateAt t done n) (sound t r (tieOrder t) done n .belongs) i l .left-le, r .each i l .cost-le, r .each i l .deadline-le, r .each i l .period-le)
+    | no l ↦ omega (arith, past-none t (tieOrder t) done n i (omega arith) .1)
   ]
 
   last-small : (n : ℕ) → stateAt t done n .last < wordLimit
-  last-small n = elim (one-of-iff (stateAt t done n .last) taskLimit (t .count) .0 (sound t r done n .belongs .ran)) [ inl e ↦ omega arith | inr l ↦ omega (arith, r .few) ]
+  last-small n = elim (one-of-iff (stateAt t done n .last) taskLimit (t .count) .0 (sound t r (tieOrder t) done n .belongs .ran)) [ inl e ↦ omega arith | inr l ↦ omega (arith, r .few) ]
 
   given-small : (n : ℕ) → n ≤ slotCountLimit → (i : ℕ) → getD (stateAt t done n .given) i 0 < budgetLimit
   given-small n h i = elim (decLt i (t .count)) [
-    | yes l ↦ omega (arith, given-is t r done n i l, count-bound (λ k. eqb (ownerAt t done k) i) n)
-    | no l ↦ omega (arith, past-none t done n i (omega arith) .2)
+    | yes l ↦ omega (arith, given-is t r (tieOrder t) done n i l, count-bound (λ k. eqb (ownerAt t done k) i) n)
+    | no l ↦ omega (arith, past-none t (tieOrder t) done n i (omega arith) .2)
   ]
 
   pub fits : (n : ℕ) → n ≤ slotCountLimit → Fits (stateAt t done n)
   fits n h = record {
-    waits = sound t r done n .belongs .waits;
-    lefts = sound t r done n .belongs .lefts;
-    gives = sound t r done n .belongs .gives;
+    waits = sound t r (tieOrder t) done n .belongs .waits;
+    lefts = sound t r (tieOrder t) done n .belongs .lefts;
+    gives = sound t r (tieOrder t) done n .belongs .gives;
     given-fits = λ i l. given-small n h i;
-    empty-fits = omega (arith, empty-is t done n, count-bound (λ k. eqb (ownerAt t done k) taskLimit) n);
+    empty-fits = omega (arith, empty-is t (tieOrder t) done n, count-bound (λ k. eqb (ownerAt t done k) taskLimit) n);
     wait-fits = λ i l. wait-small n i;
     left-fits = λ i l. left-small n i;
     last-fits = last-small n;
@@ -80,7 +81,7 @@ module _ (file : List ℕ) (t : Table) (m : Measure) (formed : formOf file .admi
   reports n = not (eqb (done n) 0)
 
   pub starts : startExported file lent ≡ record { number = 0; buffer = bufferOf (stateAt t reports 0) quiet }
-  unfolding started stateAt
+  unfolding started stateAtBy
   starts = on-table stateBytes file lent t (λ k. startWritten lent (started k .state) (started k .admission)) formed held size ∙ rw well refl
 
   abbrev told : ℕ → Turn
@@ -89,7 +90,7 @@ module _ (file : List ℕ) (t : Table) (m : Measure) (formed : formOf file .admi
   stepped-in : (n : ℕ) → n < slotCountLimit → (buffer : List ℕ) (u : Turn) → buffer ≡ bufferOf (stateAt t reports n) u → stepExported file buffer (done n) ≡ record { number = told n .owner; buffer = bufferOf (stateAt t reports (suc n)) (told n) }
   stepped-in n h buffer u e =
       on-table stateBytes file buffer t (λ k. let s = stepped k (stateIn buffer) (reports n) in stepWritten buffer (s .state) (s .answer)) formed held (ap length e ∙ buffer-size _ u (fits t r reports n (omega arith)))
-      ∙ rw (e, state-back _ u (fits t r reports n (omega arith)), never-refused t m well reports n h)
+      ∙ rw (e, state-back _ u (fits t r reports n (omega arith)), never-refused t m well (tieOrder t) reports n h)
 
   holds : (n : ℕ) → n ≤ slotCountLimit → (u : Turn) × (handed file lent done n ≡ bufferOf (stateAt t reports n) u)
   unfolding handed
@@ -97,7 +98,7 @@ module _ (file : List ℕ) (t : Table) (m : Measure) (formed : formOf file .admi
   holds (suc n) h = let (u, e) = holds n (omega arith) in (told n, ap (λ (x : Exported). x .buffer) (stepped-in n (omega arith) (handed file lent done n) u e))
 
   pub steps : (n : ℕ) → n < slotCountLimit → stepExported file (handed file lent done n) (done n) ≡ record { number = ownerAt t reports n; buffer = bufferOf (stateAt t reports (suc n)) (turn t (stateAt t reports n) (reports n)) }
-  unfolding turn
+  unfolding turnBy
   steps n h = let (u, e) = holds n (omega arith) in stepped-in n h (handed file lent done n) u e
 
   -- After n steps the counts in the buffer are those of the history of owners.
@@ -105,7 +106,7 @@ module _ (file : List ℕ) (t : Table) (m : Measure) (formed : formOf file .admi
       ((i : ℕ) → i < t .count → eight b (countsAt + 8 * i) ≡ count (λ k. eqb (ownerAt t reports k) i) n) × (eight b (countsAt + 8 * taskLimit) ≡ count (λ k. eqb (ownerAt t reports k) taskLimit) n)
   unfolding stateIn
   counts n h =
-      (λ i l. given-read i (omega (arith, r .few)) ∙ ap (λ (d : State). givenOf d i) held-state ∙ given-is t r reports n i l, ap (λ (d : State). d .empty) held-state ∙ empty-is t reports n)
+      (λ i l. given-read i (omega (arith, r .few)) ∙ ap (λ (d : State). givenOf d i) held-state ∙ given-is t r (tieOrder t) reports n i l, ap (λ (d : State). d .empty) held-state ∙ empty-is t (tieOrder t) reports n)
     where
       held-state : stateIn (handed file lent done n) ≡ stateAt t reports n
       held-state = let (u, e) = holds n h in rw e (state-back (stateAt t reports n) u (fits t r reports n h))

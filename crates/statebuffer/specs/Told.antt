@@ -17,7 +17,8 @@ use Rattle.model.specs.Limits.{taskLimit, slotCountLimit, sumPlace}
 use Rattle.model.specs.Tasks.{judged}
 use Rattle.model.specs.TableFile.{formOf}
 use Rattle.model.specs.Values.{refusal}
-use Rattle.model.specs.Dispatcher.{State, slotCount, firstStrange, lastStrange, admittedBy, admitted, after, turn, startJudged, started, refuseStep, stepAdmitted, stepped}
+use Rattle.model.specs.Run.{tieOrder}
+use Rattle.model.specs.Dispatcher.{State, slotCount, firstStrange, lastStrange, admittedBy, admitted, after, turn, turnBy, startJudged, started, refuseStep, stepAdmittedBy, stepped, steppedBy}
 use Rattle.model.specs.Report.{Exported, refused}
 use Rattle.model.specs.StateBuffer.{stateBytes, stateIn, startWritten, stepWritten, onFile, startExported, stepExported}
 use Rattle.wellformed.specs.WellFormed.{well-formed}
@@ -64,8 +65,8 @@ start-apart file buffer = file-apart TakenStart stateBytes file buffer (λ t. st
 
 -- The owner of a slot is a task or none.
 owner-range : (t : Table) (d : State) (done : Bool) → t .count ≤ taskLimit → let k = turn t d done .owner in (k ≤ taskLimit) × ((k ≡ taskLimit) ⊎ (k < t .count))
-unfolding turn
-owner-range t d done few = go (owner-one t d done few)
+unfolding turnBy
+owner-range t d done few = go (owner-one t (tieOrder t) d done few)
   where
     go : {k : ℕ} → (k ≡ taskLimit) ⊎ (k < t .count) → (k ≤ taskLimit) × ((k ≡ taskLimit) ⊎ (k < t .count))
     go (inl e) = (omega arith, inl e)
@@ -87,12 +88,12 @@ admitted-tellable t d = by (judged t) refl (judged-tellable t)
         go false false false p = tt
 
 pub step-apart : (file buffer : List ℕ) (done : ℕ) → Apart (TakenStep (formOf file .table)) buffer (stepExported file buffer done)
-unfolding stepped
+unfolding steppedBy
 step-apart file buffer done =
     let t = formOf file .table in
     file-apart (TakenStep t) stateBytes file buffer (λ t. let s = stepped t (stateIn buffer) (not (eqb done 0)) in stepWritten buffer (s .state) (s .answer)) (by t (stateIn buffer) (not (eqb done 0)) (admitted t (stateIn buffer)) refl (admitted-tellable t (stateIn buffer)))
   where
-    by : (t : Table) (d : State) (report : Bool) (a : Admission) → admitted t d ≡ a → AdmissionTellable a → let s = stepAdmitted t d report a in Apart (TakenStep t) buffer (stepWritten buffer (s .state) (s .answer))
+    by : (t : Table) (d : State) (report : Bool) (a : Admission) → admitted t d ≡ a → AdmissionTellable a → let s = stepAdmittedBy t (tieOrder t) d report a in Apart (TakenStep t) buffer (stepWritten buffer (s .state) (s .answer))
     by t d report (Admission.Refused r) e n = inr (r, refl, n)
     by t d report Admission.Admitted e n = go (eqb (slotCount t d) slotCountLimit)
       where

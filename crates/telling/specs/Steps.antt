@@ -13,8 +13,9 @@ use Rattle.values.specs.declared.Admission.{Admission}
 use Rattle.values.specs.declared.SlotAnswer.{SlotAnswer}
 use Rattle.model.specs.Limits.{slotCountLimit}
 use Rattle.model.specs.Tasks.{judged}
+use Rattle.model.specs.Run.{tieOrder}
 use Rattle.model.specs.Dispatcher.{State, Stepped, slotCount, firstStrange, lastStrange}
-use Rattle.model.specs.Dispatcher.{admitted, stepAdmitted, stepped}
+use Rattle.model.specs.Dispatcher.{admitted, stepAdmittedBy, stepped, steppedBy}
 use Rattle.wellformed.specs.Admitted.{admitted-iff}
 
 pub state-admitted : (t : Table) (m : Measure) → judged t ≡ Judgement.WellFormed m → (d : State)
@@ -29,12 +30,12 @@ module _ (t : Table) (d : State) (done : Bool) (r : Refusal) where
   either true x y p n e = p
   either false x y p n e = absurd (n e)
 
-  by-admission : (a : Admission) → stepAdmitted t d done a .answer ≡ SlotAnswer.Refused r
-      → stepAdmitted t d done a .state ≡ d
+  by-admission : (a : Admission) → stepAdmittedBy t (tieOrder t) d done a .answer ≡ SlotAnswer.Refused r
+      → stepAdmittedBy t (tieOrder t) d done a .state ≡ d
   by-admission (Admission.Refused w) e = refl
   by-admission Admission.Admitted e =
       either (eqb (slotCount t d) slotCountLimit) _ _ refl (λ q. let z : _≡_ {A = ℕ} 0 1 = cc in absurd (omega arith)) e
 
   pub refused-stays : stepped t d done .answer ≡ SlotAnswer.Refused r → stepped t d done .state ≡ d
-  unfolding stepped
+  unfolding steppedBy
   refused-stays = by-admission (admitted t d)

@@ -15,7 +15,7 @@ use Rattle.model.specs.Run.{tieOrder}
 use Rattle.model.specs.Idle.{idleAt, firstIdle}
 use Rattle.counting.specs.Search.{first-from, least-le}
 use Rattle.wellformed.specs.Ranges.{Ranged}
-use Rattle.backlog.specs.WalkWorst.{worstBy}
+use Rattle.backlog.specs.WalkWorst.{worstBy, worstSeen}
 use Rattle.patterns.specs.FirstIdle.{first-idle}
 
 -- The first idle instant after 0 if it is at most n, and else 0.
@@ -39,7 +39,7 @@ unfolding firstIdle
 idle-later t = first-from (idleAt t (tieOrder t)) 1 (round t)
 
 pub tally-start : (t : Table) → Tally t 0 (replicate taskLimit 0) 0
-unfolding worstBy idleBy
+unfolding worstSeen idleBy
 tally-start t = record { worsts = refl; idles = rw (lt-ltb 0 (firstIdle t (tieOrder t)) (idle-later t)) refl }
 
 -- One that was found is the first, and one that was not found is later.

@@ -14,8 +14,8 @@ use Rattle.model.specs.Limits.{taskLimit}
 use Rattle.model.specs.Tasks.{task}
 use Rattle.model.specs.Demand.{lateAt}
 use Rattle.model.specs.Run.{tieOrder}
-use Rattle.model.specs.Dispatcher.{State, startOf, waitOf, isLate, leftLate, ownerNow, after}
-use Rattle.model.specs.History.{stateAt, ownerAt}
+use Rattle.model.specs.Dispatcher.{State, startOf, waitOf, isLate, leftLate, ownerNowBy, afterBy}
+use Rattle.model.specs.History.{stateAtBy, ownerAt}
 use Rattle.counting.specs.Count.{is-false}
 use Rattle.counting.specs.Search.{below-suc}
 use Rattle.wellformed.specs.Ranges.{Ranged}
@@ -46,7 +46,7 @@ pub record Walked (t : Table) (n : ℕ) (wait left : List ℕ) : Type 0 where
   pub lefts : left ≡ walked t n .left
 
 pub walked-start : (t : Table) → Walked t 0 (startOf t .wait) (replicate taskLimit 0)
-unfolding stateAt startOf
+unfolding stateAtBy startOf
 walked-start t = record { clear = λ u l. absurd (omega arith); waits = refl; lefts = refl }
 
 module _ (t : Table) (r : Ranged t) (n : ℕ) where
@@ -64,29 +64,29 @@ module _ (t : Table) (r : Ranged t) (n : ℕ) where
   ]
 
   clear-more : Clear t n → ((i : ℕ) → i < t .count → T (seen i) → ⊥) → Clear t (suc n)
-  clear-more c none = below-suc (λ u. T (lateAt t u) → ⊥) n c (λ h. let (i, m, x) = late-iff t r n c .1 h in none i m (subst T (sym (same-late i)) x))
+  clear-more c none = below-suc (λ u. T (lateAt t u) → ⊥) n c (λ h. let (i, m, x) = late-iff t r (tieOrder t) n c .1 h in none i m (subst T (sym (same-late i)) x))
 
   late-found : Clear t n → (i : ℕ) × (i < t .count) × T (seen i) → T (lateAt t n)
-  late-found c h = let (i, l, x) = h in late-iff t r n c .0 (i, l, subst T (same-late i) x)
+  late-found c h = let (i, l, x) = h in late-iff t r (tieOrder t) n c .0 (i, l, subst T (same-late i) x)
 
   -- A served slot is step n.
   module _ (clear : Clear t (suc n)) {wait′ left′ : List ℕ} {owner : ℕ} (s : Slotted (t .count) (slot.at (st .wait)) (slot.at (st .left)) (slot.at (columnsOf t .period)) (slot.at (columnsOf t .cost)) (slot.at (columnsOf t .slack)) (slot.at (columnsOf t .rank)) (st .wait) (st .left) wait′ left′ owner) where
     lefts-have : Has (t .count) (st .left) (leftLate t st false)
-    lefts-have i l = rw (is-false (isLate t st false i) (λ h. clear n (le-refl (suc n)) (late-iff t r n (λ u m. clear u (le-step m)) .0 (i, l, h)))) refl
+    lefts-have i l = rw (is-false (isLate t st false i) (λ h. clear n (le-refl (suc n)) (late-iff t r (tieOrder t) n (λ u m. clear u (le-step m)) .0 (i, l, h)))) refl
 
     slotted : Slotted (t .count) (waitOf st) (leftLate t st false) (λ i. task t i .period) (λ i. task t i .cost) (λ i. task t i .period - task t i .deadline) (tieOrder t) (st .wait) (st .left) wait′ left′ owner
     slotted = table-served t (r .few) (st .wait) (st .left) (waitOf st) (leftLate t st false) (λ i l. refl) lefts-have s
 
     step-owner : owner ≡ ownerAt t quiet n
-    unfolding ownerNow
+    unfolding ownerNowBy
     step-owner = slotted .owned
 
     step-waits : wait′ ≡ walked t (suc n) .wait
-    unfolding stateAt after
+    unfolding stateAtBy afterBy
     step-waits = slotted .waits
 
     step-lefts : left′ ≡ walked t (suc n) .left
-    unfolding stateAt after
+    unfolding stateAtBy afterBy
     step-lefts = slotted .lefts ∙ rw step-owner refl
 
 -- One turn of a walk, in the lists that it holds.

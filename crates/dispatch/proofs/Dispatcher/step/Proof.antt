@@ -1,7 +1,7 @@
 -- Refused as the table is, or a step on a well-formed table.
 use mathlib.Core.Path.{sym, _∙_}
 use borrow.Author.Needs.{needs}
-use Rattle.model.specs.Dispatcher.{admitted, stepped}
+use Rattle.model.specs.Dispatcher.{admitted, steppedBy}
 use Rattle.wellformed.specs.WellFormed.{well-formed}
 use Rattle.dispatch.proofs.Dispatcher.step.Statement.{statement}
 use Rattle.dispatch.proofs.Dispatcher.step.Tie as tie
@@ -22,11 +22,11 @@ step-well-formed-requires : tie.Need-step-well-formed-requires
 step-well-formed-requires c κs = well-formed _ _ (sym (c .before .before .judge .ensures) ∙ c .enum-told .given .1) .ranged
 
 returns : tie.Need-returns
-unfolding stepped admitted
+unfolding steppedBy admitted
 returns c = rw (← c .before .before .before .before .judge .ensures, c .before .before .why .given .1) (c .handed-back .ensures)
 
 returns-2 : tie.Need-returns-2
-unfolding stepped admitted
+unfolding steppedBy admitted
 returns-2 c = rw (← c .before .before .before .judge .ensures, c .before .enum-told .given .1) (c .step-well-formed .ensures)
 
 pub step-spec : {M : Type 1} → statement M
