@@ -3,13 +3,13 @@ use mathlib.Core.Path.{_≡_, refl, sym, ap, _∙_}
 use mathlib.Core.Logic.{_≢_}
 use mathlib.Core.Bool.{Bool, true, false, cond, _&&_, _||_}
 use mathlib.Core.List.{List}
-use Prim.Native.Nat.{ℕ, _+_, _<_}
+use Prim.Native.Nat.{ℕ, _+_, _≤_, _<_}
 use native.Mathlib.Numerals.{add-one}
 use native.Mathlib.Omega.{arith}
 use borrow.Author.Tests.{ne-eqb, eqb-true}
 use lib.Dec.{eqb, ltb}
-use lib.ListN.{length, getD, take}
-use lib.Seq.{take-suc}
+use lib.ListN.{length, getD, take, drop, take-append-drop}
+use lib.Seq.{take-suc, take-all}
 use Rattle.values.specs.declared.Table.{Table}
 use Rattle.values.specs.declared.Judgement.{Judgement}
 use Rattle.values.specs.declared.Admission.{Admission}
@@ -18,6 +18,7 @@ use Rattle.model.specs.Limits.{taskLimit, logLimit}
 use Rattle.model.specs.Tasks.{measure}
 use Rattle.model.specs.Dispatcher.{State, admittedBy, after}
 use Rattle.model.specs.Log.{Log, dueOwner, slotRead, taskRead, kindRead, readBy, readByte, readAll, logAdmittedBy, logAdmitted}
+use Rattle.model.specs.LogMeaning.{Final}
 use Rattle.counting.specs.Count.{one-of-iff}
 use Rattle.wellformed.specs.Ranges.{Ranged}
 use Rattle.wellformed.specs.WellFormed.{well-formed}
@@ -25,7 +26,7 @@ use Rattle.dispatch.specs.Step.{Unrefused}
 use Rattle.logbook.specs.declared.Reading.{Reading}
 use Rattle.logbook.specs.State.{joined}
 use Rattle.logbook.specs.Fits.{Sized, Fits, log-admitted-iff, fits-byte}
-use Rattle.logbook.specs.Cuts.{read-joined}
+use Rattle.logbook.specs.Cuts.{read-joined, stays}
 
 -- Whether a log of a well-formed table is admitted.
 abbrev pub logBelonging : Table → Log → Admission
@@ -173,8 +174,29 @@ still t l b r e = rw e (record { ranged = r .ranged; fits = fits-byte t (r .rang
 pub readable : (t : Table) (l : Log) → Sized (l .state) → logAdmitted t l ≡ Admission.Admitted → Readable t l
 readable t l size e = let ((m, well), f) = log-admitted-iff t l size .0 e in record { ranged = well-formed t m well .ranged; fits = f }
 
--- A turn of the loop: one byte more is read.
-pub one-more : (t : Table) (l : Log) (piece : List ℕ) (i : ℕ) {before after : Log} → i < length piece → before ≡ readAll t l (take i piece) → after ≡ readByte t before (getD piece i 0) → after ≡ readAll t l (take (i + 1) piece)
+-- The bytes of a piece below `at` are read, and another may be.
+pub record ReadTo (t : Table) (start : Log) (piece : List ℕ) (at : ℕ) (l : Log) : Type 0 where
+  pub may : Readable t l
+  pub so : l ≡ readAll t start (take at piece)
+
+pub read-none : (t : Table) (l : Log) (piece : List ℕ) → Readable t l → ReadTo t l piece 0 l
 unfolding readAll
-one-more t l piece i h e f =
-    f ∙ ap (λ (k : Log). readByte t k (getD piece i 0)) e ∙ rw (add-one i, take-suc piece i 0, read-joined t l (take i piece) _)
+read-none t l piece r = record { may = r; so = refl }
+
+-- One byte more is read.
+pub one-more : {t : Table} {start before after : Log} {piece : List ℕ} {at : ℕ} → at < length piece → ReadTo t start piece at before → after ≡ readByte t before (getD piece at 0) → ReadTo t start piece (at + 1) after
+unfolding readAll
+one-more {t} {start} {before} {after} {piece} {at} h r f =
+    record {
+      may = still t before (getD piece at 0) (r .may) f;
+      so = f ∙ ap (λ (k : Log). readByte t k (getD piece at 0)) (r .so) ∙ rw (add-one at, take-suc piece at 0, read-joined t start (take at piece) _);
+    }
+
+-- The whole piece is, where none is left, or where what is found is final.
+pub all-read : {t : Table} {start l : Log} {piece : List ℕ} {at : ℕ} → length piece ≤ at → ReadTo t start piece at l → l ≡ readAll t start piece
+all-read {t} {start} {piece = piece} h r = r .so ∙ ap (readAll t start) (take-all _ piece h)
+
+pub rest-stays : {t : Table} {start l : Log} {piece : List ℕ} {at : ℕ} → Final (l .found) → ReadTo t start piece at l → l ≡ readAll t start piece
+rest-stays {t} {start} {l} {piece} {at} f r =
+    sym (stays t l (drop at piece) f) ∙ ap (λ (k : Log). readAll t k (drop at piece)) (r .so)
+    ∙ sym (read-joined t start (take at piece) (drop at piece)) ∙ ap (readAll t start) (take-append-drop at piece)

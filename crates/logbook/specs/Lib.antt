@@ -6,3 +6,4 @@ pub mod Bytes
 pub mod Reading
 pub mod Kept
 pub mod Answers
+pub mod InPlace

@@ -1,23 +1,26 @@
 // The judge of a camera's log, in pieces cut anywhere: any table, any state and any bytes.
 ghost use mathlib.Core.Path.{_≡_};
 ghost use mathlib.Core.Bool.{false, true, cond, not, _&&_, _||_};
-ghost use Prim.Native.Nat.{_-_, _≤_};
+ghost use Prim.Native.Nat.{_-_, _≤_, _<_};
 ghost use lib.Dec.{ltb, eqb};
 ghost use Rattle.values.specs.declared.Table.{Table};
 ghost use Rattle.values.specs.declared.Admission.{Admission};
 ghost use Rattle.values.specs.declared.Finding.{Finding};
 ghost use Rattle.model.specs.Limits.{taskLimit, logLimit};
-ghost use Rattle.model.specs.Log.{logStarted, fed, logFinished, logAdmitted, atEnd, readAll};
+ghost use Rattle.model.specs.Log.{Log as LogState, logStarted, fed, logFinished, logAdmitted, atEnd, readAll};
+ghost use Rattle.slots.specs.Slot.{closed};
 ghost use Rattle.dispatch.specs.State.{stateOf};
 ghost use Rattle.dispatch.specs.Step.{Unpacked, stateWith};
 ghost use Rattle.logbook.specs.State.{joined, logStateOf, fedOf};
-ghost use Rattle.logbook.specs.Bytes.{Readable, endsSlot, isDue, slotOn, stoppedAt, passedOn, doneHeard, kindHeard, otherRead, logBelonging};
+ghost use Rattle.logbook.specs.Bytes.{Readable, ReadTo, endsSlot, isDue, slotOn, stoppedAt, passedOn, doneHeard, kindHeard, otherRead, logBelonging};
+ghost use Rattle.logbook.specs.InPlace.{goesOn, isFinal};
 use dispatch::Counts;
 use dispatch::Dispatcher;
 use dispatch::Room;
 use slots::NO_TASK;
 use slots::Numbers;
 use slots::Ranks;
+use slots::Seen;
 use values::Admission;
 use values::Finding;
 use values::Judgement;
@@ -25,6 +28,9 @@ use values::LOG_LIMIT;
 use values::Refusal;
 use values::SLOT_COUNT_LIMIT;
 use values::Table;
+
+// So many bytes at a time: a block that has to be read twice is no longer.
+const BLOCK: usize = 256;
 
 // The place of 8 for a log whose counts are wrong.
 const COUNT_PLACE: u32 = NO_TASK + 2;
@@ -189,11 +195,11 @@ fn read_all(log: Log, t: Table, piece: &[u8]) -> Log
     let cost = columns.cost;
     let slack = columns.slack;
     let rank = columns.rank;
-    read_bytes(log, &period, &cost, &slack, &rank, t.count, piece)
+    read_blocks(log, &period, &cost, &slack, &rank, t.count, piece)
 }
 
-// The dispatcher's lists are touched only where a slot's record is whole, and its counts only where the slot is its own.
-fn read_bytes(
+// A block is read in place for as long as that goes, and then byte by byte; behind a fault or a difference nothing is read.
+fn read_blocks(
     log: Log,
     period: &Numbers,
     cost: &Numbers,
@@ -205,6 +211,71 @@ fn read_bytes(
     requires { ⌜ ((t : Table) × Unpacked t (now period) (now cost) (now slack) (now rank) n × Readable t (logStateOf log)) ⌝ }
     ensures { λ r. ⌜ ((t : Table) → Unpacked t (now (period .entry)) (now (cost .entry)) (now (slack .entry)) (now (rank .entry)) n → Readable t (logStateOf log) → logStateOf r ≡ readAll t (logStateOf log) (now (piece .entry))) ⌝ }
 {
+    let mut next = log;
+    let mut at = 0;
+    while at < piece.len() {
+        let reading = next.reading;
+        if is_final(reading) {
+            return next;
+        }
+        let end = block_end(at, piece.len());
+        let run = read_in_place(next, period, cost, slack, rank, n, piece, at, end);
+        let from = run.at;
+        next = run.log;
+        if from < end {
+            next = read_bytes(next, period, cost, slack, rank, n, piece, from, end);
+        }
+        at = end;
+    }
+    next
+}
+
+fn block_end(at: usize, len: usize) -> usize
+    requires { ⌜ at < len ⌝ }
+    ensures { λ r. ⌜ (at < r) × (r ≤ len) ⌝ }
+{
+    if len - at < BLOCK { len } else { at + BLOCK }
+}
+
+// A fault or a difference: no byte changes it.
+fn is_final(reading: Reading) -> bool
+    ensures { λ r. ⌜ r ≡ isFinal (reading .found) ⌝ }
+{
+    let found = reading.found;
+    match found {
+        Finding::Nothing => false,
+        Finding::Good => false,
+        Finding::Differs(_) => true,
+        Finding::Fault {
+            number: _,
+            place: _,
+        } => true,
+    }
+}
+
+// How far a piece is read, and the log then.
+struct Run {
+    at: usize,
+    log: Log,
+}
+
+// The lists step in place, up to the first finding. A slot that differs or has a late job spoils them: then nothing is read.
+fn read_in_place(
+    log: Log,
+    period: &Numbers,
+    cost: &Numbers,
+    slack: &Numbers,
+    rank: &Ranks,
+    n: usize,
+    piece: &[u8],
+    from: usize,
+    to: usize,
+) -> Run
+    requires { do ⌜ (from ≤ to) × (to ≤ (← ⟦piece.len()⟧)) ⌝ }
+    requires { ⌜ ((t : Table) × (start : LogState) × Unpacked t (now period) (now cost) (now slack) (now rank) n × ReadTo t start (now piece) from (logStateOf log)) ⌝ }
+    ensures within { λ r. ⌜ r .at ≤ to ⌝ }
+    ensures read { λ r. ⌜ ((t : Table) (start : LogState) → Unpacked t (now (period .entry)) (now (cost .entry)) (now (slack .entry)) (now (rank .entry)) n → ReadTo t start (now (piece .entry)) from (logStateOf log) → ReadTo t start (now (piece .entry)) (r .at) (logStateOf (r .log))) ⌝ }
+{
     let d = log.dispatcher;
     let mut wait = d.wait;
     let mut left = d.left;
@@ -212,7 +283,89 @@ fn read_bytes(
     let mut given = d.given;
     let mut empty = d.empty;
     let mut read = log.reading;
-    for i in 0..piece.len() {
+    let mut at = from;
+    while goes_on(read, at, to) {
+        let byte = piece[at];
+        if ends_slot(read, byte) {
+            hear_report(&mut left, last, read.done);
+            let seen = slots::serve(&mut wait, &mut left, period, cost, slack, rank, n);
+            if !is_met(seen, read.opened, byte, n) {
+                return Run { at: from, log };
+            }
+            last = seen.owner;
+            dispatch::count_given(&mut given, last);
+            empty = dispatch::count_empty(empty, last);
+            read = one_slot(read);
+        } else {
+            read = read_other(read, byte);
+        }
+        at = at + 1;
+    }
+    Run {
+        at,
+        log: log_of(wait, left, last, given, empty, read),
+    }
+}
+
+// Nothing is found yet, and a byte is left.
+fn goes_on(reading: Reading, at: usize, to: usize) -> bool
+    ensures { λ r. ⌜ r ≡ goesOn (reading .found) at to ⌝ }
+{
+    let found = reading.found;
+    match found {
+        Finding::Nothing => at < to,
+        Finding::Good => false,
+        Finding::Differs(_) => false,
+        Finding::Fault {
+            number: _,
+            place: _,
+        } => false,
+    }
+}
+
+// A done report closes the open job of the task that ran last.
+fn hear_report(left: &mut Numbers, last: u32, done: bool)
+    ensures { λ _. ⌜ now (left .exit) ≡ cond done (closed (now (left .entry)) last) (now (left .entry)) ⌝ }
+{
+    if done {
+        slots::close(left, last);
+    }
+}
+
+// No job was late, and the record is that of the owner.
+fn is_met(seen: Seen, opened: bool, byte: u8, n: usize) -> bool
+    ensures { λ r. ⌜ r ≡ cond (seen .late) false (isDue opened byte n (seen .owner)) ⌝ }
+{
+    if seen.late {
+        return false;
+    }
+    is_due(opened, byte, n, seen.owner)
+}
+
+// Any byte: the dispatcher's lists are changed only where the slot is its own.
+fn read_bytes(
+    log: Log,
+    period: &Numbers,
+    cost: &Numbers,
+    slack: &Numbers,
+    rank: &Ranks,
+    n: usize,
+    piece: &[u8],
+    from: usize,
+    to: usize,
+) -> Log
+    requires { do ⌜ (from ≤ to) × (to ≤ (← ⟦piece.len()⟧)) ⌝ }
+    requires { ⌜ ((t : Table) × (start : LogState) × Unpacked t (now period) (now cost) (now slack) (now rank) n × ReadTo t start (now piece) from (logStateOf log)) ⌝ }
+    ensures { λ r. ⌜ ((t : Table) (start : LogState) → Unpacked t (now (period .entry)) (now (cost .entry)) (now (slack .entry)) (now (rank .entry)) n → ReadTo t start (now (piece .entry)) from (logStateOf log) → ReadTo t start (now (piece .entry)) to (logStateOf r)) ⌝ }
+{
+    let d = log.dispatcher;
+    let mut wait = d.wait;
+    let mut left = d.left;
+    let mut last = d.last;
+    let mut given = d.given;
+    let mut empty = d.empty;
+    let mut read = log.reading;
+    for i in from..to {
         let byte = piece[i];
         if ends_slot(read, byte) {
             let moved = dispatch::advance(

@@ -21,11 +21,11 @@ unpacked : (c : tie.After-rank2) → let u = unpack-from c in
     Unpacked (u .before .before .args .t) (u .unpack .result .period) (u .unpack .result .cost) (u .unpack .result .slack) (u .unpack .result .rank) (u .before .before .args .t .count)
 unpacked c = (refl, unpack-from c .unpack .ensures)
 
-read-bytes-requires : tie.Need-read-bytes-requires
-read-bytes-requires c κs = let s = unpack-from c .before .before in (s .args .t, unpacked c, ready s)
+read-blocks-requires : tie.Need-read-blocks-requires
+read-blocks-requires c κs = let s = unpack-from c .before .before in (s .args .t, unpacked c, ready s)
 
 returns : tie.Need-returns
-returns c = let s = unpack-from (c .before) .before .before in c .read-bytes .ensures (s .args .t) (unpacked (c .before)) (ready s)
+returns c = let s = unpack-from (c .before) .before .before in c .read-blocks .ensures (s .args .t) (unpacked (c .before)) (ready s)
 
 pub read-all-spec : {M : Type 1} → statement M
-read-all-spec = tie.close (tie.spec unpack-requires read-bytes-requires returns)
+read-all-spec = tie.close (tie.spec unpack-requires read-blocks-requires returns)

@@ -1,33 +1,31 @@
 -- The bytes below `i` are read.
-use mathlib.Core.Path.{_≡_, refl, sym, ap, _∙_}
+use mathlib.Core.Path.{_≡_, sym, ap, _∙_}
 use mathlib.Core.Logic.{inl, inr}
 use Prim.Native.Nat.{ℕ, _-_, _≤_}
 use native.Mathlib.Omega.{arith}
-use lib.ListN.{length, getD, take}
-use lib.Seq.{take-length}
+use lib.ListN.{getD}
 use Rattle.values.specs.declared.Table.{Table}
 use Rattle.model.specs.Limits.{logLimit}
 use Rattle.model.specs.Dispatcher.{slotCount}
-use Rattle.model.specs.Log.{Log, readByte, readAll}
+use Rattle.model.specs.Log.{Log, readByte}
 use Rattle.dispatch.specs.Step.{Unpacked, Advanced, stateWith, owner-room, state-is}
-use Rattle.logbook.specs.State.{joined, logStateOf}
-use Rattle.logbook.specs.Bytes.{Readable, steps, slot-same, slot-other, slot-byte, other-byte, still, one-more}
+use Rattle.logbook.specs.State.{joined}
+use Rattle.logbook.specs.Bytes.{Readable, ReadTo, steps, slot-same, slot-other, slot-byte, other-byte, one-more}
 use borrow.Author.Needs.{needs}
 use Rattle.logbook.proofs.read_bytes.Statement.{statement}
 use Rattle.logbook.proofs.read_bytes.Tie as tie
 
 abbrev Inv-loop : tie.InvT-loop
-Inv-loop period cost slack rank n piece wait₀ left₀ last₀ given₀ empty₀ read₀ i₀ i-end wait left last given empty read i =
-    let start = joined (stateWith wait₀ left₀ last₀ given₀ empty₀) read₀ in
+Inv-loop period cost slack rank n piece from to wait₀ left₀ last₀ given₀ empty₀ read₀ i₀ wait left last given empty read i =
+    let log = joined (stateWith wait₀ left₀ last₀ given₀ empty₀) read₀ in
     let here = joined (stateWith wait left last given empty) read in
-    (i ≤ length piece) × ((t : Table) → Unpacked t period cost slack rank n → Readable t start → Readable t here × (here ≡ readAll t start (take i piece)))
+    (from ≤ i) × (i ≤ to) × ((t : Table) (start : Log) → Unpacked t period cost slack rank n → ReadTo t start piece from log → ReadTo t start piece i here)
 
 abbrev μ-loop : tie.MeasureT-loop
-μ-loop period cost slack rank n piece wait₀ left₀ last₀ given₀ empty₀ read₀ i₀ i-end wait left last given empty read i = length piece - i
+μ-loop period cost slack rank n piece from to wait₀ left₀ last₀ given₀ empty₀ read₀ i₀ wait left last given empty read i = to - i
 
 loop-holds : tie.Need-loop-holds Inv-loop μ-loop
-unfolding readAll
-loop-holds c = (omega arith, λ t u r. (r, refl))
+loop-holds c = (omega arith, omega arith, λ t start u r. r)
 
 shared-slice-read-byte : tie.Need-shared-slice-read-byte Inv-loop μ-loop
 shared-slice-read-byte c = search needs
@@ -43,8 +41,8 @@ abbrev here : tie.At-loop Inv-loop μ-loop → Log
 here c = joined (stateWith (c .loop .wait) (c .loop .left) (c .loop .last) (c .loop .given) (c .loop .empty)) (c .loop .read)
 
 -- Of the table that there is, it may be read on.
-now : (c : tie.At-loop Inv-loop μ-loop) → Readable (start-from c .pre .0) (here c)
-now c = let s = start-from c in c .loop .inv .1 (s .pre .0) (s .pre .1) (s .pre .2) .0
+now : (c : tie.At-loop Inv-loop μ-loop) → Readable (start-from c .pre .1 .0) (here c)
+now c = let (t, start, u, r) = start-from c .pre .1 in c .loop .inv .2 t start u r .may
 
 -- What a slot's rules make of it, of any such table.
 moved : (c : tie.After-advance Inv-loop μ-loop) (t : Table) → let turn = c .before .before .before .before .before in let s = start-from turn .args in
@@ -56,7 +54,7 @@ advance-requires : tie.Need-advance-requires Inv-loop μ-loop
 advance-requires c κs =
     let turn = c .before .before .before .before in
     let s = start-from turn in
-    (s .pre .0, turn .loop .given, turn .loop .empty, s .pre .1, steps _ (here turn) (now turn))
+    (s .pre .1 .0, turn .loop .given, turn .loop .empty, s .pre .1 .2, steps _ (here turn) (now turn))
 
 is-due-requires : tie.Need-is-due-requires Inv-loop μ-loop
 is-due-requires c κs = search needs
@@ -66,7 +64,7 @@ count-given-requires c κs =
     let went = c .before .before .before .before .before in
     let turn = went .before .before .before .before .before in
     let s = start-from turn in
-    owner-room (s .pre .0) (here turn .state) (turn .loop .read .done) (steps _ (here turn) (now turn)) (went .advance .result) (moved went (s .pre .0) (s .pre .1) (now turn))
+    owner-room (s .pre .1 .0) (here turn .state) (turn .loop .read .done) (steps _ (here turn) (now turn)) (went .advance .result) (moved went (s .pre .1 .0) (s .pre .1 .2) (now turn))
 
 count-empty-requires : tie.Need-count-empty-requires Inv-loop μ-loop
 unfolding slotCount
@@ -81,8 +79,8 @@ room c = let f = now c .fits in (omega (arith, f .slots-le, f .bytes-le), f .byt
 one-slot-requires : tie.Need-one-slot-requires Inv-loop μ-loop
 one-slot-requires c κs = room (c .before .before .before .before .before .before .before .before .before .before .before .before)
 
-cast-t26 : tie.Need-cast-t26 Inv-loop μ-loop
-cast-t26 c = omega (arith, room (c .before .before .before .before .before .before .before .before) .0)
+cast-t27 : tie.Need-cast-t27 Inv-loop μ-loop
+cast-t27 c = omega (arith, room (c .before .before .before .before .before .before .before .before) .0)
 
 found-in-requires : tie.Need-found-in-requires Inv-loop μ-loop
 found-in-requires c κs = search needs
@@ -121,23 +119,21 @@ turned c t unpacked readable =
 
 loop-again : tie.Need-loop-again Inv-loop μ-loop
 loop-again c =
-    let turn = c .before .before .before .before in (
+    let turn = c .before .before .before .before in
+    let below = start-from turn .pre .0 .1 in (
       omega arith,
-      λ t u r.
-          let (may, so) = turn .loop .inv .1 t u r in
-          let next = turned c t u may in
-          (still t _ _ may next, one-more t _ (start-from turn .args .piece .now) (turn .loop .i) (omega arith) so next),
+      omega arith,
+      λ t start u r. let here = turn .loop .inv .2 t start u r in one-more (omega (arith, below)) here (turned c t u (here .may)),
     )
 
 log-of-requires : tie.Need-log-of-requires Inv-loop μ-loop
 log-of-requires c κs = search needs
 
 returns : tie.Need-returns Inv-loop μ-loop
-returns c t u r =
+returns c t start u r =
     let turn = c .before .before in
-    let s = start-from turn .args in
-    let all : turn .loop .i ≡ length (s .piece .now) = omega arith in
-    c .log-of .ensures ∙ turn .loop .inv .1 t u r .1 ∙ ap (λ (n : ℕ). readAll t (logStateOf (s .log)) (take n (s .piece .now))) all ∙ ap (readAll t (logStateOf (s .log))) (take-length (s .piece .now))
+    let all : turn .loop .i ≡ start-from turn .args .to = omega arith in
+    rw (c .log-of .ensures, ← all) (turn .loop .inv .2 t start u r)
 
 pub read-bytes-spec : {M : Type 1} → statement M
 read-bytes-spec =
@@ -153,7 +149,7 @@ read-bytes-spec =
     count-given-requires
     count-empty-requires
     one-slot-requires
-    cast-t26
+    cast-t27
     found-in-requires
     read-other-requires
     add-i
