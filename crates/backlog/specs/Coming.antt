@@ -15,7 +15,7 @@ use Rattle.model.specs.Presses.{waitCome, leftCome, ownerCome, afterCome}
 use Rattle.counting.specs.Fill.{fill-eq}
 use Rattle.wellformed.specs.Ranges.{Ranged}
 use Rattle.backlog.specs.Choice.{Chosen, chosen-same}
-use Rattle.backlog.specs.Taken.{Fit, Belongs, KeptOrClosed, kept-or-closed, still-open, known, earliest-is, earliest-ready, earliest-one, wait-given, left-given, given-given, slots-given, belongs-given}
+use Rattle.backlog.specs.Taken.{Fit, Belongs, late-le, still-open, known, earliest-is, earliest-ready, earliest-one, wait-given, left-given, given-given, slots-given, belongs-given}
 
 module _ (t : Table) (r : Ranged t) (d : State) (done : Bool) (come : ℕ → Bool) where
   -- The slots from now to the deadline of task i's open job, if it has one.
@@ -42,10 +42,6 @@ module _ (t : Table) (r : Ranged t) (d : State) (done : Bool) (come : ℕ → Bo
     fit-come : (i : ℕ) → i < t .count → Fit t (waitCome t d done come) (leftCome t d done come) i
     fit-come i l = go (come i) refl
       where
-        kept : KeptOrClosed t d done i (leftLate t d done i) → leftLate t d done i ≤ leftOf d i
-        kept (inl e) = omega (arith, e .0)
-        kept (inr e) = omega (arith, e .0)
-
         go : (c : Bool) → come i ≡ c → Fit t (waitCome t d done come) (leftCome t d done come) i
         go true e =
             let w : waitCome t d done come i ≡ task t i .period = rw e in
@@ -64,7 +60,7 @@ module _ (t : Table) (r : Ranged t) (d : State) (done : Bool) (come : ℕ → Bo
             let was : 0 < leftCome t d done come i → (0 < leftOf d i) × (waitOf d i ≢ task t i .period - task t i .deadline) = λ p. still-open t d done i l (omega (arith, x)) in
             record {
               wait-le = omega (arith, w, o .wait-le);
-              left-le = omega (arith, x, o .left-le, kept (kept-or-closed t d done i));
+              left-le = omega (arith, x, o .left-le, late-le t d done i);
               open-from = λ p. let (q, y) = was p in omega (arith, w, o .open-from q);
               open-to = λ p. let (q, y) = was p in omega (arith, w, o .open-to q);
             }

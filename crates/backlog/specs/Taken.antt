@@ -96,6 +96,9 @@ module _ (t : Table) where
         go false e true f = inr (rw (e, f) refl, inl (rw f tt))
         go false e false f = inl (rw (e, f) refl, rw f refl, λ h. rw e at h)
 
+    pub late-le : leftLate t d done i ≤ leftOf d i
+    late-le = elim kept-or-closed [ inl e ↦ omega (arith, e .0) | inr e ↦ omega (arith, e .0) ]
+
     -- A job that is open after rules 1 and 2 was open before, and is not at its deadline.
     pub still-open : i < t .count → 0 < leftLate t d done i → (0 < leftOf d i) × (waitOf d i ≢ task t i .period - task t i .deadline)
     still-open l = go kept-or-closed

@@ -23,13 +23,13 @@ use Rattle.model.specs.Dispatcher.{State, Stepped, waitOf, givenOf, slotCount, 
 use Rattle.counting.specs.Count.{and-iff, one-of-iff}
 use Rattle.counting.specs.Sum.{sum-member}
 use Rattle.counting.specs.Fill.{fill-eq, fill-same, fill-again}
-use Rattle.counting.specs.Bits.{bits-eq, ones-bits, trailing-bits}
+use Rattle.counting.specs.Bits.{bits-eq, in-bits, ones-bits, trailing-bits}
 use Rattle.slots.specs.declared.Columns.{Columns}
 use Rattle.slots.specs.Columns.{columnsOf}
 use Rattle.slots.specs.declared.Seen.{Seen}
 use Rattle.slots.specs.Slot.{closed, isLate as isLateIn, putAll}
 use Rattle.slots.specs.Serve.{Served}
-use Rattle.slots.specs.Laws.{Has, fill-has, closed-fill, member-is, slack-has, Slotted, table-served}
+use Rattle.slots.specs.Laws.{Has, fill-has, closed-fill, slack-has, Slotted, table-served}
 use Rattle.wellformed.specs.Ranges.{Ranged}
 use Rattle.wellformed.specs.Admitted.{fitting}
 use Rattle.backlog.specs.Taken.{owner-one}
@@ -102,7 +102,7 @@ module _ (t : Table) (d : State) (done : Bool) (unrefused : Unrefused t d) (whol
   unfolding putAll
   late-fill e q s =
       s ∙ ap (fill (t .count) _) e ∙ fill-again (t .count) _ _ (d .left)
-      ∙ fill-eq (t .count) _ _ (d .left) (λ i l. rw (q, member-is (isLate t d done) i (omega (arith, unrefused .ranged .few)), filled-has (leftDone t d done) e i l))
+      ∙ fill-eq (t .count) _ _ (d .left) (λ i l. rw (q, in-bits (isLate t d done) taskLimit i (omega (arith, unrefused .ranged .few)), filled-has (leftDone t d done) e i l))
 
   -- Rules 3 and 4.
   module _ {left wait′ left′ : List ℕ} {seen : Seen} (e : left ≡ fill (t .count) (leftLate t d done) (d .left))

@@ -1,8 +1,8 @@
 -- The dispatcher of tables with buttons (T-13): a button's job comes when it is pressed. Its state, its start, the places
 -- of 8 and rules 1, 2 and 4 are those of document 01's dispatcher, which refuses such tables; a button's wait is the
 -- slots until it may be pressed again.
-use Rattle.model.specs.Notation.{_≡_, _⊎_, Bool, cond, not, _&&_, ℕ, zero, suc, _+_, _/_, _%_, _^_, min, _≤_, _<_}
-use Rattle.model.specs.Notation.{T, leb, ltb, eqb, bits, count}
+use Rattle.model.specs.Notation.{_≡_, _⊎_, Bool, cond, not, _&&_, ℕ, zero, suc, _+_, min, _≤_, _<_}
+use Rattle.model.specs.Notation.{T, leb, ltb, eqb, bits, inSet, count}
 use Rattle.model.specs.Values.{Table, Refusal, Admission, Turn, SlotAnswer, refusal}
 use Rattle.model.specs.Limits.{taskLimit, slotCountLimit}
 use Rattle.model.specs.Tasks.{task, isButton, judgedMixed}
@@ -17,10 +17,6 @@ startedMixed t = startJudged t (judgedMixed t)
 
 unfoldable pub admittedMixed : Table → State → Admission
 admittedMixed t d = admittedBy t d (judgedMixed t)
-
--- Task i is in a set of bits.
-abbrev pub inSet : ℕ → ℕ → Bool
-inSet tasks i = eqb (tasks / 2 ^ i % 2) 1
 
 module _ (t : Table) (d : State) (pressed : ℕ) where
   -- A press is taken if it is of a button that may be pressed.

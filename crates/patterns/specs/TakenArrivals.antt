@@ -12,7 +12,8 @@ use Rattle.model.specs.Tasks.{task, isButton}
 use Rattle.model.specs.Demand.{released}
 use Rattle.model.specs.Arrivals.{Respects}
 use Rattle.model.specs.Dispatcher.{waitOf}
-use Rattle.model.specs.Presses.{inSet, comes, takes, waitCome, stateUnder, arrivals}
+use Rattle.model.specs.Notation.{inSet}
+use Rattle.model.specs.Presses.{comes, stateUnder, arrivals}
 use Rattle.counting.specs.Count.{and-iff, eq→eqb, is-true, same-test}
 use Rattle.counting.specs.Below.{below-none, below-at}
 use Rattle.wellformed.specs.Ranges.{Ranged}
@@ -34,10 +35,10 @@ module _ (t : Table) (r : Ranged t) (done : ℕ → Bool) (pressed : ℕ → ℕ
   belongs-under (suc n) = belongs-come t r (stateUnder t done pressed n) (done n) (comes t (stateUnder t done pressed n) (pressed n)) (belongs-under n)
 
   module _ (i : ℕ) (l : i < t .count) where
-    abbrev wait : ℕ → ℕ
+    abbrev pub wait : ℕ → ℕ
     wait n = waitOf (stateUnder t done pressed n) i
 
-    wait-next : (n : ℕ) → wait (suc n) ≡ cond (arrivals t done pressed i n) (task t i .period) (wait n) - 1
+    pub wait-next : (n : ℕ) → wait (suc n) ≡ cond (arrivals t done pressed i n) (task t i .period) (wait n) - 1
     unfolding stateUnder
     wait-next n = wait-come t r (stateUnder t done pressed n) (done n) (comes t (stateUnder t done pressed n) (pressed n)) (belongs-under n) i l
 

@@ -16,21 +16,21 @@ use Rattle.values.specs.declared.Admission.{Admission}
 use Rattle.values.specs.declared.Turn.{Turn}
 use Rattle.values.specs.declared.SlotAnswer.{SlotAnswer}
 use Rattle.model.specs.Limits.{taskLimit, slotCountLimit}
-use Rattle.model.specs.Notation.{bit, bits, fill}
+use Rattle.model.specs.Notation.{bit, bits, inSet, fill}
 use Rattle.model.specs.Tasks.{task, isButton, measure}
 use Rattle.model.specs.Run.{tieOrder}
 use Rattle.model.specs.Dispatcher.{State, waitOf, leftOf, givenOf, slotCount, admittedBy, isLate, leftLate, slotTold}
-use Rattle.model.specs.Presses.{Pressed, inSet, takes, notTaken, comes, waitCome, leftCome, ownerCome, afterCome, pressTaken, pressAdmitted}
+use Rattle.model.specs.Presses.{Pressed, notTaken, comes, waitCome, leftCome, ownerCome, afterCome, pressTaken, pressAdmitted}
 use Rattle.counting.specs.Count.{and-iff, one-of-iff, is-true, is-false}
 use Rattle.counting.specs.Sum.{sum-member}
 use Rattle.counting.specs.Fill.{fill-eq, fill-again, fill-passed}
-use Rattle.counting.specs.Bits.{bits-eq, ones-bits, trailing-bits}
+use Rattle.counting.specs.Bits.{bits-eq, in-bits, ones-bits, trailing-bits}
 use Rattle.slots.specs.declared.Columns.{Columns}
 use Rattle.slots.specs.Columns.{columnsOf}
 use Rattle.slots.specs.declared.Seen.{Seen}
 use Rattle.slots.specs.Slot.{at, closed, isLate as isLateIn, isFree, putAll}
 use Rattle.slots.specs.Serve.{Served}
-use Rattle.slots.specs.Laws.{Has, member-is, slack-has, Slotted, waitThen, leftThen, table-served, fill-has}
+use Rattle.slots.specs.Laws.{Has, slack-has, Slotted, waitThen, leftThen, table-served, fill-has}
 use Rattle.wellformed.specs.Ranges.{Ranged}
 use Rattle.wellformed.specs.Admitted.{Fitting, fitting}
 use Rattle.backlog.specs.Choice.{NoLater, choose-is, chosen-same}
@@ -78,7 +78,7 @@ module _ (t : Table) (d : State) (done : Bool) (pressed : ℕ) (p : Pressable t 
   -- The presses that are not taken, and those that wait on, by the set of the buttons that may be pressed.
   untaken-is : {free untaken : ℕ} → free ≡ bits (isFree t (d .wait)) taskLimit → untaken ≡ bits (λ i. inSet pressed i && not (inSet free i)) taskLimit → untaken ≡ notTaken t d pressed
   unfolding notTaken
-  untaken-is e q = q ∙ bits-eq _ _ taskLimit (λ i l. rw (e, member-is (isFree t (d .wait)) i l) (both (inSet pressed i) (isFree t (d .wait) i)))
+  untaken-is e q = q ∙ bits-eq _ _ taskLimit (λ i l. rw (e, in-bits (isFree t (d .wait)) taskLimit i l) (both (inSet pressed i) (isFree t (d .wait) i)))
     where
       both : (a b : Bool) → (a && not b) ≡ (a && not (a && b))
       both true b = refl
@@ -86,7 +86,7 @@ module _ (t : Table) (d : State) (done : Bool) (pressed : ℕ) (p : Pressable t 
 
   held-fill : {free idle : ℕ} {wait : List ℕ} → free ≡ bits (isFree t (d .wait)) taskLimit → idle ≡ bits (λ i. inSet free i && not (inSet pressed i)) taskLimit → wait ≡ putAll (d .wait) idle 1 (t .count) → wait ≡ fill (t .count) held (d .wait)
   unfolding putAll
-  held-fill {free} e q s = s ∙ fill-eq (t .count) _ _ (d .wait) (λ i l. let few : i < taskLimit = omega (arith, p .ranged .few) in rw (q, member-is (λ k. inSet free k && not (inSet pressed k)) i few, e, member-is (isFree t (d .wait)) i few))
+  held-fill {free} e q s = s ∙ fill-eq (t .count) _ _ (d .wait) (λ i l. let few : i < taskLimit = omega (arith, p .ranged .few) in rw (q, in-bits (λ k. inSet free k && not (inSet pressed k)) taskLimit i few, e, in-bits (isFree t (d .wait)) taskLimit i few))
 
   -- Of a task whose wait is 0 no job is open once the late ones are closed.
   none-open : (i : ℕ) → i < t .count → waitOf d i ≡ 0 → leftLate t d done i ≡ 0

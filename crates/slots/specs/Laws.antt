@@ -15,8 +15,8 @@ use Rattle.model.specs.Tasks.{task}
 use Rattle.model.specs.Run.{Order, tieOrder, choose}
 use Rattle.counting.specs.Count.{tests, and-iff, every-iff, eq→eqb, is-true, is-false}
 use Rattle.counting.specs.Fill.{at-end, fill-passed, fill-eq, fill-same, fill-set}
-use Rattle.counting.specs.Bits.{bits-at, bits-past}
-use Rattle.slots.specs.Slot.{at, isMember, noneLeft, closed}
+use Rattle.counting.specs.Bits.{bits-past}
+use Rattle.slots.specs.Slot.{at, noneLeft, closed}
 use Rattle.slots.specs.Columns.{columnsOf}
 use Rattle.slots.specs.Choice.{choose-eq}
 
@@ -25,14 +25,6 @@ pub found-done : (p : ℕ → Bool) {tasks : ℕ} (i n : ℕ) → i ≤ n → n 
 found-done p i n a b h e =
     at-end (bits (λ k. ltb k n && p k)) i n a b e
     ∙ sym (bits-past (λ k. ltb k n && p k) n taskLimit h (λ k l m t. let q : k < n = ltb→lt k n (and-iff (ltb k n) (p k) .0 t .0) in omega arith))
-
--- A member of the set of those that pass is one that passes.
-pub member-is : (p : ℕ → Bool) (i : ℕ) → i < taskLimit → isMember (bits p taskLimit) i ≡ p i
-member-is p i l = ap (λ (x : ℕ). eqb x 1) (bits-at p taskLimit i l) ∙ go (p i)
-  where
-    go : (b : Bool) → eqb (bit b) 1 ≡ b
-    go true = refl
-    go false = refl
 
 -- Some task has a slot left, or none has.
 pub one-left : (left : List ℕ) (n i : ℕ) → i < n → 0 < at left i → noneLeft left n ≡ false

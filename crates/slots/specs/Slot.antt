@@ -6,9 +6,8 @@ use lib.Dec.{ltb, eqb}
 use lib.ListN.{getD, set}
 use Rattle.model.specs.Limits.{taskLimit}
 use Rattle.values.specs.declared.Table.{Table}
-use Rattle.model.specs.Notation.{every, fill}
+use Rattle.model.specs.Notation.{every, inSet, fill}
 use Rattle.model.specs.Tasks.{task, isButton}
-use Rattle.model.specs.Presses.{inSet}
 
 -- The number that a list has for task i.
 abbrev pub at : List ℕ → ℕ → ℕ
