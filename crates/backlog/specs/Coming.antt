@@ -1,8 +1,8 @@
 -- WHATEVER COMES (`belongs-come`): whichever tasks have a job come in a step, what it makes of a state that belongs to its table, which keeps its ranges, belongs to it too.
 use mathlib.Core.Path.{_≡_, refl}
-use mathlib.Core.Logic.{_⊎_, inl, inr, _≢_}
+use mathlib.Core.Logic.{_⊎_, _≢_}
 use mathlib.Core.Bool.{Bool, true, false, cond}
-use Prim.Native.Nat.{ℕ, _+_, _-_, _≤_, _<_}
+use Prim.Native.Nat.{ℕ, _+_, _-_, _<_}
 use native.Mathlib.Omega.{arith}
 use lib.Dec.{ltb, eqb}
 use Rattle.values.specs.declared.Table.{Table}

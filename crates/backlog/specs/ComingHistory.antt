@@ -1,6 +1,6 @@
 -- WHAT COMES IS A HISTORY (`coming-history`): stepped by arrivals that are streams of jobs, at least a period apart, the dispatcher's steps are a history of these, under any pattern of done reports.
 use mathlib.Core.Path.{_≡_, refl, sym, _∙_}
-use mathlib.Core.Logic.{_⊎_, inl, inr, _≢_, _↔_}
+use mathlib.Core.Logic.{inl, inr, _≢_, _↔_}
 use mathlib.Core.Bool.{Bool, true, false, cond, _&&_}
 use Prim.Native.Nat.{ℕ, zero, suc, _+_, _-_, _≤_, _<_}
 use native.Mathlib.Decide.{ℕ-discrete, decLt}

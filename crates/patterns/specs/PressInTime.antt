@@ -9,7 +9,7 @@ use Rattle.model.specs.Notation.{count}
 use Rattle.model.specs.Tasks.{task}
 use Rattle.model.specs.Patterns.{distancePass}
 use Rattle.model.specs.Dispatcher.{State, leftOf}
-use Rattle.model.specs.Presses.{stateUnder, arrivals, FinishedUnder}
+use Rattle.model.specs.Presses.{arrivals, FinishedUnder}
 use Rattle.wellformed.specs.Ranges.{Ranged}
 use Rattle.patterns.specs.PressHistory.{rel, same-state, arrives-at}
 use Rattle.patterns.specs.PressSettled.{gone, settled}

@@ -1,7 +1,7 @@
 -- NONE GETS A SLOT AFTER ITS END, UNDER PRESSES (`none-after`): no slot goes to a job that is finished. Of any table that keeps its ranges.
-use mathlib.Core.Path.{_≡_, refl, ap, _∙_}
+use mathlib.Core.Path.{_≡_, refl, _∙_}
 use mathlib.Core.Logic.{_⊎_, inl, inr}
-use mathlib.Core.Bool.{Bool, true, false, cond, _&&_}
+use mathlib.Core.Bool.{Bool, true, false, cond}
 use Prim.Native.Nat.{ℕ, zero, suc, _+_, _-_, _≤_, _<_}
 use native.Mathlib.Nat.{le-refl, add-zero, add-suc}
 use native.Mathlib.Omega.{arith}
@@ -18,7 +18,7 @@ use Rattle.wellformed.specs.Ranges.{Ranged}
 use Rattle.backlog.specs.Had.{since-next}
 use Rattle.backlog.specs.Taken.{late-le}
 use Rattle.backlog.specs.Coming.{ready-come, left-come}
-use Rattle.patterns.specs.Arrivals.{comesAt, comes-apart, comes-enumerates}
+use Rattle.patterns.specs.Arrivals.{comes-apart, comes-enumerates}
 use Rattle.patterns.specs.TakenArrivals.{taken-respects, belongs-under}
 use Rattle.patterns.specs.PressHistory.{J, rel, arrives-at}
 use Rattle.patterns.specs.PressNeverMore.{never-more}

@@ -1,6 +1,6 @@
 -- NO SLOT IS EMPTY WHILE A JOB WAITS, UNDER PRESSES (`none-waits`): on a table that passes the distance test, where slot n goes to none, every job that arrived by then is finished.
 use mathlib.Core.Path.{_≡_, ap, _∙_}
-use mathlib.Core.Logic.{inl, inr, _≢_}
+use mathlib.Core.Logic.{inl, inr}
 use mathlib.Core.Bool.{Bool}
 use Prim.Native.Nat.{ℕ, suc, _+_, _≤_, _<_}
 use native.Mathlib.Nat.{le-refl}
@@ -14,7 +14,7 @@ use Rattle.model.specs.Notation.{count}
 use Rattle.model.specs.Tasks.{task}
 use Rattle.model.specs.Patterns.{distancePass}
 use Rattle.model.specs.Dispatcher.{State, leftOf}
-use Rattle.model.specs.Presses.{stateUnder, arrivals, ownerUnder, FinishedUnder}
+use Rattle.model.specs.Presses.{arrivals, ownerUnder, FinishedUnder}
 use Rattle.counting.specs.Below.{between-none}
 use Rattle.wellformed.specs.Ranges.{Ranged}
 use Rattle.backlog.specs.History.{Keeps, Goes}

@@ -15,7 +15,7 @@ use Rattle.counting.specs.Count.{and-iff, eq→eqb}
 use Rattle.wellformed.specs.Ranges.{Ranged}
 use Rattle.backlog.specs.Taken.{wait-start}
 use Rattle.patterns.specs.ButtonsAlone.{button-from-0}
-use Rattle.patterns.specs.TakenArrivals.{wait, wait-next, taken-free, taken-respects}
+use Rattle.patterns.specs.TakenArrivals.{wait, wait-next, taken-respects}
 
 module _ (t : Table) (r : Ranged t) (done : ℕ → Bool) (pressed : ℕ → ℕ) (i : ℕ) (l : i < t .count) (e : isButton (task t i) ≡ true) where
   -- A button that waits was pressed, and its wait tells when.

@@ -1,15 +1,14 @@
 -- A step under presses by what the slot's rules make of the lists.
-use mathlib.Core.Path.{_≡_, refl, sym, ap, _∙_}
+use mathlib.Core.Path.{_≡_, refl, ap, _∙_}
 use mathlib.Core.Logic.{_⊎_, inl, inr}
 use mathlib.Core.List.{List}
 use mathlib.Core.Bool.{Bool, true, false, cond, not, _&&_}
 use Prim.Native.Nat.{ℕ, _+_, _-_, _<_}
 use native.Mathlib.Nat.{eq-zero-or-pos}
-use native.Mathlib.Decide.{decLt}
 use native.Mathlib.Omega.{arith}
-use borrow.Author.Tests.{lt-ltb, eq-eqb, ne-eqb}
+use borrow.Author.Tests.{lt-ltb}
 use lib.Dec.{T, ltb, eqb, ltb→lt, eqb→eq}
-use lib.ListN.{length, getD}
+use lib.ListN.{getD}
 use Rattle.values.specs.declared.Table.{Table}
 use Rattle.values.specs.declared.Judgement.{Judgement}
 use Rattle.values.specs.declared.Admission.{Admission}
@@ -19,11 +18,11 @@ use Rattle.model.specs.Limits.{taskLimit, slotCountLimit}
 use Rattle.model.specs.Notation.{bit, bits, inSet, fill}
 use Rattle.model.specs.Tasks.{task, isButton, measure}
 use Rattle.model.specs.Run.{tieOrder}
-use Rattle.model.specs.Dispatcher.{State, waitOf, leftOf, givenOf, slotCount, admittedBy, isLate, leftLate, slotTold}
+use Rattle.model.specs.Dispatcher.{State, waitOf, givenOf, slotCount, admittedBy, isLate, leftLate}
 use Rattle.model.specs.Presses.{Pressed, notTaken, comes, waitCome, leftCome, ownerCome, afterCome, pressTaken, pressAdmitted}
-use Rattle.counting.specs.Count.{and-iff, one-of-iff, is-true, is-false}
+use Rattle.counting.specs.Count.{and-iff, one-of-iff}
 use Rattle.counting.specs.Sum.{sum-member}
-use Rattle.counting.specs.Fill.{fill-eq, fill-again, fill-passed}
+use Rattle.counting.specs.Fill.{fill-eq, fill-again}
 use Rattle.counting.specs.Bits.{bits-eq, in-bits, ones-bits, trailing-bits}
 use Rattle.slots.specs.declared.Columns.{Columns}
 use Rattle.slots.specs.Columns.{columnsOf}
@@ -33,7 +32,7 @@ use Rattle.slots.specs.Serve.{Served}
 use Rattle.slots.specs.Laws.{Has, slack-has, Slotted, waitThen, leftThen, table-served, fill-has}
 use Rattle.wellformed.specs.Ranges.{Ranged}
 use Rattle.wellformed.specs.Admitted.{Fitting, fitting}
-use Rattle.backlog.specs.Choice.{NoLater, choose-is, chosen-same}
+use Rattle.backlog.specs.Choice.{choose-is, chosen-same}
 use Rattle.backlog.specs.Taken.{Belongs, known, still-open}
 use Rattle.backlog.specs.Coming.{dueCome, chosen-come, one-come}
 use Rattle.dispatch.specs.Accounts.{counted, counted-fill}

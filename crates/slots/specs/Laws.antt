@@ -10,7 +10,7 @@ use lib.Dec.{ltb, eqb, ltb→lt}
 use lib.ListN.{length, set, replicate}
 use Rattle.values.specs.declared.Table.{Table}
 use Rattle.model.specs.Limits.{taskLimit}
-use Rattle.model.specs.Notation.{bit, bits, fill}
+use Rattle.model.specs.Notation.{bits, fill}
 use Rattle.model.specs.Tasks.{task}
 use Rattle.model.specs.Run.{Order, tieOrder, choose}
 use Rattle.counting.specs.Count.{tests, and-iff, every-iff, eq→eqb, is-true, is-false}

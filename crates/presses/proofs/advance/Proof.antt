@@ -1,6 +1,5 @@
 -- The four rules, one after the other.
 use mathlib.Core.Path.{refl}
-use native.Mathlib.Omega.{arith}
 use borrow.Author.Needs.{needs}
 use Rattle.backlog.specs.Taken.{Belongs}
 use Rattle.dispatch.specs.State.{stateOf}
