@@ -60,6 +60,9 @@ pub mod NoneAfter
 pub mod NoneCut
 pub mod InTime
 pub mod NoneWaits
+-- Steps by any jobs that come.
+pub mod Coming
+pub mod ComingHistory
 -- What a walk to the horizon sees, in any order of the tasks, and the answer by it in ours.
 pub mod Walk
 pub mod WalkLate

@@ -65,7 +65,7 @@ module _ (S : System) where
         record {
           bound = c .bound;
           ready = ready-iff _ t _ (c .bound) .0 (c .opened);
-          least = λ i l p. keys-order S _ _ i _ (c .bound) (c .ahead i l (ready-iff i t (servedOf S t i) l .1 p));
+          least = λ i l p. keys-order S (releaseOf S) _ _ i _ (c .bound) (c .ahead i l (ready-iff i t (servedOf S t i) l .1 p));
           one = owner-served t (c .bound);
           rest = λ i l e. others-served t i e;
         },

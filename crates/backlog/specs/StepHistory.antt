@@ -66,8 +66,8 @@ module _ (t : Table) (r : Ranged t) (rank : Order) (done : ℕ → Bool) where
           → dueOf S k b ≡ n + dueIn t (stateAtBy t rank done n) (done n) k
           → NoLater (dueIn t (stateAtBy t rank done n) (done n)) rank k i
           → keyOf S k b ≤ keyOf S i a
-      go a b y v (inl h) = keys-order S k b i a m (inl (omega arith))
-      go a b y v (inr (h, o)) = keys-order S k b i a m (inr (omega arith, o))
+      go a b y v (inl h) = keys-order S (releaseOf S) k b i a m (inl (omega arith))
+      go a b y v (inr (h, o)) = keys-order S (releaseOf S) k b i a m (inr (omega arith, o))
 
   pub step-history : History (jobs S) (dues S) (told t rank done) (open' t rank done) (ready t rank done) (gave t rank done)
   step-history = record {

@@ -85,9 +85,9 @@ module _ (S : System) where
   standing-low i l = omega (arith, S .size-le, le-largest (size S) (S .rank) i l)
 
   -- What comes no later has no larger key.
-  pub keys-order : (i j k m : ℕ) → i < size S → Ahead (dueOf S i j) (standing (S .rank) i) (dueOf S k m) (standing (S .rank) k) → keyOf S i j ≤ keyOf S k m
-  keys-order i j k m l (inl a) = omega (arith, standing-low i l, mul-le-mul-right (spread S) a)
-  keys-order i j k m l (inr (e, r)) = omega (arith, ap (λ (x : ℕ). x * spread S) e)
+  pub keys-order : (rel : ℕ → ℕ → ℕ) (i j k m : ℕ) → i < size S → Ahead (dueFrom S rel i j) (standing (S .rank) i) (dueFrom S rel k m) (standing (S .rank) k) → keyFrom S rel i j ≤ keyFrom S rel k m
+  keys-order rel i j k m l (inl a) = omega (arith, standing-low i l, mul-le-mul-right (spread S) a)
+  keys-order rel i j k m l (inr (e, r)) = omega (arith, ap (λ (x : ℕ). x * spread S) e)
 
 module _ (S : System) (rel : ℕ → ℕ → ℕ) (apart : Apart S rel) where
   pub dues-grow : (i : ℕ) → i < size S → Grows (dueFrom S rel i)

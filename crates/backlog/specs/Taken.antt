@@ -13,7 +13,7 @@ use Rattle.model.specs.Limits.{taskLimit}
 use Rattle.model.specs.Notation.{bit, sum}
 use Rattle.model.specs.Tasks.{task, offset}
 use Rattle.model.specs.Run.{Order}
-use Rattle.model.specs.Dispatcher.{State, waitOf, leftOf, isOpen, givenOf, slotCount, strange, firstStrange, lastStrange, startOf, leftDone, isLate, leftLate, waitReleased, leftReleased, ownerNowBy, afterBy}
+use Rattle.model.specs.Dispatcher.{State, waitOf, leftOf, isOpen, givenOf, slotCount, strange, firstStrange, lastStrange, startOf, leftDone, isLate, leftLate, waitReleased, leftReleased, earliest, slotGiven, ownerNowBy, afterBy}
 use Rattle.counting.specs.Count.{and-iff, eq→eqb, one-of-iff, or-left, or-right}
 use Rattle.counting.specs.Search.{first-before, first-none}
 use Rattle.counting.specs.Sum.{sum-eq, sum-by}
@@ -28,6 +28,13 @@ module _ (t : Table) where
     pub left-le : leftOf d i ≤ task t i .cost
     pub open-from : 0 < leftOf d i → task t i .period - task t i .deadline ≤ waitOf d i
     pub open-to : 0 < leftOf d i → waitOf d i ≤ task t i .period - 1
+
+  -- What rule 3 may leave of a task, so that after the slot it is not strange.
+  pub record Fit (wait left : ℕ → ℕ) (i : ℕ) : Type 0 where
+    pub wait-le : wait i ≤ max (offset (task t i)) (task t i .period)
+    pub left-le : left i ≤ task t i .cost
+    pub open-from : 0 < left i → task t i .period - task t i .deadline < wait i
+    pub open-to : 0 < left i → wait i ≤ task t i .period
 
   -- The tests that make a task strange.
   module _ (d : State) (i : ℕ) where
@@ -89,13 +96,20 @@ module _ (t : Table) where
         go false e true f = inr (rw (e, f) refl, inl (rw f tt))
         go false e false f = inl (rw (e, f) refl, rw f refl, λ h. rw e at h)
 
-    -- A job that is open after the releases, and was not released just now, was open before, and is not at its deadline.
-    pub kept-open : i < t .count → waitOf d i ≢ 0 → 0 < leftReleased t d done i → (0 < leftOf d i) × (waitOf d i ≢ task t i .period - task t i .deadline)
-    kept-open l w p = go kept-or-closed (rw (ne-eqb (waitOf d i) 0 w) at p)
+    pub late-le : leftLate t d done i ≤ leftOf d i
+    late-le = elim kept-or-closed [ inl e ↦ omega (arith, e .0) | inr e ↦ omega (arith, e .0) ]
+
+    -- A job that is open after rules 1 and 2 was open before, and is not at its deadline.
+    pub still-open : i < t .count → 0 < leftLate t d done i → (0 < leftOf d i) × (waitOf d i ≢ task t i .period - task t i .deadline)
+    still-open l = go kept-or-closed
       where
         go : KeptOrClosed (leftLate t d done i) → 0 < leftLate t d done i → (0 < leftOf d i) × (waitOf d i ≢ task t i .period - task t i .deadline)
         go (inl (e, f, never)) q = (omega arith, λ x. never (closed-late-iff .1 (l, omega arith, x)))
         go (inr (e, c)) q = absurd (omega arith)
+
+    -- So is one that is open after the releases, and was not released just now.
+    pub kept-open : i < t .count → waitOf d i ≢ 0 → 0 < leftReleased t d done i → (0 < leftOf d i) × (waitOf d i ≢ task t i .period - task t i .deadline)
+    kept-open l w p = still-open l (rw (ne-eqb (waitOf d i) 0 w) at p)
 
   -- A state that the tests of 8 let through, with an entry for every task that a table can have in each list.
   pub record Belongs (d : State) : Type 0 where
@@ -117,23 +131,37 @@ module _ (t : Table) where
   abbrev pub dueIn : State → Bool → ℕ → ℕ
   dueIn d done i = waitReleased t d done i - (task t i .period - task t i .deadline)
 
-  -- The slot goes to the open job of the earliest deadline.
+  -- Rule 4, from any waits and slots left: the slot goes to the open job of the earliest deadline.
+  module _ (rank : Order) (wait left : ℕ → ℕ) (few : t .count ≤ taskLimit) where
+    pub earliest-is : Chosen (λ i. ltb 0 (left i)) (λ i. wait i - (task t i .period - task t i .deadline)) rank (t .count) (earliest t rank wait left)
+    earliest-is = choose-is _ _ _ (t .count) few
+
+    -- A task that it goes to has slots left; there is one, or it goes to none.
+    pub earliest-ready : (i : ℕ) → i < t .count → earliest t rank wait left ≡ i → 0 < left i
+    earliest-ready i l e = elim earliest-is [
+      | inl c ↦ absurd (omega (arith, c .none))
+      | inr c ↦ ltb→lt 0 (left i) (subst (λ (k : ℕ). T (ltb 0 (left k))) e (c .opened))
+    ]
+
+    pub earliest-one : (earliest t rank wait left ≡ taskLimit) ⊎ (earliest t rank wait left < t .count)
+    earliest-one = elim earliest-is [ inl c ↦ inl (c .none) | inr c ↦ inr (c .bound) ]
+
+  -- So it is in a step.
   abbrev pub Picks : Order → State → Bool → Type 0
   Picks rank d done = Chosen (λ i. ltb 0 (leftReleased t d done i)) (dueIn d done) rank (t .count) (ownerNowBy t rank d done)
 
-  pub chosen : (rank : Order) (d : State) (done : Bool) → t .count ≤ taskLimit → Picks rank d done
-  unfolding ownerNowBy
-  chosen rank d done few = choose-is _ _ _ (t .count) few
+  module _ (rank : Order) (d : State) (done : Bool) (few : t .count ≤ taskLimit) where
+    pub chosen : Picks rank d done
+    unfolding ownerNowBy
+    chosen = earliest-is rank (waitReleased t d done) (leftReleased t d done) few
 
-  -- A task that it goes to has slots left; there is one, or it goes to none.
-  pub owner-ready : (rank : Order) (d : State) (done : Bool) → t .count ≤ taskLimit → (i : ℕ) → i < t .count → ownerNowBy t rank d done ≡ i → 0 < leftReleased t d done i
-  owner-ready rank d done few i l e = elim (chosen rank d done few) [
-    | inl c ↦ absurd (omega (arith, c .none))
-    | inr c ↦ ltb→lt 0 (leftReleased t d done i) (subst (λ (k : ℕ). T (ltb 0 (leftReleased t d done k))) e (c .opened))
-  ]
+    pub owner-ready : (i : ℕ) → i < t .count → ownerNowBy t rank d done ≡ i → 0 < leftReleased t d done i
+    unfolding ownerNowBy
+    owner-ready = earliest-ready rank (waitReleased t d done) (leftReleased t d done) few
 
-  pub owner-one : (rank : Order) (d : State) (done : Bool) → t .count ≤ taskLimit → (ownerNowBy t rank d done ≡ taskLimit) ⊎ (ownerNowBy t rank d done < t .count)
-  owner-one rank d done few = elim (chosen rank d done few) [ inl c ↦ inl (c .none) | inr c ↦ inr (c .bound) ]
+    pub owner-one : (ownerNowBy t rank d done ≡ taskLimit) ⊎ (ownerNowBy t rank d done < t .count)
+    unfolding ownerNowBy
+    owner-one = earliest-one rank (waitReleased t d done) (leftReleased t d done) few
 
   -- No job has more slots left than its cost.
   pub released-le : (d : State) (done : Bool) → Belongs d → (i : ℕ) → i < t .count → leftReleased t d done i ≤ task t i .cost
@@ -167,65 +195,86 @@ module _ (t : Table) where
       ran = refl;
     }
 
+    -- The slot is given to an owner, from any waits and slots left.
+    module _ (d : State) (b : Belongs d) (wait left : ℕ → ℕ) (owner : ℕ) where
+      pub wait-given : (i : ℕ) → i < t .count → waitOf (slotGiven t d wait left owner) i ≡ wait i - 1
+      wait-given i l = fill-passed (t .count) (λ i. wait i - 1) (d .wait) i 0 l (omega (arith, b .waits, r .few))
+
+      pub left-given : (i : ℕ) → i < t .count → leftOf (slotGiven t d wait left owner) i ≡ left i - cond (eqb owner i) 1 0
+      left-given i l = fill-passed (t .count) (λ i. left i - cond (eqb owner i) 1 0) (d .left) i 0 l (omega (arith, b .lefts, r .few))
+
+      -- Each task has counted one slot more if it is the owner.
+      pub given-given : (i : ℕ) → i < t .count → givenOf (slotGiven t d wait left owner) i ≡ givenOf d i + bit (eqb owner i)
+      given-given i l = fill-passed (t .count) (λ i. givenOf d i + bit (eqb owner i)) (d .given) i 0 l (omega (arith, b .gives, r .few))
+
+      module _ (one : (owner ≡ taskLimit) ⊎ (owner < t .count)) where
+        -- The slots counted are one more, be they given or empty.
+        pub slots-given : slotCount t (slotGiven t d wait left owner) ≡ slotCount t d + 1
+        unfolding slotCount
+        slots-given = go one
+          where
+            go : (owner ≡ taskLimit) ⊎ (owner < t .count) → sum (t .count) (givenOf (slotGiven t d wait left owner)) + (d .empty + bit (eqb owner taskLimit)) ≡ sum (t .count) (givenOf d) + d .empty + 1
+            go (inl e) = rw (eq-eqb owner taskLimit e) (omega (arith, sum-eq (t .count) (givenOf (slotGiven t d wait left owner)) (givenOf d) (λ i l. rw (ne-eqb owner i (λ x. absurd (omega (arith, r .few)))) at (given-given i l) ∙ omega arith)))
+            go (inr l) =
+                rw (ne-eqb owner taskLimit (λ x. absurd (omega (arith, r .few))))
+                (omega (arith, sum-by (t .count) (givenOf (slotGiven t d wait left owner)) (givenOf d) owner 1 l (rw (eq-eqb owner owner refl) at (given-given owner l)) (λ i m x. rw (ne-eqb owner i (λ y. x (sym y))) at (given-given i m) ∙ omega arith)))
+
+        -- If rule 3 leaves numbers that fit the table, the successor belongs to it.
+        pub belongs-given : ((i : ℕ) → i < t .count → Fit wait left i) → Belongs (slotGiven t d wait left owner)
+        belongs-given fits = record {
+          waits = fill-length (t .count) _ _ ∙ b .waits;
+          lefts = fill-length (t .count) _ _ ∙ b .lefts;
+          gives = fill-length (t .count) _ _ ∙ b .gives;
+          each = none-strange (slotGiven t d wait left owner) (λ i l. let f = fits i l in record {
+            wait-le = omega (arith, wait-given i l, f .wait-le);
+            left-le = omega (arith, left-given i l, f .left-le);
+            open-from = λ p. omega (arith, wait-given i l, f .open-from (omega (arith, left-given i l)));
+            open-to = λ p. omega (arith, wait-given i l, f .open-to (omega (arith, left-given i l)));
+          });
+          ran = one-of-iff owner taskLimit (t .count) .1 one;
+        }
+
     module _ (rank : Order) (d : State) (done : Bool) (b : Belongs d) where
       pub wait-after : (i : ℕ) → i < t .count → waitOf (afterBy t rank d done) i ≡ waitReleased t d done i - 1
       unfolding afterBy
-      wait-after i l = fill-passed (t .count) (λ i. waitReleased t d done i - 1) (d .wait) i 0 l (omega (arith, b .waits, r .few))
+      wait-after = wait-given d b (waitReleased t d done) (leftReleased t d done) (ownerNowBy t rank d done)
 
       pub left-after : (i : ℕ) → i < t .count → leftOf (afterBy t rank d done) i ≡ leftReleased t d done i - cond (eqb (ownerNowBy t rank d done) i) 1 0
       unfolding afterBy
-      left-after i l = fill-passed (t .count) (λ i. leftReleased t d done i - cond (eqb (ownerNowBy t rank d done) i) 1 0) (d .left) i 0 l (omega (arith, b .lefts, r .few))
+      left-after = left-given d b (waitReleased t d done) (leftReleased t d done) (ownerNowBy t rank d done)
 
-      ordinary-after : (i : ℕ) → i < t .count → Ordinary (afterBy t rank d done) i
-      ordinary-after i l = go (ℕ-discrete (waitOf d i) 0)
+      fit-released : (i : ℕ) → i < t .count → Fit (waitReleased t d done) (leftReleased t d done) i
+      fit-released i l = go (ℕ-discrete (waitOf d i) 0)
         where
-          left-le : leftOf (afterBy t rank d done) i ≤ task t i .cost
-          left-le = omega (arith, left-after i l, released-le d done b i l)
-
-          go : Dec (waitOf d i ≡ 0) → Ordinary (afterBy t rank d done) i
+          go : Dec (waitOf d i ≡ 0) → Fit (waitReleased t d done) (leftReleased t d done) i
           go (yes e) =
               let w : waitReleased t d done i ≡ task t i .period = rw (eq-eqb (waitOf d i) 0 e) in
               let k = r .each i l in
               record {
-                wait-le = omega (arith, wait-after i l, w);
-                left-le = left-le;
-                open-from = λ p. omega (arith, wait-after i l, w, k .deadline-pos);
-                open-to = λ p. omega (arith, wait-after i l, w);
+                wait-le = omega (arith, w);
+                left-le = released-le d done b i l;
+                open-from = λ p. omega (arith, w, k .deadline-pos, k .period-pos);
+                open-to = λ p. omega (arith, w);
               }
           go (no e) =
               let w : waitReleased t d done i ≡ waitOf d i = rw (ne-eqb (waitOf d i) 0 e) in
               let o = known d b i l in
-              let was : 0 < leftOf (afterBy t rank d done) i → (0 < leftOf d i) × (waitOf d i ≢ task t i .period - task t i .deadline) = λ p. kept-open d done i l e (omega (arith, left-after i l)) in
               record {
-                wait-le = omega (arith, wait-after i l, w, o .wait-le);
-                left-le = left-le;
-                open-from = λ p. let (q, x) = was p in omega (arith, wait-after i l, w, o .open-from q);
-                open-to = λ p. let (q, x) = was p in omega (arith, wait-after i l, w, o .open-to q);
+                wait-le = omega (arith, w, o .wait-le);
+                left-le = released-le d done b i l;
+                open-from = λ p. let (q, x) = kept-open d done i l e p in omega (arith, w, o .open-from q);
+                open-to = λ p. let (q, x) = kept-open d done i l e p in omega (arith, w, o .open-to q);
               }
 
       -- The successor belongs to the table.
       pub belongs-after : Belongs (afterBy t rank d done)
       unfolding afterBy
-      belongs-after = record {
-        waits = fill-length (t .count) _ _ ∙ b .waits;
-        lefts = fill-length (t .count) _ _ ∙ b .lefts;
-        gives = fill-length (t .count) _ _ ∙ b .gives;
-        each = none-strange (afterBy t rank d done) ordinary-after;
-        ran = one-of-iff (ownerNowBy t rank d done) taskLimit (t .count) .1 (owner-one rank d done (r .few));
-      }
+      belongs-after = belongs-given d b (waitReleased t d done) (leftReleased t d done) (ownerNowBy t rank d done) (owner-one rank d done (r .few)) fit-released
 
-      -- Each task has counted one slot more if it is the owner.
       pub given-after : (i : ℕ) → i < t .count → givenOf (afterBy t rank d done) i ≡ givenOf d i + bit (eqb (ownerNowBy t rank d done) i)
       unfolding afterBy
-      given-after i l = fill-passed (t .count) (λ i. givenOf d i + bit (eqb (ownerNowBy t rank d done) i)) (d .given) i 0 l (omega (arith, b .gives, r .few))
+      given-after = given-given d b (waitReleased t d done) (leftReleased t d done) (ownerNowBy t rank d done)
 
-      -- The slots counted are one more, be they given or empty.
       pub slots-after : slotCount t (afterBy t rank d done) ≡ slotCount t d + 1
-      unfolding slotCount afterBy
-      slots-after = go (owner-one rank d done (r .few))
-        where
-          go : (ownerNowBy t rank d done ≡ taskLimit) ⊎ (ownerNowBy t rank d done < t .count) → sum (t .count) (givenOf (afterBy t rank d done)) + (d .empty + bit (eqb (ownerNowBy t rank d done) taskLimit)) ≡ sum (t .count) (givenOf d) + d .empty + 1
-          go (inl e) = rw (eq-eqb (ownerNowBy t rank d done) taskLimit e) (omega (arith, sum-eq (t .count) (givenOf (afterBy t rank d done)) (givenOf d) (λ i l. rw (ne-eqb (ownerNowBy t rank d done) i (λ x. absurd (omega (arith, r .few)))) at (given-after i l) ∙ omega arith)))
-          go (inr l) =
-              rw (ne-eqb (ownerNowBy t rank d done) taskLimit (λ x. absurd (omega (arith, r .few))))
-              (omega (arith, sum-by (t .count) (givenOf (afterBy t rank d done)) (givenOf d) (ownerNowBy t rank d done) 1 l (rw (eq-eqb (ownerNowBy t rank d done) (ownerNowBy t rank d done) refl) at (given-after (ownerNowBy t rank d done) l)) (λ i m x. rw (ne-eqb (ownerNowBy t rank d done) i (λ y. x (sym y))) at (given-after i m) ∙ omega arith)))
+      unfolding afterBy
+      slots-after = slots-given d b (waitReleased t d done) (leftReleased t d done) (ownerNowBy t rank d done) (owner-one rank d done (r .few))

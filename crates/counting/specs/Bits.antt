@@ -1,16 +1,16 @@
 -- Laws of a set of numbers as bits: `bits p n` has bit k set for each k below n that passes.
-use mathlib.Core.Path.{_≡_, refl, _∙_}
+use mathlib.Core.Path.{_≡_, refl, ap, _∙_}
 use mathlib.Core.Bool.{Bool, true, false}
 use Prim.Native.Nat.{ℕ, zero, suc, _+_, _*_, _/_, _%_, _^_, _≤_, _<_}
 use native.Mathlib.Nat.{add-comm, pow-suc, le-refl, le-step}
 use native.Mathlib.Decide.{le-ind}
 use native.Mathlib.Numerals.{one-add}
 use native.Mathlib.Omega.{arith}
-use lib.Dec.{T, lit<}
+use lib.Dec.{T, eqb, lit<}
 use lib.Bits.{bitOr, or-shifted-r}
 use lib.Pow.{shl-exact, shr-shr}
 use lib.Count.{ones, ones-cat, trailingZeros, under}
-use Rattle.model.specs.Notation.{bit, sum, count, first, bits}
+use Rattle.model.specs.Notation.{bit, sum, count, first, bits, inSet}
 use Rattle.counting.specs.Sum.{sum-eq, sum-none, sum-more}
 use Rattle.counting.specs.Search.{NoneFrom, first-shift}
 
@@ -102,3 +102,11 @@ bits-at p (suc n) i l = rw bits-low (go i l (bits-at (λ k. p (suc k)) n))
     go (suc j) a h =
         let e : (rest * 2 + bit (p 0)) / 2 ^ suc j ≡ rest / 2 ^ j = rw (← one-add j, ← shr-shr (rest * 2 + bit (p 0)) 1 j, half (p 0)) in
         rw e (h j (omega arith))
+
+-- A member of the set of those that pass is one that passes.
+pub in-bits : (p : ℕ → Bool) (n i : ℕ) → i < n → inSet (bits p n) i ≡ p i
+in-bits p n i l = ap (λ (x : ℕ). eqb x 1) (bits-at p n i l) ∙ go (p i)
+  where
+    go : (b : Bool) → eqb (bit b) 1 ≡ b
+    go true = refl
+    go false = refl

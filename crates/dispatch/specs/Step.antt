@@ -23,13 +23,13 @@ use Rattle.model.specs.Dispatcher.{State, Stepped, waitOf, givenOf, slotCount, 
 use Rattle.counting.specs.Count.{and-iff, one-of-iff}
 use Rattle.counting.specs.Sum.{sum-member}
 use Rattle.counting.specs.Fill.{fill-eq, fill-same, fill-again}
-use Rattle.counting.specs.Bits.{bits-eq, ones-bits, trailing-bits}
+use Rattle.counting.specs.Bits.{bits-eq, in-bits, ones-bits, trailing-bits}
 use Rattle.slots.specs.declared.Columns.{Columns}
 use Rattle.slots.specs.Columns.{columnsOf}
 use Rattle.slots.specs.declared.Seen.{Seen}
-use Rattle.slots.specs.Slot.{closed, isLate as isLateIn, closedAll}
+use Rattle.slots.specs.Slot.{closed, isLate as isLateIn, putAll}
 use Rattle.slots.specs.Serve.{Served}
-use Rattle.slots.specs.Laws.{Has, fill-has, closed-fill, member-is, slack-has, Slotted, table-served}
+use Rattle.slots.specs.Laws.{Has, fill-has, closed-fill, slack-has, Slotted, table-served}
 use Rattle.wellformed.specs.Ranges.{Ranged}
 use Rattle.wellformed.specs.Admitted.{fitting}
 use Rattle.backlog.specs.Taken.{owner-one}
@@ -80,29 +80,29 @@ pub record Whole (d : State) : Type 0 where
 
 module _ (t : Table) (d : State) (done : Bool) (unrefused : Unrefused t d) (whole : Whole d) where
   -- Rule 1.
-  done-fill : {left : List ℕ} → left ≡ cond done (closed (d .left) (d .last)) (d .left) → left ≡ fill (t .count) (leftDone t d done) (d .left)
+  pub done-fill : {left : List ℕ} → left ≡ cond done (closed (d .left) (d .last)) (d .left) → left ≡ fill (t .count) (leftDone t d done) (d .left)
   done-fill e = e ∙ go done
     where
       go : (b : Bool) → cond b (closed (d .left) (d .last)) (d .left) ≡ fill (t .count) (leftDone t d b) (d .left)
       go true = closed-fill (t .count) (d .left) (d .last) (unrefused .ranged .few) (unrefused .ran)
       go false = sym (fill-same (t .count) (d .left) 0)
 
-  filled-has : (f : ℕ → ℕ) {left : List ℕ} → left ≡ fill (t .count) f (d .left) → Has (t .count) left f
+  pub filled-has : (f : ℕ → ℕ) {left : List ℕ} → left ≡ fill (t .count) f (d .left) → Has (t .count) left f
   filled-has f e i l = rw e (fill-has (t .count) f (d .left) (omega (arith, unrefused .ranged .few, whole .lefts)) i l)
 
   -- Rule 2.
-  late-bits : {left : List ℕ} {late : ℕ} → left ≡ fill (t .count) (leftDone t d done) (d .left) → late ≡ bits (isLateIn (d .wait) left (columnsOf t .slack) (t .count)) taskLimit → late ≡ bits (isLate t d done) taskLimit
+  pub late-bits : {left : List ℕ} {late : ℕ} → left ≡ fill (t .count) (leftDone t d done) (d .left) → late ≡ bits (isLateIn (d .wait) left (columnsOf t .slack) (t .count)) taskLimit → late ≡ bits (isLate t d done) taskLimit
   late-bits {left} e q = q ∙ bits-eq _ _ taskLimit (λ i l. same i (decLt i (t .count)))
     where
       same : (i : ℕ) → Dec (i < t .count) → isLateIn (d .wait) left (columnsOf t .slack) (t .count) i ≡ isLate t d done i
       same i (yes l) = rw (filled-has (leftDone t d done) e i l, slack-has t (unrefused .ranged .few) i l)
       same i (no l) = rw (le-ltb i (t .count) (omega arith))
 
-  late-fill : {left left′ : List ℕ} {late : ℕ} → left ≡ fill (t .count) (leftDone t d done) (d .left) → late ≡ bits (isLate t d done) taskLimit → left′ ≡ closedAll left late (t .count) → left′ ≡ fill (t .count) (leftLate t d done) (d .left)
-  unfolding closedAll
+  pub late-fill : {left left′ : List ℕ} {late : ℕ} → left ≡ fill (t .count) (leftDone t d done) (d .left) → late ≡ bits (isLate t d done) taskLimit → left′ ≡ putAll left late 0 (t .count) → left′ ≡ fill (t .count) (leftLate t d done) (d .left)
+  unfolding putAll
   late-fill e q s =
       s ∙ ap (fill (t .count) _) e ∙ fill-again (t .count) _ _ (d .left)
-      ∙ fill-eq (t .count) _ _ (d .left) (λ i l. rw (q, member-is (isLate t d done) i (omega (arith, unrefused .ranged .few)), filled-has (leftDone t d done) e i l))
+      ∙ fill-eq (t .count) _ _ (d .left) (λ i l. rw (q, in-bits (isLate t d done) taskLimit i (omega (arith, unrefused .ranged .few)), filled-has (leftDone t d done) e i l))
 
   -- Rules 3 and 4.
   module _ {left wait′ left′ : List ℕ} {seen : Seen} (e : left ≡ fill (t .count) (leftLate t d done) (d .left))
@@ -136,7 +136,7 @@ module _ (t : Table) (d : State) (done : Bool) (unrefused : Unrefused t d) (whol
   module _ {period cost slack rank : List ℕ} {n : ℕ} (c : Unpacked t period cost slack rank n) {left left₂ wait′ left′ : List ℕ} {late : ℕ} {seen : Seen}
       (a : left ≡ cond done (closed (d .left) (d .last)) (d .left))
       (b : late ≡ bits (isLateIn (d .wait) left slack n) taskLimit)
-      (e : left₂ ≡ closedAll left late n)
+      (e : left₂ ≡ putAll left late 0 n)
       (s : Served (d .wait) left₂ period cost slack rank n wait′ left′ seen) where
     slacks : slack ≡ columnsOf t .slack
     slacks = ap (λ (x : Columns). x .slack) (c .1)

@@ -316,7 +316,7 @@ pub fn count_empty(empty: u64, owner: u32) -> u64
 }
 
 // A done report closes the open job of the task that ran last.
-fn after_report(left: Numbers, last: u32, done: bool) -> Numbers
+pub fn after_report(left: Numbers, last: u32, done: bool) -> Numbers
     ensures { λ r. ⌜ r ≡ cond done (closed left last) left ⌝ }
 {
     let mut open = left;
@@ -326,7 +326,7 @@ fn after_report(left: Numbers, last: u32, done: bool) -> Numbers
     open
 }
 
-fn turn_of(owner: u32, late: u32) -> Turn
+pub fn turn_of(owner: u32, late: u32) -> Turn
     ensures { λ r. ⌜ r ≡ turnOf owner late ⌝ }
 {
     Turn {

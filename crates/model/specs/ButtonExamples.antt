@@ -7,7 +7,7 @@ use lib.Dec.{eqb}
 use lib.ListN.{replicate}
 use Rattle.model.specs.Values.{Sort, Task, Table, QuickAnswer, DistanceAnswer, LargestCost, Admission, SlotAnswer}
 use Rattle.model.specs.Values.{judgementSaid, refusal}
-use Rattle.model.specs.Notation.{sum, largest, count, first, last, fill, text, digits, decimal}
+use Rattle.model.specs.Notation.{sum, largest, count, first, last, bits, fill, text, digits, decimal}
 use Rattle.model.specs.Limits.{taskLimit}
 use Rattle.model.specs.Tasks.{taskFault, firstFaulty, firstButton, round, load, horizon, judgedMixed, judged}
 use Rattle.model.specs.Demand.{arrivedIn, demandFor}
@@ -16,7 +16,8 @@ use Rattle.model.specs.Idle.{idleAt, firstIdle, missedAt}
 use Rattle.model.specs.Patterns.{startingAt, light, calm, quickAnswer, commonDivisor, distance, pattern}
 use Rattle.model.specs.Patterns.{calmPatterns, distancePass, distanceAnswer}
 use Rattle.model.specs.TableFile.{tableOf, bytesOf, taskRecords, fileOf, readFrom, formOf, fileRead, periodicFrom}
-use Rattle.model.specs.Dispatcher.{admitted, started, stepped, steppedBy}
+use Rattle.model.specs.Dispatcher.{State, slotCount, firstStrange, startOf, admitted, started, stepped, steppedBy}
+use Rattle.model.specs.Presses.{Pressed, startedMixed, admittedMixed, notTaken, ownerCome, afterCome, steppedPressed}
 use Rattle.model.specs.Writer.{tableIn, firstStranger}
 use Rattle.model.specs.PlainText.{split, filled, allDigits, valueAfter, numbersFault, same, budgetLine, taskLine}
 use Rattle.model.specs.PlainText.{lineOf, readLines, textForm, textRead, taskTexts, textOf}
@@ -163,3 +164,47 @@ demand-of-presses :
     ≡ 4 ∷ 4 ∷ 2 ∷ 2 ∷ 0 ∷ []
 unfolding arrivedIn count sum
 demand-of-presses = refl
+
+-- The dispatcher that is told of presses, on tables/shutter.txt: task 3 is the shutter.
+abbrev camera : Table
+camera = tableOf (of 0 2 5 10 ∷ of 5 1 2 10 ∷ of 0 4 20 20 ∷ button 3 10 40 ∷ [])
+
+-- A state of these waits and slots left, with task 0 run last and one slot counted.
+abbrev once : List ℕ → List ℕ → State
+once wait left = record { wait = padded 0 wait; left = padded 0 left; last = 0; given = padded 0 (1 ∷ []); empty = 0 }
+
+-- A step that gives the slot to this task, closes none late, and does not take these presses.
+abbrev taken : ℕ → ℕ → State → Pressed
+taken owner untaken d =
+    record {
+      answer = SlotAnswer.Slot (record { owner = owner; late = 0; closed = 0; lowest = taskLimit });
+      untaken = untaken;
+      state = d;
+    }
+
+-- At the start the shutter may be pressed: its job comes, and the lens, which is due sooner, has the slot.
+-- A press in the next slot is too early; one of the lens, a periodic task, and one of no task are never taken.
+press-taken :
+    (startedMixed camera ≡ record { admission = Admission.Admitted; state = startOf camera })
+    × (steppedPressed camera (startOf camera) false 8
+    ≡ taken 0 0 (once (9 ∷ 4 ∷ 19 ∷ 39 ∷ []) (1 ∷ 0 ∷ 4 ∷ 3 ∷ [])))
+    × (steppedPressed camera (startOf camera) false 0
+    ≡ taken 0 0 (once (9 ∷ 4 ∷ 19 ∷ 0 ∷ []) (1 ∷ 0 ∷ 4 ∷ 0 ∷ [])))
+    × (map (λ wait. notTaken camera (once (9 ∷ 4 ∷ 19 ∷ wait ∷ []) []) 27) (0 ∷ 1 ∷ 39 ∷ []) ≡ 19 ∷ 27 ∷ 27 ∷ [])
+unfolding startedMixed steppedPressed admittedMixed startOf slotCount firstStrange notTaken ownerCome afterCome choose
+    judgedMixed firstFaulty taskFault first round load horizon largest sum count bits fill
+press-taken = (refl, refl, refl, refl)
+
+-- A button's wait above its spacing does not belong, nor does an open job of it that waits less than 30 or more than 39.
+-- A refused step takes no press.
+press-refused :
+    (map (λ d. admittedMixed camera d) (
+    once (9 ∷ 4 ∷ 19 ∷ 40 ∷ []) [] ∷ once (9 ∷ 4 ∷ 19 ∷ 41 ∷ []) [] ∷ once (9 ∷ 4 ∷ 19 ∷ 39 ∷ []) (0 ∷ 0 ∷ 0 ∷ 3 ∷ [])
+    ∷ once (9 ∷ 4 ∷ 19 ∷ 29 ∷ []) (0 ∷ 0 ∷ 0 ∷ 3 ∷ []) ∷ once (9 ∷ 4 ∷ 19 ∷ 40 ∷ []) (0 ∷ 0 ∷ 0 ∷ 3 ∷ []) ∷ []
+    )
+    ≡ Admission.Admitted ∷ at 8 3 ∷ Admission.Admitted ∷ at 8 3 ∷ at 8 3 ∷ [])
+    × (steppedPressed camera (once (41 ∷ []) []) false 8
+    ≡ record { answer = SlotAnswer.Refused (refusal 8 0); untaken = 8; state = once (41 ∷ []) [] })
+unfolding steppedPressed admittedMixed slotCount firstStrange
+    judgedMixed firstFaulty taskFault first round load horizon largest sum count
+press-refused = (refl, refl)

@@ -118,38 +118,43 @@ module _ (t : Table) (d : State) (done : Bool) where
   abbrev pub leftReleased : ℕ → ℕ
   leftReleased i = cond (eqb (waitOf d i) 0) (task t i .cost) (leftLate i)
 
--- The rest of a step, in any order of the tasks.
+-- Rule 4, from the waits and the slots left that rule 3 leaves, in any order of the tasks: the open job with the
+-- earliest deadline gets the slot, the one with the fewest slots to its deadline; ties go by the order, as in the run.
+abbrev pub earliest : Table → Order → (ℕ → ℕ) → (ℕ → ℕ) → ℕ
+earliest t rank wait left =
+    choose (λ i. ltb 0 (left i)) (λ i. wait i - (task t i .period - task t i .deadline)) rank (t .count)
+
+-- It has one slot fewer left, and every wait goes down by one. The slot is counted as its owner's, or as empty.
+-- Entries past the last task stay as they came.
+abbrev pub slotGiven : Table → State → (ℕ → ℕ) → (ℕ → ℕ) → ℕ → State
+slotGiven t d wait left owner =
+    record {
+      wait = fill (t .count) (λ i. wait i - 1) (d .wait);
+      left = fill (t .count) (λ i. left i - cond (eqb owner i) 1 0) (d .left);
+      last = owner;
+      given = fill (t .count) (λ i. givenOf d i + bit (eqb owner i)) (d .given);
+      empty = d .empty + bit (eqb owner taskLimit);
+    }
+
+-- The answer: the owner, which tasks were closed late, how many, and the lowest-numbered of them.
+abbrev pub slotTold : Table → State → Bool → ℕ → Turn
+slotTold t d done owner =
+    record {
+      owner = owner;
+      late = bits (isLate t d done) taskLimit;
+      closed = count (isLate t d done) taskLimit;
+      lowest = first (isLate t d done) 0 taskLimit;
+    }
+
 module _ (t : Table) (rank : Order) (d : State) (done : Bool) where
-  -- Rule 4: the open job with the earliest deadline gets the slot, the one with the fewest slots to its deadline;
-  -- ties go by the order, as in the run.
   unfoldable pub ownerNowBy : ℕ
-  ownerNowBy =
-      choose (λ i. ltb 0 (leftReleased t d done i))
-      (λ i. waitReleased t d done i - (task t i .period - task t i .deadline)) rank (t .count)
+  ownerNowBy = earliest t rank (waitReleased t d done) (leftReleased t d done)
 
-  -- It has one slot fewer left, and every wait goes down by one. The slot is counted as its owner's, or as empty.
-  -- Entries past the last task stay as they came.
   unfoldable pub afterBy : State
-  afterBy =
-      let left = fill (t .count) (λ i. leftReleased t d done i - cond (eqb ownerNowBy i) 1 0) (d .left) in
-      let given = fill (t .count) (λ i. givenOf d i + bit (eqb ownerNowBy i)) (d .given) in
-      record {
-        wait = fill (t .count) (λ i. waitReleased t d done i - 1) (d .wait);
-        left = left;
-        last = ownerNowBy;
-        given = given;
-        empty = d .empty + bit (eqb ownerNowBy taskLimit);
-      }
+  afterBy = slotGiven t d (waitReleased t d done) (leftReleased t d done) ownerNowBy
 
-  -- The answer: the owner, which tasks were closed late, how many, and the lowest-numbered of them.
   unfoldable pub turnBy : Turn
-  turnBy =
-      record {
-        owner = ownerNowBy;
-        late = bits (isLate t d done) taskLimit;
-        closed = count (isLate t d done) taskLimit;
-        lowest = first (isLate t d done) 0 taskLimit;
-      }
+  turnBy = slotTold t d done ownerNowBy
 
 -- A step on any table and any state: refused as the state is, then by 9 if it can count no more slots, or taken.
 -- A refusal hands the state back as it came.

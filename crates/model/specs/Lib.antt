@@ -13,6 +13,7 @@ pub mod Patterns
 pub mod TableFile
 pub mod Dispatcher
 pub mod History
+pub mod Presses
 pub mod Report
 pub mod StateBuffer
 pub mod Writer

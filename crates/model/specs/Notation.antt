@@ -56,6 +56,10 @@ Least P t = P t × ((u : ℕ) → u < t → P u → ⊥)
 unfoldable pub bits : (ℕ → Bool) → ℕ → ℕ
 bits p n = sum n (λ k. bit (p k) * 2 ^ k)
 
+-- The number k is in a set of bits.
+abbrev pub inSet : ℕ → ℕ → Bool
+inSet s k = eqb (s / 2 ^ k % 2) 1
+
 -- The list w with its entries below n replaced by f 0, f 1, ..; the others as they were.
 unfoldable pub fill : {A : Type 0} → ℕ → (ℕ → A) → List A → List A
 fill zero f w = w

@@ -21,7 +21,7 @@ use Rattle.patterns.specs.MixedGood.{mixed-good}
 use Rattle.patterns.specs.GoodReleased.{good-released, releases-respect}
 
 -- A button has no offset.
-button-from-0 : (s : Sort) → buttonSort s ≡ true → sortOffset s ≡ 0
+pub button-from-0 : (s : Sort) → buttonSort s ≡ true → sortOffset s ≡ 0
 button-from-0 (Sort.Periodic o) e = let z : false ≡ true = e in absurd (true≢false (rw z))
 button-from-0 Sort.Button e = refl
 

@@ -35,5 +35,19 @@ pub mod NoButton
 pub mod GoodReleased
 pub mod DemandFor
 pub mod ButtonsAlone
+-- The dispatcher that is told of presses.
+pub mod TakenArrivals
+pub mod PressTaken
+pub mod PressHistory
+pub mod PressAccounts
+pub mod PressNeverRefused
+pub mod PressNoneEarly
+pub mod PressNeverMore
+pub mod PressSettled
+pub mod PressNoneAfter
+pub mod PressNoneCut
+pub mod PressInTime
+pub mod PressNoneWaits
+pub mod PressPeriodic
 -- No theorem is empty.
 pub mod Instances

@@ -12,6 +12,7 @@ pub mod FileNumbers
 pub mod QuickTests
 pub mod DistanceTest
 pub mod Buttons
+pub mod Presses
 pub mod Easing
 pub mod Largest
 pub mod Engines

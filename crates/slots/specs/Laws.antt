@@ -10,31 +10,21 @@ use lib.Dec.{ltb, eqb, ltb→lt}
 use lib.ListN.{length, set, replicate}
 use Rattle.values.specs.declared.Table.{Table}
 use Rattle.model.specs.Limits.{taskLimit}
-use Rattle.model.specs.Notation.{bit, bits, fill}
+use Rattle.model.specs.Notation.{bits, fill}
 use Rattle.model.specs.Tasks.{task}
 use Rattle.model.specs.Run.{Order, tieOrder, choose}
 use Rattle.counting.specs.Count.{tests, and-iff, every-iff, eq→eqb, is-true, is-false}
 use Rattle.counting.specs.Fill.{at-end, fill-passed, fill-eq, fill-same, fill-set}
-use Rattle.counting.specs.Bits.{bits-at, bits-past}
-use Rattle.slots.specs.Slot.{at, isLate, isMember, noneLeft, closed}
+use Rattle.counting.specs.Bits.{bits-past}
+use Rattle.slots.specs.Slot.{at, noneLeft, closed}
 use Rattle.slots.specs.Columns.{columnsOf}
 use Rattle.slots.specs.Choice.{choose-eq}
 
--- The end of the loop that finds the late jobs: past the n tasks there are none.
-pub late-done : (wait left slack : List ℕ) {tasks : ℕ} (i n : ℕ) → i ≤ n → n ≤ i → n ≤ taskLimit → tasks ≡ bits (isLate wait left slack n) i → tasks ≡ bits (isLate wait left slack n) taskLimit
-late-done wait left slack i n a b h e =
-    at-end (bits (isLate wait left slack n)) i n a b e
-    ∙ sym (bits-past (isLate wait left slack n) n taskLimit h (λ k l m t.
-    let q : k < n = ltb→lt k n (and-iff (ltb k n) (ltb 0 (at left k) && eqb (at wait k) (at slack k)) .0 t .0) in
-    omega arith))
-
--- A member of the set of those that pass is one that passes.
-pub member-is : (p : ℕ → Bool) (i : ℕ) → i < taskLimit → isMember (bits p taskLimit) i ≡ p i
-member-is p i l = ap (λ (x : ℕ). eqb x 1) (bits-at p taskLimit i l) ∙ go (p i)
-  where
-    go : (b : Bool) → eqb (bit b) 1 ≡ b
-    go true = refl
-    go false = refl
+-- The end of a loop that finds the tasks that pass: past the n tasks there are none.
+pub found-done : (p : ℕ → Bool) {tasks : ℕ} (i n : ℕ) → i ≤ n → n ≤ i → n ≤ taskLimit → tasks ≡ bits (λ k. ltb k n && p k) i → tasks ≡ bits (λ k. ltb k n && p k) taskLimit
+found-done p i n a b h e =
+    at-end (bits (λ k. ltb k n && p k)) i n a b e
+    ∙ sym (bits-past (λ k. ltb k n && p k) n taskLimit h (λ k l m t. let q : k < n = ltb→lt k n (and-iff (ltb k n) (p k) .0 t .0) in omega arith))
 
 -- Some task has a slot left, or none has.
 pub one-left : (left : List ℕ) (n i : ℕ) → i < n → 0 < at left i → noneLeft left n ≡ false

@@ -1,11 +1,13 @@
 -- What each rule of a slot makes of the lists of waits and of slots left, of which a table's tasks have the first n numbers.
 use mathlib.Core.List.{List}
 use mathlib.Core.Bool.{Bool, cond, _&&_}
-use Prim.Native.Nat.{ℕ, _/_, _%_, _^_}
+use Prim.Native.Nat.{ℕ}
 use lib.Dec.{ltb, eqb}
 use lib.ListN.{getD, set}
 use Rattle.model.specs.Limits.{taskLimit}
-use Rattle.model.specs.Notation.{every, fill}
+use Rattle.values.specs.declared.Table.{Table}
+use Rattle.model.specs.Notation.{every, inSet, fill}
+use Rattle.model.specs.Tasks.{task, isButton}
 
 -- The number that a list has for task i.
 abbrev pub at : List ℕ → ℕ → ℕ
@@ -19,12 +21,16 @@ closed left task = cond (ltb task taskLimit) (set left task 0) left
 abbrev pub isLate : List ℕ → List ℕ → List ℕ → ℕ → ℕ → Bool
 isLate wait left slack n i = ltb i n && (ltb 0 (at left i) && eqb (at wait i) (at slack i))
 
--- Task i is in a set of bits; the jobs of all in it are closed.
+-- Task i is in a set of bits; all in it have this number.
 abbrev pub isMember : ℕ → ℕ → Bool
-isMember tasks i = eqb (tasks / 2 ^ i % 2) 1
+isMember = inSet
 
-unfoldable pub closedAll : List ℕ → ℕ → ℕ → List ℕ
-closedAll left tasks n = fill n (λ i. cond (isMember tasks i) 0 (at left i)) left
+unfoldable pub putAll : List ℕ → ℕ → ℕ → ℕ → List ℕ
+putAll numbers tasks number n = fill n (λ i. cond (isMember tasks i) number (at numbers i)) numbers
+
+-- Task i is a button that may be pressed.
+abbrev pub isFree : Table → List ℕ → ℕ → Bool
+isFree t wait i = ltb i (t .count) && (isButton (task t i) && eqb (at wait i) 0)
 
 -- None of the n tasks has a slot left.
 abbrev pub noneLeft : List ℕ → ℕ → Bool

@@ -1,17 +1,18 @@
 // One slot, over two numbers for each task: its wait, the slots until its next release, and the slots left to its open job.
 ghost use mathlib.Core.Path.{_≡_};
-ghost use mathlib.Core.Bool.{cond, _&&_};
+ghost use mathlib.Core.Bool.{cond, not, _&&_};
 ghost use Prim.Native.Nat.{_+_, _-_, _*_, _^_, _≤_, _<_};
 ghost use lib.Dec.{ltb, eqb};
 ghost use lib.ListN.{set};
 ghost use Rattle.model.specs.Limits.{taskLimit, slotLimit};
 ghost use Rattle.model.specs.Notation.{bit, bits};
+ghost use Rattle.model.specs.Tasks.{isButton};
 ghost use Rattle.model.specs.Dispatcher.{startOf};
 ghost use Rattle.wellformed.specs.Ranges.{Ranged};
 ghost use Rattle.slots.specs.Columns.{columnsOf};
 ghost use Rattle.slots.specs.Choice.{ranks, keyOf};
 ghost use Rattle.slots.specs.Serve.{Served};
-ghost use Rattle.slots.specs.Slot.{closed, isLate, isMember, closedAll, noneLeft, waitReleased, leftReleased};
+ghost use Rattle.slots.specs.Slot.{closed, isLate, isMember, putAll, isFree, noneLeft, waitReleased, leftReleased};
 use values::TASK_LIMIT;
 use values::Table;
 use values::Task;
@@ -120,11 +121,56 @@ fn joined(tasks: u32, i: usize, member: bool) -> u32
 // The jobs of a set of tasks are closed.
 pub fn close_all(left: &mut Numbers, tasks: u32, n: usize)
     requires { ⌜ n ≤ taskLimit ⌝ }
-    ensures { λ _. ⌜ now (left .exit) ≡ closedAll (now (left .entry)) tasks n ⌝ }
+    ensures { λ _. ⌜ now (left .exit) ≡ putAll (now (left .entry)) tasks 0 n ⌝ }
+{
+    put_all(left, tasks, 0, n)
+}
+
+// Each of a set of tasks has this number.
+pub fn put_all(numbers: &mut Numbers, tasks: u32, number: u32, n: usize)
+    requires { ⌜ n ≤ taskLimit ⌝ }
+    ensures { λ _. ⌜ now (numbers .exit) ≡ putAll (now (numbers .entry)) tasks number n ⌝ }
 {
     for i in 0..n {
-        left[i] = none_if(is_member(tasks, i), left[i]);
+        numbers[i] = put_if(is_member(tasks, i), number, numbers[i]);
     }
+}
+
+// The members of one set of tasks that are not in another.
+pub fn only_in(tasks: u32, others: u32) -> u32
+    ensures { λ r. ⌜ r ≡ bits (λ i. isMember tasks i && not (isMember others i)) taskLimit ⌝ }
+{
+    let mut rest: u32 = 0;
+    for i in 0..TASK_LIMIT {
+        rest = joined(rest, i, is_only_in(tasks, others, i));
+    }
+    rest
+}
+
+fn is_only_in(tasks: u32, others: u32, i: usize) -> bool
+    requires { ⌜ i < taskLimit ⌝ }
+    ensures { λ r. ⌜ r ≡ (isMember tasks i && not (isMember others i)) ⌝ }
+{
+    is_member(tasks, i) && !is_member(others, i)
+}
+
+// The buttons that may be pressed, as a set of bits.
+pub fn free_set(t: Table, wait: Numbers) -> u32
+    requires { ⌜ t .count ≤ taskLimit ⌝ }
+    ensures { λ r. ⌜ r ≡ bits (isFree t wait) taskLimit ⌝ }
+{
+    let n = t.count;
+    let mut tasks: u32 = 0;
+    for i in 0..n {
+        tasks = joined(tasks, i, may_be_pressed(t.tasks[i], wait[i]));
+    }
+    tasks
+}
+
+fn may_be_pressed(task: Task, wait: u32) -> bool
+    ensures { λ r. ⌜ r ≡ (isButton task && eqb wait 0) ⌝ }
+{
+    sorts::is_button(task) && wait == 0
 }
 
 fn is_member(tasks: u32, i: usize) -> bool
@@ -134,10 +180,10 @@ fn is_member(tasks: u32, i: usize) -> bool
     (tasks >> i) & 1 == 1
 }
 
-fn none_if(closed: bool, left: u32) -> u32
-    ensures { λ r. ⌜ r ≡ cond closed 0 left ⌝ }
+fn put_if(member: bool, number: u32, other: u32) -> u32
+    ensures { λ r. ⌜ r ≡ cond member number other ⌝ }
 {
-    if closed { 0 } else { left }
+    if member { number } else { other }
 }
 
 // The job of a task is closed; that of no task is none.

@@ -38,11 +38,18 @@ fitting t d m e =
     let (c, e₃) = unrefused (ltb slotCountLimit (slotCount t d)) _ e₂ in
     record { each = ltb-false (firstStrange t d) (t .count) a; ran = b; room = ltb-false slotCountLimit (slotCount t d) c }
 
--- EXACTLY: a state is admitted if its table is well-formed and no place of 8 fits it.
+-- EXACTLY: by a judgement a state is admitted if that is well-formed and no place of 8 fits the state.
+abbrev pub AdmissibleBy : Table → State → Judgement → Type 0
+AdmissibleBy t d j = ((m : Measure) × (j ≡ Judgement.WellFormed m)) × Fitting t d
+
+pub admitted-by-iff : (t : Table) (d : State) (j : Judgement) → (admittedBy t d j ≡ Admission.Admitted) ↔ AdmissibleBy t d j
+admitted-by-iff t d j = (fwd j, λ ((m, e), f). rw (e, le-ltb (firstStrange t d) (t .count) (f .each), f .ran, le-ltb slotCountLimit (slotCount t d) (f .room)))
+  where
+    fwd : (j : Judgement) → admittedBy t d j ≡ Admission.Admitted → AdmissibleBy t d j
+    fwd (Judgement.Refused r) e = let z : _≡_ {A = ℕ} 0 1 = cc in absurd (omega arith)
+    fwd (Judgement.WellFormed m) e = ((m, refl), fitting t d m e)
+
 pub admitted-iff : (t : Table) (d : State) → (admitted t d ≡ Admission.Admitted) ↔ Admissible t d
 unfolding admitted
-admitted-iff t d = (fwd (judged t) refl, λ a. rw (a .well, le-ltb (firstStrange t d) (t .count) (a .fits .each), a .fits .ran, le-ltb slotCountLimit (slotCount t d) (a .fits .room)))
-  where
-    fwd : (j : Judgement) → judged t ≡ j → admittedBy t d j ≡ Admission.Admitted → Admissible t d
-    fwd (Judgement.Refused r) w e = let z : _≡_ {A = ℕ} 0 1 = cc in absurd (omega arith)
-    fwd (Judgement.WellFormed m) w e = record { measure = m; well = w; fits = fitting t d m e }
+admitted-iff t d =
+    (λ e. let ((m, w), f) = admitted-by-iff t d (judged t) .0 e in record { measure = m; well = w; fits = f }, λ a. admitted-by-iff t d (judged t) .1 ((a .measure, a .well), a .fits))

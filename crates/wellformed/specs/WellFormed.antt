@@ -119,6 +119,15 @@ periodic-iff t m = (
         let (a, e₁) = passed (ltb (firstButton t) (t .count)) 11 (firstButton t) e in
         (w ∙ e₁, buttonless-iff t .0 (ltb-false (firstButton t) (t .count) a))
 
+-- Without one it is judged as it is at all.
+pub judged-same : (t : Table) → Buttonless t → judged t ≡ judgedMixed t
+unfolding judged
+judged-same t none = go (judgedMixed t)
+  where
+    go : (j : Judgement) → periodicOnly t j ≡ j
+    go (Judgement.Refused r) = refl
+    go (Judgement.WellFormed m) = rw (le-ltb (firstButton t) (t .count) (buttonless-iff t .1 none))
+
 -- Else it is refused as it is at all, or by 11 at its lowest button.
 pub refused-both : (t : Table) (r : Refusal) → judgedMixed t ≡ Judgement.Refused r → judged t ≡ Judgement.Refused r
 unfolding judged

@@ -1,14 +1,16 @@
 -- The loop has the late jobs of the tasks that it has passed.
 use mathlib.Core.Path.{_≡_}
+use mathlib.Core.Bool.{_&&_}
 use Prim.Native.Nat.{_≤_, _-_}
 use native.Mathlib.Omega.{arith}
+use lib.Dec.{ltb, eqb}
 use denote.Ref.{now}
 use borrow.Author.Tests.{lt-ltb}
 use borrow.Author.Needs.{needs}
 use Rattle.model.specs.Notation.{bits}
 use Rattle.counting.specs.Bits.{bits-none, bits-more, bits-lt}
-use Rattle.slots.specs.Slot.{isLate}
-use Rattle.slots.specs.Laws.{late-done}
+use Rattle.slots.specs.Slot.{at, isLate}
+use Rattle.slots.specs.Laws.{found-done}
 use Rattle.slots.proofs.late_set.Statement.{statement}
 use Rattle.slots.proofs.late_set.Tie as tie
 
@@ -60,7 +62,7 @@ returns : tie.Need-returns Inv-loop μ-loop
 returns c =
     let a = c .before in
     let s = a .before .args in
-    late-done (now (s .wait)) (now (s .left)) (now (s .slack)) _ _ (a .loop .inv .0) (omega arith) (omega arith) (a .loop .inv .1)
+    found-done (λ k. ltb 0 (at (now (s .left)) k) && eqb (at (now (s .wait)) k) (at (now (s .slack)) k)) _ _ (a .loop .inv .0) (omega arith) (omega arith) (a .loop .inv .1)
 
 pub late-set-spec : {M : Type 1} → statement M
 late-set-spec =

@@ -1,0 +1,42 @@
+-- Refused as the table is, or a step on a well-formed table.
+use mathlib.Core.Path.{sym, _∙_}
+use borrow.Author.Needs.{needs}
+use Rattle.model.specs.Presses.{admittedMixed, steppedPressed}
+use Rattle.wellformed.specs.WellFormed.{well-mixed}
+use Rattle.presses.proofs.Presses.step.Statement.{statement}
+use Rattle.presses.proofs.Presses.step.Tie as tie
+
+judge-mixed-requires : tie.Need-judge-mixed-requires
+judge-mixed-requires c κs = search needs
+
+enum-known-why : tie.Need-enum-known-why
+enum-known-why c = search needs
+
+handed-back-requires : tie.Need-handed-back-requires
+handed-back-requires c κs = search needs
+
+enum-told : tie.Need-enum-told
+enum-told c = search needs
+
+step-well-formed-requires : tie.Need-step-well-formed-requires
+step-well-formed-requires c κs = well-mixed _ _ (sym (c .before .before .judge-mixed .ensures) ∙ c .enum-told .given .1) .ranged
+
+returns : tie.Need-returns
+unfolding steppedPressed admittedMixed
+returns c = rw (← c .before .before .before .before .judge-mixed .ensures, c .before .before .why .given .1) (c .handed-back .ensures)
+
+returns-2 : tie.Need-returns-2
+unfolding steppedPressed admittedMixed
+returns-2 c = rw (← c .before .before .before .judge-mixed .ensures, c .before .enum-told .given .1) (c .step-well-formed .ensures)
+
+pub step-spec : {M : Type 1} → statement M
+step-spec =
+    tie.close
+    (tie.spec
+    judge-mixed-requires
+    enum-known-why
+    handed-back-requires
+    enum-told
+    step-well-formed-requires
+    returns
+    returns-2)

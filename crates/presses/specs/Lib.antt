@@ -1,0 +1,3 @@
+-- A step under presses.
+pub mod State
+pub mod Step

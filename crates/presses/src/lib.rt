@@ -1,0 +1,187 @@
+// The dispatcher of tables with buttons: a start on any table, and a step on any table, any state and any presses.
+ghost use mathlib.Core.Path.{_≡_};
+ghost use Rattle.model.specs.Presses.{startedMixed, refusePressed, pressTaken, steppedPressed};
+ghost use Rattle.wellformed.specs.Ranges.{Ranged};
+ghost use Rattle.dispatch.specs.Accounts.{belonging};
+ghost use Rattle.dispatch.specs.State.{stateOf};
+ghost use Rattle.presses.specs.State.{startedOf, pressedOf};
+ghost use Rattle.presses.specs.Step.{Pressable, pressWellFormed, Advanced};
+use dispatch::Dispatcher;
+use dispatch::Room;
+use slots::NO_TASK;
+use slots::Numbers;
+use values::Admission;
+use values::Judgement;
+use values::Refusal;
+use values::SlotAnswer;
+use values::TASK_LIMIT;
+use values::Table;
+
+// A dispatcher's state; of a button, its wait is the slots until it may be pressed again.
+pub struct Presses {
+    pub state: Dispatcher,
+}
+
+pub struct Started {
+    pub admission: Admission,
+    pub presses: Presses,
+}
+
+// The answer of a step, the presses that it did not take, as a set of bits, and the successor.
+pub struct Pressed {
+    pub answer: SlotAnswer,
+    pub untaken: u32,
+    pub next: Presses,
+}
+
+impl Presses {
+    pub fn start(t: Table) -> Started
+        ensures { λ r. ⌜ startedOf r ≡ startedMixed t ⌝ }
+    {
+        let left = [0u32; TASK_LIMIT];
+        let given = [0u64; TASK_LIMIT];
+        match table::judge_mixed(t) {
+            Judgement::Refused(refusal) => Started {
+                admission: Admission::Refused(refusal),
+                presses: Presses {
+                    state: Dispatcher {
+                        wait: [0u32; TASK_LIMIT],
+                        left,
+                        last: 0,
+                        given,
+                        empty: 0,
+                    },
+                },
+            },
+            Judgement::WellFormed(_) => Started {
+                admission: Admission::Admitted,
+                presses: Presses {
+                    state: Dispatcher {
+                        wait: slots::offsets(t),
+                        left,
+                        last: NO_TASK,
+                        given,
+                        empty: 0,
+                    },
+                },
+            },
+        }
+    }
+
+    // A refused step takes no press, and hands the state back as it came.
+    pub fn step(self, t: Table, done: bool, pressed: u32) -> Pressed
+        ensures { λ r. ⌜ pressedOf r ≡ steppedPressed t (stateOf (self .state)) done pressed ⌝ }
+    {
+        let state = self.state;
+        match table::judge_mixed(t) {
+            Judgement::Refused(why) => handed_back(state, why, pressed),
+            Judgement::WellFormed(_) => step_well_formed(state, t, done, pressed),
+        }
+    }
+}
+
+fn handed_back(d: Dispatcher, why: Refusal, pressed: u32) -> Pressed
+    ensures { λ r. ⌜ pressedOf r ≡ refusePressed why (stateOf d) pressed ⌝ }
+{
+    Pressed {
+        answer: SlotAnswer::Refused(why),
+        untaken: pressed,
+        next: Presses { state: d },
+    }
+}
+
+fn step_well_formed(d: Dispatcher, t: Table, done: bool, pressed: u32) -> Pressed
+    requires { ⌜ Ranged t ⌝ }
+    ensures { λ r. ⌜ pressedOf r ≡ pressWellFormed t (stateOf d) done pressed ⌝ }
+{
+    match dispatch::belonging(d, t) {
+        Room::Refused(why) => handed_back(d, why, pressed),
+        Room::Slots(room) => step_admitted(d, t, room, done, pressed),
+    }
+}
+
+// A state that belongs to the table: refused by 9 if it can count no slot more.
+fn step_admitted(d: Dispatcher, t: Table, room: u64, done: bool, pressed: u32) -> Pressed
+    requires { ⌜ Ranged t ⌝ }
+    requires { ⌜ belonging t (stateOf d) ≡ Room.Slots room ⌝ }
+    ensures { λ r. ⌜ pressedOf r ≡ pressWellFormed t (stateOf d) done pressed ⌝ }
+{
+    if room == 0 {
+        return handed_back(
+            d,
+            Refusal {
+                number: 9,
+                place: 0,
+            },
+            pressed,
+        );
+    }
+    step_taken(d, t, done, pressed)
+}
+
+// A step that nothing refuses, and the slot counted.
+fn step_taken(d: Dispatcher, t: Table, done: bool, pressed: u32) -> Pressed
+    requires { ⌜ Pressable t (stateOf d) ⌝ }
+    ensures { λ r. ⌜ pressedOf r ≡ pressTaken t (stateOf d) done pressed ⌝ }
+{
+    let mut given = d.given;
+    let moved = advance(d, t, done, pressed);
+    let owner = moved.owner;
+    let wait = moved.wait;
+    let left = moved.left;
+    dispatch::count_given(&mut given, owner);
+    Pressed {
+        answer: SlotAnswer::Slot(dispatch::turn_of(owner, moved.late)),
+        untaken: moved.untaken,
+        next: Presses {
+            state: Dispatcher {
+                wait,
+                left,
+                last: owner,
+                given,
+                empty: dispatch::count_empty(d.empty, owner),
+            },
+        },
+    }
+}
+
+// The lists after a slot, the slot's owner, the tasks that were closed late, and the presses that were not taken.
+pub struct Moved {
+    pub wait: Numbers,
+    pub left: Numbers,
+    pub owner: u32,
+    pub late: u32,
+    pub untaken: u32,
+}
+
+// The four rules on the lists. A button that may be pressed and is not waits one slot more before the releases, so that
+// no job of it comes and its wait is 0 again after the slot.
+fn advance(d: Dispatcher, t: Table, done: bool, pressed: u32) -> Moved
+    requires { ⌜ Pressable t (stateOf d) ⌝ }
+    ensures { λ r. ⌜ Advanced t (stateOf d) done pressed r ⌝ }
+{
+    let columns = slots::unpack(t);
+    let period = columns.period;
+    let cost = columns.cost;
+    let slack = columns.slack;
+    let rank = columns.rank;
+    let n = t.count;
+    let left = d.left;
+    let wait = d.wait;
+    let free = slots::free_set(t, wait);
+    let untaken = slots::only_in(pressed, free);
+    let idle = slots::only_in(free, pressed);
+    let mut next = wait;
+    let mut open = dispatch::after_report(left, d.last, done);
+    let late = slots::late_set(&next, &open, &slack, n);
+    slots::close_all(&mut open, late, n);
+    slots::put_all(&mut next, idle, 1, n);
+    let seen = slots::serve(&mut next, &mut open, &period, &cost, &slack, &rank, n);
+    Moved {
+        wait: next,
+        left: open,
+        owner: seen.owner,
+        late,
+        untaken,
+    }
+}

@@ -1,0 +1,56 @@
+-- The loop has the members of the one set alone among the tasks that it has passed.
+use mathlib.Core.Path.{_≡_}
+use mathlib.Core.Bool.{not, _&&_}
+use Prim.Native.Nat.{_≤_, _-_}
+use native.Mathlib.Omega.{arith}
+use borrow.Author.Needs.{needs}
+use Rattle.model.specs.Limits.{taskLimit}
+use Rattle.model.specs.Notation.{bits}
+use Rattle.counting.specs.Bits.{bits-none, bits-more, bits-lt}
+use Rattle.counting.specs.Fill.{at-end}
+use Rattle.slots.specs.Slot.{isMember}
+use Rattle.slots.proofs.only_in.Statement.{statement}
+use Rattle.slots.proofs.only_in.Tie as tie
+
+abbrev Inv-loop : tie.InvT-loop
+Inv-loop tasks others rest₀ i₀ rest i = (i ≤ taskLimit) × (rest ≡ bits (λ k. isMember tasks k && not (isMember others k)) i)
+
+abbrev μ-loop : tie.MeasureT-loop
+μ-loop tasks others rest₀ i₀ rest i = taskLimit - i
+
+loop-holds : tie.Need-loop-holds Inv-loop μ-loop
+loop-holds c = (omega arith, bits-none _)
+
+is-only-in-requires : tie.Need-is-only-in-requires Inv-loop μ-loop
+is-only-in-requires c κs = search needs
+
+joined-requires : tie.Need-joined-requires Inv-loop μ-loop
+joined-requires c κs = (omega arith, rw (c .before .before .loop .inv .1) (bits-lt _ _))
+
+add-i : tie.Need-add-i Inv-loop μ-loop
+add-i c = search needs
+
+loop-less : tie.Need-loop-less Inv-loop μ-loop
+loop-less c = search needs
+
+loop-again : tie.Need-loop-again Inv-loop μ-loop
+loop-again c = let a = c .before .before .before in
+    (omega arith, bits-more (λ k. isMember (a .before .args .tasks) k && not (isMember (a .before .args .others) k)) _ (a .loop .inv .1) (rw (c .joined .ensures, c .before .is-only-in .ensures)))
+
+returns : tie.Need-returns Inv-loop μ-loop
+returns c = let a = c .before in
+    at-end (bits (λ k. isMember (a .before .args .tasks) k && not (isMember (a .before .args .others) k))) _ taskLimit (a .loop .inv .0) (omega arith) (a .loop .inv .1)
+
+pub only-in-spec : {M : Type 1} → statement M
+only-in-spec =
+    tie.close
+    (tie.spec
+    Inv-loop
+    μ-loop
+    loop-holds
+    is-only-in-requires
+    joined-requires
+    add-i
+    loop-less
+    loop-again
+    returns)
