@@ -16,9 +16,9 @@ use Rattle.model.specs.LogMeaning.{Final}
 use Rattle.counting.specs.Count.{is-false}
 use Rattle.counting.specs.Fill.{fill-eq, fill-same}
 use Rattle.slots.specs.declared.Seen.{Seen}
-use Rattle.slots.specs.Slot.{closed, isLate as isLateIn, closedAll}
+use Rattle.slots.specs.Slot.{closed, isLate as isLateIn, putAll}
 use Rattle.slots.specs.Serve.{Served}
-use Rattle.slots.specs.Laws.{member-is}
+use Rattle.counting.specs.Bits.{in-bits}
 use Rattle.dispatch.specs.declared.Moved.{Moved}
 use Rattle.dispatch.specs.Step.{Unpacked, Unrefused, Whole, Advanced, advanced-is}
 use Rattle.logbook.specs.Bytes.{Readable}
@@ -54,9 +54,9 @@ abbrev pub movedTo : Table → State → Bool → List ℕ → List ℕ → ℕ 
 movedTo t d done wait left owner = record { wait = wait; left = left; owner = owner; late = bits (isLate t d done) taskLimit }
 
 -- To close the jobs of a set without members changes nothing.
-none-closed : (n : ℕ) (left : List ℕ) (late : ℕ → Bool) → n ≤ taskLimit → ((i : ℕ) → i < n → late i ≡ false) → left ≡ closedAll left (bits late taskLimit) n
-unfolding closedAll
-none-closed n left late few none = sym (fill-eq n _ _ left (λ i l. rw (member-is late i (omega arith), none i l)) ∙ fill-same n left 0)
+none-closed : (n : ℕ) (left : List ℕ) (late : ℕ → Bool) → n ≤ taskLimit → ((i : ℕ) → i < n → late i ≡ false) → left ≡ putAll left (bits late taskLimit) 0 n
+unfolding putAll
+none-closed n left late few none = sym (fill-eq n _ _ left (λ i l. rw (in-bits late taskLimit i (omega arith), none i l)) ∙ fill-same n left 0)
 
 -- Where no job is late, a done report and one pass are the whole step.
 pub moved-if :

@@ -1,7 +1,7 @@
 -- NO THEOREM OF THIS CRATE IS EMPTY: tables b, d and g, and tables with buttons, meet what they ask for.
 use mathlib.Core.Path.{_≡_, refl, sym}
 use mathlib.Core.Logic.{_⊎_, inl, inr}
-use mathlib.Core.List.{[], _∷_}
+use mathlib.Core.List.{[], _∷_, map}
 use mathlib.Core.Bool.{Bool, true, false, cond, _&&_, _||_, true≢false}
 use Prim.Native.Nat.{ℕ, zero, suc, _+_, _-_, _≤_, _<_}
 use native.Mathlib.Omega.{arith}
@@ -10,6 +10,7 @@ use lib.Dec.{T, lit≤, lit<, eqb}
 use Rattle.values.specs.declared.Table.{Table}
 use Rattle.values.specs.declared.Judgement.{Judgement}
 use Rattle.values.specs.declared.Verdict.{Verdict}
+use Rattle.model.specs.Limits.{taskLimit}
 use Rattle.model.specs.Notation.{sum, largest, count, every, first, last, fill, Least}
 use Rattle.model.specs.Tasks.{task, isButton, release, taskFault, firstFaulty, round, load, horizon, judgedMixed, judged}
 use Rattle.model.specs.Demand.{Arrivals, arrivedIn, demandFor, released, releases, demand, lateAt}
@@ -23,6 +24,8 @@ use Rattle.model.specs.Patterns.{startingAt, light, calmBy, calm, simultaneous,
 use Rattle.model.specs.TableFile.{tableOf}
 use Rattle.model.specs.Examples.{of, table-b, table-d, table-g}
 use Rattle.model.specs.ButtonExamples.{button, table-shutter}
+use Rattle.model.specs.Dispatcher.{startOf}
+use Rattle.model.specs.Presses.{ownerCome, afterCome, stateUnder, arrivals, ownerUnder, FinishedUnder}
 use Rattle.counting.specs.Count.{is-true, every-iff}
 use Rattle.wellformed.specs.Ranges.{Ranged}
 use Rattle.wellformed.specs.WellFormed.{well-mixed}
@@ -55,6 +58,8 @@ use Rattle.patterns.specs.NoButton.{no-button}
 use Rattle.patterns.specs.GoodReleased.{good-released, releases-respect}
 use Rattle.patterns.specs.DemandFor.{good-for-iff}
 use Rattle.patterns.specs.ButtonsAlone.{buttons-iff}
+use Rattle.patterns.specs.PressInTime.{in-time}
+use Rattle.patterns.specs.PressNoneWaits.{none-waits}
 
 -- Table g has load exactly 1 and passes quickly, so its distances pass it and so does the exact test.
 g-ranged : Ranged table-g
@@ -254,3 +259,27 @@ b-no-button = no-button table-b (lit< tt) none
 
 b-good : (σ : Schedule) × Good table-b σ
 b-good = let (σ, good) = mixed-good table-b b-ranged b-distance (releases table-b) (releases-respect table-b b-ranged) in (σ, good-released table-b b-ranged σ .0 good)
+
+-- Pressed in every slot, and never told of an end, the shutter is released in every second one: its first job is in time,
+-- and slot 5, which nobody has, finds it finished.
+abbrev always : ℕ → ℕ
+always n = 4
+
+abbrev silent : ℕ → Bool
+silent n = false
+
+every-second : map (arrivals table-shutter silent always 2) (0 ∷ 1 ∷ 2 ∷ 3 ∷ []) ≡ true ∷ false ∷ true ∷ false ∷ []
+unfolding stateUnder afterCome ownerCome startOf fill choose
+every-second = refl
+
+shutter-in-time : FinishedUnder table-shutter silent always 2 0 1
+unfolding stateUnder startOf fill
+shutter-in-time = in-time table-shutter shutter-ranged silent always shutter-pass 2 0 (lit< tt) tt
+
+slot-5-empty : ownerUnder table-shutter silent always 5 ≡ taskLimit
+unfolding stateUnder afterCome ownerCome startOf fill choose
+slot-5-empty = refl
+
+shutter-done : FinishedUnder table-shutter silent always 2 0 5
+unfolding stateUnder startOf fill
+shutter-done = none-waits table-shutter shutter-ranged silent always shutter-pass 5 slot-5-empty 2 0 (lit< tt) tt (lit≤ tt)
