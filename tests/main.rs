@@ -13,6 +13,7 @@ mod files;
 mod inputs;
 mod judge;
 mod largest;
+mod loads;
 mod logbook;
 mod logs;
 mod markup;
@@ -22,6 +23,7 @@ mod pictures;
 mod plain;
 mod randoms;
 mod reference;
+mod rounds;
 mod runs;
 mod texts;
 mod whole;
@@ -86,6 +88,15 @@ fn judging(bench: &mut Bench, rng: &mut Rng, count: u64) {
     runs::runs(bench, rng, count);
 }
 
+fn at_full_load(bench: &mut Bench, rng: &mut Rng, count: u64) {
+    loads::short_rounds(bench, rng, count / 5);
+    loads::middle_rounds(bench, rng, count / 100);
+    loads::common_deadlines(bench, rng, count / 50);
+    loads::long_rounds(bench, rng, count / 100);
+    rounds::budgets_about_rounds(bench, rng, count / 15);
+    rounds::largest_offsets(bench, rng, count / 5_000);
+}
+
 fn logs_judged(bench: &mut Bench, rng: &mut Rng, count: u64) {
     logs::by_hand(bench);
     logs::short_ones(bench);
@@ -137,6 +148,7 @@ fn main() -> ExitCode {
     println!("seed {seed}, {count} random inputs for each call");
     let (mut bench, mut rng) = (Bench::new(), Rng(seed));
     judging(&mut bench, &mut rng, count);
+    at_full_load(&mut bench, &mut rng, count);
     writing(&mut bench, &mut rng, count);
     logs_judged(&mut bench, &mut rng, count);
     what_is_shipped(&mut bench, &mut rng);
