@@ -5,6 +5,7 @@
 
 mod arrivals;
 mod bench;
+mod blocks;
 mod calls;
 mod command;
 mod document;
@@ -104,6 +105,9 @@ fn logs_judged(bench: &mut Bench, rng: &mut Rng, count: u64) {
     logs::at_random(bench, rng, count / 20);
     logs::from_any_state(bench, rng, count / 2);
     logs::good_is_in_time(bench, rng, count / 40);
+    blocks::damaged_at_borders(bench);
+    blocks::longest_ends_inside(bench);
+    blocks::long_ones(bench, rng, count / 400);
 }
 
 fn writing(bench: &mut Bench, rng: &mut Rng, count: u64) {
