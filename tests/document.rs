@@ -12,7 +12,7 @@ type Rows = &'static [(u32, u32, u32, u32)];
 
 const A: Rows = &[(0, 1, 1, 1)];
 pub const B: Rows = &[(8, 5, 7, 15), (0, 2, 2, 5)];
-const C: Rows = &[(8, 6, 7, 15), (0, 2, 2, 5)];
+pub const C: Rows = &[(8, 6, 7, 15), (0, 2, 2, 5)];
 const D: Rows = &[(0, 5, 7, 15), (0, 2, 2, 5)];
 pub const E: Rows = &[(1, 1, 1, 2), (0, 1, 1, 2)];
 pub const F: Rows = &[(0, 1, 1, 2), (0, 1, 1, 2)];

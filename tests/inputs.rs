@@ -161,9 +161,9 @@ fn raise_costs(rng: &mut Rng, tasks: &mut [Task], round: u32) {
     }
 }
 
-/// A last task that takes whatever the others leave: load exactly 1.
-fn fill_up(tasks: &mut Vec<Task>, round: u32) {
-    let free = round.saturating_sub(asked(tasks, round));
+/// A last task that takes whatever the others leave but so many slots of a round: with none of them, load exactly 1.
+fn fill_up(tasks: &mut Vec<Task>, round: u32, spare: u32) {
+    let free = round.saturating_sub(asked(tasks, round) + spare);
     if free > 0 && tasks.len() < TASKS {
         tasks.push(periodic(0, free, round, round));
     }
@@ -216,7 +216,7 @@ pub fn near_border(rng: &mut Rng) -> Vec<Task> {
     let mut tasks = seedlings(rng, round);
     raise_costs(rng, &mut tasks, round);
     if rng.chance(25) {
-        fill_up(&mut tasks, round);
+        fill_up(&mut tasks, round, 0);
     }
     shuffle(rng, &mut tasks);
     shift(rng, &mut tasks, round);
@@ -225,6 +225,34 @@ pub fn near_border(rng: &mut Rng) -> Vec<Task> {
         tighten(rng, &mut tasks);
     }
     tasks
+}
+
+/// Deadlines about what the table keeps, with its offsets or with all of them 0; some are the period again.
+fn press(rng: &mut Rng, tasks: &mut [Task], round: u32) {
+    let (shifted, eased) = (rng.chance(50), rng.pick(&[0, 0, 50, 80]));
+    if shifted {
+        shift(rng, tasks, round);
+    }
+    tighten(rng, tasks);
+    tasks.iter_mut().filter(|_| rng.chance(eased)).for_each(|task| task.deadline = task.period);
+    if !shifted {
+        shift(rng, tasks, round);
+    }
+}
+
+/// A well-formed table with a short round that has no slot to spare, or one in each round.
+pub fn full(rng: &mut Rng) -> Vec<Task> {
+    loop {
+        let (round, spare) = (pick_round(rng), rng.pick(&[0, 0, 1]));
+        let mut tasks = seedlings(rng, round);
+        raise_costs(rng, &mut tasks, round);
+        fill_up(&mut tasks, round, spare);
+        if asked(&tasks, round) + spare == round {
+            shuffle(rng, &mut tasks);
+            press(rng, &mut tasks, round);
+            return tasks;
+        }
+    }
 }
 
 /// Some of the tasks made buttons of the same numbers: one of them, some, or all.

@@ -99,7 +99,7 @@ fn some_log(rng: &mut Rng, tasks: &[Task]) -> Vec<u8> {
 }
 
 /// A byte changed, put in, taken out, or put behind.
-fn damage_log(rng: &mut Rng, log: &mut Vec<u8>) {
+pub fn damage_log(rng: &mut Rng, log: &mut Vec<u8>) {
     let byte = rng.pick(&[0, 1, 2, 15, 16, 17, 18, 18, 19, 20, 31, 32, 33, 255]);
     let place = rng.below(log.len() as u64 + 1) as usize;
     match rng.below(4) {

@@ -5,6 +5,7 @@
 
 mod arrivals;
 mod bench;
+mod blocks;
 mod calls;
 mod command;
 mod document;
@@ -13,6 +14,7 @@ mod files;
 mod inputs;
 mod judge;
 mod largest;
+mod loads;
 mod logbook;
 mod logs;
 mod markup;
@@ -22,6 +24,7 @@ mod pictures;
 mod plain;
 mod randoms;
 mod reference;
+mod rounds;
 mod runs;
 mod texts;
 mod whole;
@@ -86,6 +89,15 @@ fn judging(bench: &mut Bench, rng: &mut Rng, count: u64) {
     runs::runs(bench, rng, count);
 }
 
+fn at_full_load(bench: &mut Bench, rng: &mut Rng, count: u64) {
+    loads::short_rounds(bench, rng, count / 5);
+    loads::middle_rounds(bench, rng, count / 100);
+    loads::common_deadlines(bench, rng, count / 50);
+    loads::long_rounds(bench, rng, count / 100);
+    rounds::budgets_about_rounds(bench, rng, count / 15);
+    rounds::largest_offsets(bench, rng, count / 5_000);
+}
+
 fn logs_judged(bench: &mut Bench, rng: &mut Rng, count: u64) {
     logs::by_hand(bench);
     logs::short_ones(bench);
@@ -93,6 +105,9 @@ fn logs_judged(bench: &mut Bench, rng: &mut Rng, count: u64) {
     logs::at_random(bench, rng, count / 20);
     logs::from_any_state(bench, rng, count / 2);
     logs::good_is_in_time(bench, rng, count / 40);
+    blocks::damaged_at_borders(bench);
+    blocks::longest_ends_inside(bench);
+    blocks::long_ones(bench, rng, count / 400);
 }
 
 fn writing(bench: &mut Bench, rng: &mut Rng, count: u64) {
@@ -137,6 +152,7 @@ fn main() -> ExitCode {
     println!("seed {seed}, {count} random inputs for each call");
     let (mut bench, mut rng) = (Bench::new(), Rng(seed));
     judging(&mut bench, &mut rng, count);
+    at_full_load(&mut bench, &mut rng, count);
     writing(&mut bench, &mut rng, count);
     logs_judged(&mut bench, &mut rng, count);
     what_is_shipped(&mut bench, &mut rng);

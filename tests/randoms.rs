@@ -148,7 +148,7 @@ fn held(bench: &mut Bench, requests: Vec<Request>) -> Vec<Reply> {
 }
 
 /// Each answer comes up: a generator that no longer reaches one fails.
-fn each_comes_up(bench: &mut Bench, call: &str, times: &[u64], count: u64) {
+pub fn each_comes_up(bench: &mut Bench, call: &str, times: &[u64], count: u64) {
     for (often, answer) in times.iter().zip(["none", "pass", "overload"]) {
         println!("{call} {answer}: {often}");
         bench.count(*often >= count / INPUTS_PER_VERDICT, || format!("{call} {answer} {often} times in {count} inputs"));

@@ -620,6 +620,11 @@ fn verdict_word(verdict: &Verdict) -> &'static str {
 }
 
 pub fn report(tasks: &[Task], budget: u64) -> String {
+    report_knowing(tasks, budget, quick(tasks))
+}
+
+/// Where what the quick test says is known in another way, as of a round that is too long for its run.
+pub fn report_knowing(tasks: &[Task], budget: u64, quick: bool) -> String {
     let round = round(tasks).unwrap();
     let answer = decide(tasks, budget);
     format!(
@@ -627,7 +632,7 @@ pub fn report(tasks: &[Task], budget: u64) -> String {
         tasks.len(),
         asked_in_round(tasks, round),
         round,
-        if quick(tasks) { "pass" } else { "none" },
+        if quick { "pass" } else { "none" },
         horizon(tasks, round),
         verdict_word(&answer.verdict),
         answer.settled,
