@@ -7,7 +7,7 @@ mod samples;
 mod searches;
 mod turns;
 mod walk;
-use calls::{check, check_plainly, horizon, quick, report_by, report_on, start, step, table_file, task, timed, Task, REPORT_BYTES, STATE_BYTES, TASKS};
+use calls::{check, check_plainly, horizon, quick, report_by, report_on, round, start, step, table_file, task, timed, Task, REPORT_BYTES, STATE_BYTES, TASKS};
 use samples::{late_tables, tables, worst_to_search};
 use searches::searches;
 use turns::{middle, turn_about, Best, TURNS};
@@ -52,7 +52,7 @@ fn walks() -> bool {
                 black_box(quick(black_box(&file)));
             },
         ]);
-        // a check also makes the quick test's walk, which the Rust program does not
+        // a check also makes the quick test, which the Rust program does not
         let walk = |check: f64, quick: f64| check - quick;
         let proved = walk(all[0].best, all[3].best);
         let ratio = proved / all[1].best.min(all[2].best);
@@ -71,20 +71,23 @@ fn plain_searches() -> bool {
     searches(check_plainly, bound.chain([("no bar: 15 tasks, none passed over", worst_to_search(), f64::INFINITY)]).collect())
 }
 
-// All slots busy up to H: the load is exactly 1, so the first idle instant of simultaneous starts is H itself.
-fn longest_quick() -> [(&'static str, Vec<Task>); 2] {
-    let near = [60000, 57600, 54000, 58320, 55296];
-    let sixteenths = (0..16).map(|i| near[i % 5]).map(|period| task(0, period / 16, period, period)).collect();
-    [("quick, 2 tasks", vec![task(0, 30000, 60000, 60000), task(0, 29998, 59996, 59996)]), ("quick, 16 tasks", sixteenths)]
+// The load is 1 and some deadlines come before the next release, so the quick test looks at some millions of instants.
+fn long_quick() -> [(&'static str, Vec<Task>); 2] {
+    let short = [
+        task(0, 4219, 37990, 37990), task(0, 3379, 37990, 37990), task(0, 235, 1426, 1450), task(0, 55, 1450, 1450),
+        task(0, 215, 21905, 22910), task(0, 4367, 22910, 22910), task(0, 1255, 36830, 36830), task(0, 6111, 36814, 36830),
+        task(0, 792, 20394, 20590), task(0, 3326, 20590, 20590),
+    ];
+    let whole = [task(0, 1, 2, 2), task(0, 15000, 60000, 60000), task(0, 14999, 59996, 59996)];
+    [("quick, 3 tasks, deadlines whole", whole.to_vec()), ("quick, 10 tasks, four shorter", short.to_vec())]
 }
 
-fn longest_quick_walks() {
-    println!("{:<34} {:>10} {:>8} {:>10}", "longest quick walk, one call", "slots", "ms", "ns a slot");
-    for (name, tasks) in longest_quick() {
+fn long_quick_tests() {
+    println!("{:<34} {:>15} {:>12}", "quick test at load 1, one call", "H", "ms");
+    for (name, tasks) in long_quick() {
         let file = table_file(&tasks, 1);
-        let slots = horizon(&tasks) / 2;
         let time = timed(1, &mut || assert_eq!(quick(black_box(&file)), 1, "{name}"));
-        println!("{name:<34} {slots:>10} {:>8.2} {:>10.5}", time / 1e6, time / slots as f64);
+        println!("{name:<34} {:>15} {:>12.5}", round(&tasks), time / 1e6);
     }
 }
 
@@ -127,7 +130,7 @@ fn main() {
     println!();
     single_calls();
     println!();
-    longest_quick_walks();
+    long_quick_tests();
     println!();
     println!("the proved walk takes at most 1.1 times the faster Rust walk: {}", if walks { "holds" } else { "MISSED" });
     println!("on the tables with a bar the search takes at most as long as the walk: {}", if searches { "holds" } else { "MISSED" });

@@ -1,5 +1,5 @@
 // How long the library takes to find the largest cost of a task, by halving, beside a look at one cost after the other from the present
-// one up, by the same engine; such a check also makes the quick test's walk and a report. Built and run by bench/largest.
+// one up, by the same engine; such a check also makes the quick test and a report. Built and run by bench/largest.
 use std::hint::black_box;
 
 mod calls;

@@ -8,7 +8,7 @@ mod samples;
 mod searches;
 mod turns;
 mod walk;
-use calls::{check, check_plainly, horizon, quick, report_by, table_file, timed, Task, REPORT_BYTES};
+use calls::{check, check_plainly, horizon, quick, report_by, round, table_file, timed, Task, REPORT_BYTES};
 use events::{arrays, events, heaps};
 use samples::{crowded_tables, late_tables, long_round, tables, tiny_tables, worst_to_search};
 use searches::searches;
@@ -43,15 +43,16 @@ fn agreed(name: &str, tasks: &[Task], budget: u64) -> Walk {
     walk
 }
 
-// How many slots are timed: a late table stops one slot before its late deadline, so that no search is in the time.
+// How many slots are timed: a late table stops one slot before its late deadline, so that no search is in the time; any other one slot
+// before the proved walk may end, a round after the largest offset, so that all programs go equally far.
 fn slots_of(name: &str, tasks: &[Task]) -> u64 {
     let slots = match agreed(name, tasks, u64::MAX).end {
         End::Late(at) => at - 1,
-        End::Reached(at) => at,
+        End::Reached(at) => (at - round(tasks)).max(2) - 1,
     };
     if slots <= LONGEST_WALK {
         for budget in [1, 2, slots / 3, slots - 1, slots] {
-            agreed(name, tasks, budget);
+            agreed(name, tasks, budget.max(1));
         }
     }
     slots
@@ -65,7 +66,7 @@ struct Times {
     noise: f64,
 }
 
-// A check also makes the quick test's walk, which the Rust programs do not; the reading of the file goes out with it. Judging
+// A check also makes the quick test, which the Rust programs do not; the reading of the file goes out with it. Judging
 // the table and the report stay in the proved time.
 fn event_times(tasks: &[Task], slots: u64) -> Times {
     let file = table_file(tasks, slots);
@@ -161,7 +162,8 @@ struct Tiny {
 
 impl Tiny {
     fn of(name: &'static str, tasks: &[Task]) -> Tiny {
-        let slots = slots_of(name, tasks);
+        let slots = horizon(tasks);
+        agreed(name, tasks, slots);
         let file = table_file(tasks, slots);
         let (mut report, mut other) = ([0u8; REPORT_BYTES], [0u8; REPORT_BYTES]);
         let all = turn_about(&mut [

@@ -11,7 +11,7 @@ fn released(k: &Task, u: u64) -> bool {
     u >= k.offset as u64 && (u - k.offset as u64) % k.period as u64 == 0
 }
 
-// Each table with the most that its search may take, as a part of the walk. A check also makes the quick test's walk.
+// Each table with the most that its search may take, as a part of the walk. A check also makes the quick test.
 pub fn searches(check: Check, tables: Vec<(&str, Vec<Task>, f64)>) -> bool {
     let mut holds = true;
     println!("{:<34} {:>8} {:>10} {:>12} {:>10} {:>6} {:>7}", "search for the start, us", "slots", "releases", "walk", "search", "ratio", "noise %");

@@ -154,7 +154,7 @@ int judge_log(const struct request *request);
 int draw(const struct request *request);
 int page(const struct request *request);
 
-/* Around what may take long: so many checks by the table's budget, and so many walks to an idle instant. */
+/* Around what may take long: so many checks by the table's budget, and so many walks to an idle instant. The quick test is not foretold. */
 void begin_progress(const struct table *table, unsigned checks, unsigned walks, int plainly);
 void end_progress(void);
 

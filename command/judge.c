@@ -134,7 +134,7 @@ int judge(const struct request *request)
     if (status != DONE) {
         return status;
     }
-    begin_progress(&table, 1, request->plainly ? 0 : 1, request->plainly);
+    begin_progress(&table, 1, 0, request->plainly);
     check_table(&table, request->plainly, &report);
     end_progress();
     fputs(report.text, stdout);

@@ -180,7 +180,7 @@ int draw(const struct request *request)
     if (status != DONE) {
         return status;
     }
-    begin_progress(&table, 1, 1, 0);
+    begin_progress(&table, 1, 0, 0);
     check_table(&table, 0, &report);
     end_progress();
     take_verdict(&picture, &table, &report);

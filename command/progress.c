@@ -53,10 +53,10 @@ static double now(void)
 static const double longest_round = 1e12;
 
 /*
- * The quick test ends by then, and a walk with other offsets no later: what comes in at once, and what comes in while that is
- * done, and so on; or after a round.
+ * A walk to an idle instant ends by then, whatever the offsets: what comes in at once, and what comes in while that is done, and
+ * so on; or after a round.
  */
-static double quick_slots(const struct table *table, double round)
+static double walk_slots(const struct table *table, double round)
 {
     double costs = 0, load = 0;
     for (unsigned number = 0; number < task_count(table); number++) {
@@ -65,6 +65,24 @@ static double quick_slots(const struct table *table, double round)
         load += (double)task.cost / (double)task.period;
     }
     return load < 1 && costs / (1 - load) < round ? costs / (1 - load) : round;
+}
+
+static double largest_offset(const struct table *table)
+{
+    uint64_t largest = 0;
+    for (unsigned number = 0; number < task_count(table); number++) {
+        struct task task = task_at(table, number);
+        largest = task.offset > largest ? task.offset : largest;
+    }
+    return (double)largest;
+}
+
+/* A check by leaps ends with no job open a round after the largest offset; slot by slot it goes to the horizon. */
+static double check_slots(const struct table *table, double horizon, double round, int plainly)
+{
+    double end = plainly ? horizon : horizon - round + walk_slots(table, round);
+    double budget = (double)budget_of(table);
+    return budget < end ? budget : end;
 }
 
 /*
@@ -76,19 +94,22 @@ static void estimate(const struct table *table, unsigned checks, unsigned walks,
     struct table probe = *table;
     struct report report;
     outlook_length = (size_t)snprintf(outlook, sizeof outlook, " s");
+    if (checks + walks == 0) {
+        return;
+    }
     start_buttons(&probe);
     lighten(&probe);
-    if (quick_slots(&probe, longest_round) > PROBE_SLOTS) {
+    if (walk_slots(&probe, longest_round) > PROBE_SLOTS) {
         return;
     }
     replace_budget(&probe, PROBE_SLOTS);
     double began = now();
     check_table(&probe, plainly, &report);
     double took = now() - began;
-    uint64_t horizon = report_number(&report, "\nhorizon "), settled = report_number(&report, "\nsettled ");
-    uint64_t looked = budget_of(table) < horizon ? budget_of(table) : horizon;
-    double slots = checks * (double)looked + walks * quick_slots(table, (double)horizon / 2);
-    double expected = settled > 0 ? took * slots / (double)settled : 0;
+    double horizon = (double)report_number(&report, "\nhorizon "), settled = (double)report_number(&report, "\nsettled ");
+    double round = (horizon - largest_offset(&probe)) / 2;
+    double slots = checks * check_slots(table, horizon, round, plainly) + walks * walk_slots(table, round);
+    double expected = settled > 0 ? took * slots / settled : 0;
     outlook_length = (size_t)snprintf(outlook, sizeof outlook, " s; it may take about %.0f s", expected < 1 ? 1 : expected);
 }
 

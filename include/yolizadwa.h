@@ -190,8 +190,9 @@ uint64_t yolizadwa_to_text(const uint8_t *file, size_t file_len, uint8_t *text, 
  * A camera runs a table only if the report has the line `verdict passes`, which yolizadwa_passes tells; only then does
  * what is said of the worst responses hold.
  *
- * The time needed grows with the releases and finishes up to `settled`, which is at most the budget and at most 2,000,000,060,000,
- * and with the instants that the quick test looks at (see yolizadwa_quick), which the budget does not bound. No call can stop a check.
+ * The time needed grows with the releases and finishes up to `settled`, which is at most the budget and at most 2,000,000,060,000; for a
+ * table that passes, only with those up to about the largest offset and one round. It also grows with the instants that the quick test
+ * looks at (see yolizadwa_quick), which the budget does not bound. No call can stop a check.
  * The time of start and step does not depend on the budget. Measured (docs/PERFORMANCE.md): compiled for an Arm machine
  * (Neoverse V1), a release or finish took 3 to 12 ns, the search for a late table's interval at most three quarters of the time up
  * to its deadline, and a step 0.5 microseconds with 16 tasks and 0.8 with 32; two tasks with periods of 60,000 and 59,996 were
@@ -238,8 +239,8 @@ uint64_t yolizadwa_passes(const uint8_t *report, size_t length);
  * Pass: a check of the file, with any budget that reaches the horizon, says `verdict passes`. No answer says nothing about
  * that. The budget must stand in the file, 1 or more, and plays no other part.
  *
- * No slot is walked: what the jobs due by an instant ask for is one sum over the tasks, and mostly some ten instants are looked at; where
- * every deadline is the period, none. But with a load of 1, or very nearly so, and shorter deadlines they may be many, here and in a
+ * No slot is walked. What the jobs due by an instant ask for is one sum over the tasks. Mostly some ten instants are looked at, and none
+ * where every deadline is the period. But with a load of 1, or very nearly so, and shorter deadlines they may be many, here and in a
  * check whatever its budget: with a round of 450,838,288,810 slots and 14 tasks with periods from 70 to 1,582 they took 51 s, the longest
  * that was measured (docs/PERFORMANCE.md). No call can stop it.
  *
@@ -262,8 +263,9 @@ uint64_t yolizadwa_quick(const uint8_t *file, size_t file_len);
  * the slots with every job in time. That way is another one for other presses, and no call here gives out slots to buttons. No answer
  * says nothing, with one exception: of buttons alone it means that there are presses with which no way keeps every deadline.
  *
- * Where the quick test passes, nothing else is looked at. No budget bounds the slots looked at where it does not: there is a walk for each
- * task, mostly short, but with a load near 1 of up to a round, up to 32 times 1,000,000,000,000 slots in all. No call can stop it.
+ * The quick test comes first, and takes its time here too. Where it passes, nothing else is looked at. Where it does not, there is a walk
+ * for each task, mostly short, but with a load near 1 of up to a round, up to 32 times 1,000,000,000,000 slots in all. No budget bounds
+ * these, and no call can stop them.
  *
  * Refusals: 20 to 27; 1 and 3 to 7; not 11.
  */

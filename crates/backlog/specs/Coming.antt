@@ -10,8 +10,8 @@ use Rattle.model.specs.Limits.{taskLimit}
 use Rattle.model.specs.Notation.{bit, fill}
 use Rattle.model.specs.Tasks.{task}
 use Rattle.model.specs.Run.{tieOrder}
-use Rattle.model.specs.Dispatcher.{State, waitOf, leftOf, givenOf, slotCount, leftLate}
-use Rattle.model.specs.Presses.{waitCome, leftCome, ownerCome, afterCome}
+use Rattle.model.specs.Dispatcher.{State, waitOf, leftOf, givenOf, slotCount, leftLate, waitCome, leftCome}
+use Rattle.model.specs.Presses.{ownerCome, afterCome}
 use Rattle.counting.specs.Fill.{fill-eq}
 use Rattle.wellformed.specs.Ranges.{Ranged}
 use Rattle.backlog.specs.Choice.{Chosen, chosen-same}

@@ -12,8 +12,8 @@ use Rattle.model.specs.Notation.{bit}
 use Rattle.model.specs.Tasks.{task}
 use Rattle.model.specs.Demand.{Arrivals}
 use Rattle.model.specs.Run.{tieOrder}
-use Rattle.model.specs.Dispatcher.{State, waitOf, leftOf, startOf, isLate, leftLate}
-use Rattle.model.specs.Presses.{waitCome, leftCome, ownerCome, afterCome}
+use Rattle.model.specs.Dispatcher.{State, waitOf, leftOf, startOf, isLate, leftLate, waitCome, leftCome}
+use Rattle.model.specs.Presses.{ownerCome, afterCome}
 use Rattle.counting.specs.Count.{is-true, is-false}
 use Rattle.counting.specs.Below.{below, lt-below}
 use Rattle.wellformed.specs.Ranges.{Ranged}
@@ -36,7 +36,7 @@ module _ (t : Table) (done : ℕ → Bool) (a : Arrivals) where
   abbrev pub ownerFor : ℕ → ℕ
   ownerFor n = ownerCome t (stateFor n) (done n) (λ i. a i n)
 
-  -- The slots that are left of task i's job before slot n; those once jobs are closed and have come; what slot n gives it, 1 or 0.
+  -- The slots left of task i's job before slot n; those left after rules 1 to 3; what slot n gives it, 1 or 0.
   abbrev pub openFor : ℕ → ℕ → ℕ
   openFor n i = leftOf (stateFor n) i
 

@@ -15,7 +15,7 @@ use Rattle.model.specs.History.{ownerAtBy, saidDoneBy, hadBy, FinishedBy}
 use Rattle.counting.specs.Count.{tests, and-iff, count-more, count-none}
 use Rattle.backlog.specs.StepHistory.{gave}
 
--- Of the numbers that pass, those from `from` on: there is none before it, and then it is one by one.
+-- The count of the numbers from `from` on that pass: it is 0 up to `from`, and then grows one by one.
 module _ (p : ℕ → Bool) (from : ℕ) where
   abbrev since : ℕ → ℕ
   since m = count (λ n. leb from n && p n) m

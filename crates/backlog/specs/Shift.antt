@@ -81,7 +81,7 @@ module _ (S : System) (Y : Cycle S) where
   rel-later-le : (i t : ℕ) → i < size S → released J (t + Y .round) i ≤ released J t i + costOf S i * Y .times i
   rel-later-le i t l = omega (arith, mul-le-mul-left (costOf S i) (below-later-le (releaseOf S i) (J .rel-grows i l) (Y .times i) (Y .round) (release-later i l) t))
 
-  pub rel-later-from : (i t : ℕ) → i < size S → offsetOf S i ≤ t → released J (t + Y .round) i ≡ released J t i + costOf S i * Y .times i
+  rel-later-from : (i t : ℕ) → i < size S → offsetOf S i ≤ t → released J (t + Y .round) i ≡ released J t i + costOf S i * Y .times i
   rel-later-from i t l h = omega (arith, ap (λ (x : ℕ). costOf S i * x) (below-later (releaseOf S i) (J .rel-grows i l) (Y .times i) (Y .round) (release-later i l) t (omega arith)))
 
   rel-later : (i t : ℕ) → i < size S → (released J t i ≡ 0) ⊎ (released J (t + Y .round) i ≡ released J t i + costOf S i * Y .times i)

@@ -146,7 +146,7 @@ module _ (t : Table) where
     pub earliest-one : (earliest t rank wait left ≡ taskLimit) ⊎ (earliest t rank wait left < t .count)
     earliest-one = elim earliest-is [ inl c ↦ inl (c .none) | inr c ↦ inr (c .bound) ]
 
-  -- So it is in a step.
+  -- Rule 4 in a step of document 01.
   abbrev pub Picks : Order → State → Bool → Type 0
   Picks rank d done = Chosen (λ i. ltb 0 (leftReleased t d done i)) (dueIn d done) rank (t .count) (ownerNowBy t rank d done)
 

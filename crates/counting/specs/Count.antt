@@ -1,5 +1,5 @@
 -- Laws of tests and of counts.
-use mathlib.Core.Path.{_≡_, refl}
+use mathlib.Core.Path.{_≡_, refl, sym}
 use mathlib.Core.Logic.{_⊎_, inl, inr, _↔_}
 use mathlib.Core.Bool.{Bool, true, false, not, _&&_, _||_, or-true}
 use Prim.Native.Nat.{ℕ, zero, suc, _+_, _-_, min, _≤_, _<_, zero-le}
@@ -150,3 +150,16 @@ every-iff p n = (λ h. all n (omega tests), λ h. eq→eqb _ _ (count-all p n h)
         at : (b : Bool) → p m ≡ b → (count p m ≡ m → (k : ℕ) → k < m → T (p k)) → T (p k)
         at true q ih = elim (ℕ-discrete k m) [ yes x ↦ rw (x, q) tt | no x ↦ ih (omega (arith, bit-yes (p m) (rw q tt))) k (omega arith) ]
         at false q ih = absurd (omega (arith, bit-no (p m) (rw q (λ x. x)), count-bound p m))
+
+-- A search that finds one that fails, or none; and one that finds one that passes, or none.
+pub all-pass : (p : ℕ → Bool) (n : ℕ) → ((i : ℕ) → i < n → T (p i)) → true ≡ every p n
+all-pass p n h = sym (is-true (every p n) (every-iff p n .1 h))
+
+pub one-fails : (p : ℕ → Bool) (n i : ℕ) → i < n → (T (p i) → ⊥) → false ≡ every p n
+one-fails p n i l h = sym (is-false (every p n) (λ x. h (every-iff p n .0 x i l)))
+
+pub one-passes : (p : ℕ → Bool) (n i : ℕ) → i < n → T (p i) → true ≡ some p n
+one-passes p n i l h = sym (is-true (some p n) (some-iff p n .1 (i, l, h)))
+
+pub none-passes : (p : ℕ → Bool) (n : ℕ) → ((i : ℕ) → i < n → T (p i) → ⊥) → false ≡ some p n
+none-passes p n h = sym (is-false (some p n) (λ x. let (i, l, y) = some-iff p n .0 x in h i l y))

@@ -15,7 +15,7 @@ abbrev pub steppedOf : Stepped → SteppedState
 steppedOf r = record { answer = r .answer; state = stateOf (r .next) }
 
 -- Two values that are the same in the model are the same.
-back : State → Dispatcher
+unfoldable pub back : State → Dispatcher
 back s = record { wait = s .wait; left = s .left; last = s .last; given = s .given; empty = s .empty }
 
 pub one-started : (a b : Started) → startedOf a ≡ startedOf b → a ≡ b

@@ -316,13 +316,19 @@ pub fn count_empty(empty: u64, owner: u32) -> u64
 }
 
 // A done report closes the open job of the task that ran last.
+pub fn hear_report(left: &mut Numbers, last: u32, done: bool)
+    ensures { λ _. ⌜ now (left .exit) ≡ cond done (closed (now (left .entry)) last) (now (left .entry)) ⌝ }
+{
+    if done {
+        slots::close(left, last);
+    }
+}
+
 pub fn after_report(left: Numbers, last: u32, done: bool) -> Numbers
     ensures { λ r. ⌜ r ≡ cond done (closed left last) left ⌝ }
 {
     let mut open = left;
-    if done {
-        slots::close(&mut open, last);
-    }
+    hear_report(&mut open, last, done);
     open
 }
 

@@ -3,17 +3,16 @@ use mathlib.Core.Path.{_≡_, sym}
 use mathlib.Core.Bool.{Bool, true, false, not}
 use Prim.Native.Nat.{ℕ, _≤_, _<_}
 use native.Mathlib.Omega.{arith}
-use lib.Dec.{T}
 use lib.ListN.{replicate}
 use Rattle.values.specs.declared.Task.{Task}
 use Rattle.values.specs.declared.Table.{Table}
 use Rattle.values.specs.declared.Measure.{Measure}
 use Rattle.values.specs.declared.Judgement.{Judgement}
 use Rattle.model.specs.Limits.{taskLimit, roundLimit}
-use Rattle.model.specs.Notation.{some, every}
+use Rattle.model.specs.Notation.{some}
 use Rattle.model.specs.Tasks.{task, isButton, round, load, judgedMixed}
 use Rattle.model.specs.Patterns.{startingAt, light, quickPass, commonDivisor, distance, pattern, calmPatterns, distancePass}
-use Rattle.counting.specs.Count.{tests, is-true, is-false, and-iff, some-iff, every-iff}
+use Rattle.counting.specs.Count.{tests, is-true, is-false, and-iff}
 use Rattle.counting.specs.Divisors.{gcd-pos}
 use Rattle.wellformed.specs.Ranges.{Ranged}
 use Rattle.wellformed.specs.WellFormed.{WellFormed, well-mixed}
@@ -29,20 +28,6 @@ use Rattle.calm.specs.Fit.{starting-fits}
 -- The common divisor of two periods is above 0.
 pub divisor-pos : (one other : Task) → 0 < one .period → 0 < other .period → 0 < commonDivisor (one .period) (other .period)
 divisor-pos one other p q = gcd-pos (divisor-is (one .period) (other .period) p) q
-
--- A test that all below n pass, or that one does not.
-pub all-pass : (p : ℕ → Bool) (n : ℕ) → ((i : ℕ) → i < n → T (p i)) → true ≡ every p n
-all-pass p n h = sym (is-true (every p n) (every-iff p n .1 h))
-
-pub one-fails : (p : ℕ → Bool) (n i : ℕ) → i < n → (T (p i) → ⊥) → false ≡ every p n
-one-fails p n i l h = sym (is-false (every p n) (λ x. h (every-iff p n .0 x i l)))
-
--- A test that one below n passes, or that none does.
-pub one-passes : (p : ℕ → Bool) (n i : ℕ) → i < n → T (p i) → true ≡ some p n
-one-passes p n i l h = sym (is-true (some p n) (some-iff p n .1 (i, l, h)))
-
-pub none-passes : (p : ℕ → Bool) (n : ℕ) → ((i : ℕ) → i < n → T (p i) → ⊥) → false ≡ some p n
-none-passes p n h = sym (is-false (some p n) (λ x. let (i, l, y) = some-iff p n .0 x in h i l y))
 
 module _ (t : Table) {m : Measure} (well : judgedMixed t ≡ Judgement.WellFormed m) where
   abbrev facts : WellFormed t m

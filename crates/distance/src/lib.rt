@@ -128,7 +128,7 @@ fn some_periodic(t: Table) -> bool
     false
 }
 
-// A quick pass is a pass of every pattern, and no walk is needed. Of buttons alone the quick test decides: its pattern is the one.
+// A quick pass is a pass of every pattern, so no pattern is walked. Buttons alone have one pattern, the quick test's.
 fn all_calm(t: Table, m: Measure) -> bool
     requires { ⌜ judgedMixed t ≡ Judgement.WellFormed m ⌝ }
     requires { ⌜ m .load ≤ m .round ⌝ }

@@ -1,4 +1,4 @@
--- A ROUND IS ENOUGH (`skipped`): where a walk stops with no job open it has been idle, and a round after the last first release what it has noted stays to its end.
+-- A ROUND IS ENOUGH (`skipped`): a walk that stops with no job open has been idle; a round after the last first release it has seen all that follows.
 use mathlib.Core.Path.{_≡_, refl, sym, ap, subst, _∙_}
 use mathlib.Core.Logic.{_⊎_, inl, inr}
 use mathlib.Core.List.{List}
@@ -34,11 +34,11 @@ use Rattle.leaps.specs.declared.Landed.{Landed}
 abbrev pub Rounded : Table → ℕ → Type 0
 Rounded t again = (i : ℕ) → i < t .count → offset (task t i) + round t ≤ again
 
--- A walk goes on only where it is not over; it stops where it is, or with no job open late enough.
+-- A walk that goes on is not over. One that stops is over, or has no job open at `again` or later.
 abbrev pub Stops : ℕ → Landed → Bool → Type 0
 Stops again x stopped = (stopped ≡ false → x .over ≡ false) × (stopped ≡ true → (x .over ≡ true) ⊎ ((x .jobs ≡ 0) × (again ≤ x .time)))
 
--- Where it stopped it was over, or was to be idle; or it is taken to its end.
+-- A walk that is over, or was asked for an idle instant, stays where it stopped; any other is taken to its end.
 abbrev pub Skips : ℕ → Bool → Landed → Landed → Type 0
 Skips end idling x y = ((x .over ≡ true) × (y ≡ x)) ⊎ ((x .over ≡ false) × (((idling ≡ true) × (y ≡ x)) ⊎ ((idling ≡ false) × (y ≡ overAt end 0 (x .idle) false))))
 
@@ -57,7 +57,7 @@ module _ (t : Table) (r : Ranged t) (light : load t ≤ round t) {n end : ℕ} {
         let soon : first ≤ x .time = least-le (λ (v : ℕ). (0 < v) × T (idleAt t (tieOrder t) v)) first (x .time) (first-idle t r (tieOrder t) light .0) (omega (arith, z .goes on .0), idle) in
         omega (arith, z .tally .idles, idle-is t (x .time) soon, first-idle t r (tieOrder t) light .0 .0 .0)
 
-    module _ {again : ℕ} (rounded : Rounded t again) (late : again ≤ x .time) where
+    module _ {again : ℕ} (rounded : Rounded t again) (past : again ≤ x .time) where
       -- A round before, every task had had its first release.
       abbrev before : ℕ
       before = x .time - round t
@@ -95,12 +95,12 @@ module _ (t : Table) (r : Ranged t) (light : load t ≤ round t) {n end : ℕ} {
     idle-ended on none asked = record { upto = z .upto; clear = z .clear; tally = z .tally; late = z .late; ends = λ g. inr (asked, idle-found on none) }
 
     skip-ended : x .over ≡ false → x .jobs ≡ 0 → again ≤ x .time → idling ≡ false → Ended t end idling (overAt end 0 (x .idle) false) worst
-    skip-ended on none late asked =
-        let never = clear on none (rounded asked) late in
-        record { upto = le-refl end; clear = never end; tally = tally on none (rounded asked) late; late = λ g. absurd (subst T (sym g) tt); ends = λ g. inl (refl, never (suc end)) }
+    skip-ended on none past asked =
+        let never = clear on none (rounded asked) past in
+        record { upto = le-refl end; clear = never end; tally = tally on none (rounded asked) past; late = λ g. absurd (subst T (sym g) tt); ends = λ g. inl (refl, never (suc end)) }
 
     pub skipped : (x .over ≡ true) ⊎ ((x .jobs ≡ 0) × (again ≤ x .time)) → {y : Landed} → Skips end idling x y → Ended t end idling y worst
     skipped stopped (inl (over, e)) = rw e (over-ended over)
     skipped (inl over) (inr (on, s)) = absurd (subst T (sym over ∙ on) tt)
-    skipped (inr (none, late)) (inr (on, inl (asked, e))) = rw e (idle-ended on none asked)
-    skipped (inr (none, late)) (inr (on, inr (asked, e))) = rw e (skip-ended on none late asked)
+    skipped (inr (none, past)) (inr (on, inl (asked, e))) = rw e (idle-ended on none asked)
+    skipped (inr (none, past)) (inr (on, inr (asked, e))) = rw e (skip-ended on none past asked)

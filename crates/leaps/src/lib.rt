@@ -384,7 +384,7 @@ fn leap(
     )
 }
 
-// A walk stops where it is over, and with no job open at `again` or later.
+// A walk stops where it is over, or where no job is open at `again` or later.
 fn stops(here: Landed, again: u64) -> bool
     ensures { λ r. ⌜ Stops again here r ⌝ }
 {
@@ -400,7 +400,7 @@ fn stops(here: Landed, again: u64) -> bool
     true
 }
 
-// Where a walk stopped that was not to end there, what follows has been seen: it is over at its end.
+// A walk that has seen all that follows is over at its end; one that was asked for an idle instant stays where it is.
 fn skip(here: Landed, end: u64, idling: bool) -> Landed
     ensures { λ r. ⌜ Skips end idling here r ⌝ }
 {
@@ -419,8 +419,7 @@ pub struct Reached {
     pub worst: Numbers,
 }
 
-// From event to event, to the end or to the first late deadline. It stops with no job open at `again` or later: there one that is to
-// be idle ends, and for any other a round has gone by since the last first release, so that what follows has been seen.
+// From event to event, to the end or the first late deadline; with no job open at `again` or later it has seen all that it needs.
 pub fn walk(t: Table, end: u64, again: u64, idling: bool) -> Reached
     requires { ⌜ Ranged t ⌝ }
     requires { ⌜ load t ≤ round t ⌝ }

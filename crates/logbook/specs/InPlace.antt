@@ -1,18 +1,14 @@
 -- A slot in place: its lists are changed before it is known whether its owner is the one that was written.
-use mathlib.Core.Path.{_≡_, refl, sym, ap, _∙_}
+use mathlib.Core.Path.{_≡_, refl, sym, _∙_}
 use mathlib.Core.List.{List}
-use mathlib.Core.Bool.{Bool, true, false, cond, not}
+use mathlib.Core.Bool.{Bool, false, cond}
 use Prim.Native.Nat.{ℕ, _≤_, _<_}
 use native.Mathlib.Omega.{arith}
-use borrow.Author.Tests.{ltb-true}
-use lib.Dec.{ltb}
 use Rattle.values.specs.declared.Table.{Table}
-use Rattle.values.specs.declared.Finding.{Finding}
 use Rattle.model.specs.Limits.{taskLimit}
 use Rattle.model.specs.Notation.{bits}
 use Rattle.model.specs.Dispatcher.{State, isLate}
 use Rattle.model.specs.Log.{Log}
-use Rattle.model.specs.LogMeaning.{Final}
 use Rattle.counting.specs.Count.{is-false}
 use Rattle.counting.specs.Fill.{fill-eq, fill-same}
 use Rattle.slots.specs.declared.Seen.{Seen}
@@ -22,32 +18,6 @@ use Rattle.counting.specs.Bits.{in-bits}
 use Rattle.dispatch.specs.declared.Moved.{Moved}
 use Rattle.dispatch.specs.Step.{Unpacked, Unrefused, Whole, Advanced, advanced-is}
 use Rattle.logbook.specs.Bytes.{Readable}
-
--- Nothing is found yet, and a byte is left.
-abbrev pub goesOn : Finding → ℕ → ℕ → Bool
-goesOn Finding.Nothing at to = ltb at to
-goesOn Finding.Good at to = false
-goesOn (Finding.Differs slot) at to = false
-goesOn (Finding.Fault n p) at to = false
-
-pub goes-on : (f : Finding) (at to : ℕ) → goesOn f at to ≡ true → at < to
-goes-on Finding.Nothing at to e = ltb-true at to e
-goes-on Finding.Good at to e = let z : _≡_ {A = ℕ} 0 1 = cc in absurd (omega arith)
-goes-on (Finding.Differs slot) at to e = let z : _≡_ {A = ℕ} 0 1 = cc in absurd (omega arith)
-goes-on (Finding.Fault n p) at to e = let z : _≡_ {A = ℕ} 0 1 = cc in absurd (omega arith)
-
--- The test of what is final.
-abbrev pub isFinal : Finding → Bool
-isFinal Finding.Nothing = false
-isFinal Finding.Good = false
-isFinal (Finding.Differs slot) = true
-isFinal (Finding.Fault n p) = true
-
-pub is-final : (f : Finding) → isFinal f ≡ true → Final f
-is-final Finding.Nothing e = let z : _≡_ {A = ℕ} 0 1 = cc in absurd (omega arith)
-is-final Finding.Good e = let z : _≡_ {A = ℕ} 0 1 = cc in absurd (omega arith)
-is-final (Finding.Differs slot) e = tt
-is-final (Finding.Fault n p) e = tt
 
 -- The step's lists, owner and late set.
 abbrev pub movedTo : Table → State → Bool → List ℕ → List ℕ → ℕ → Moved
@@ -71,12 +41,3 @@ moved-if t d done unrefused whole {slack = slack} {n = n} u {left} a s calm =
 -- The lists of a log that may be read are whole.
 pub whole : {t : Table} {l : Log} → Readable t l → Whole (l .state)
 whole r = record { waits = r .fits .belongs .waits; lefts = r .fits .belongs .lefts }
-
--- A slot that is met had no late job, and its record is the owner's.
-pub met : (late due : Bool) {same : Bool} → same ≡ cond late false due → not same ≡ false → (late ≡ false) × (due ≡ true)
-met late due e q = go late due (ap not (sym e) ∙ q)
-  where
-    go : (late due : Bool) → not (cond late false due) ≡ false → (late ≡ false) × (due ≡ true)
-    go true due x = let z : _≡_ {A = ℕ} 0 1 = cc in absurd (omega arith)
-    go false true x = (refl, refl)
-    go false false x = let z : _≡_ {A = ℕ} 0 1 = cc in absurd (omega arith)

@@ -8,12 +8,11 @@ ghost use Rattle.values.specs.declared.Admission.{Admission};
 ghost use Rattle.values.specs.declared.Finding.{Finding};
 ghost use Rattle.model.specs.Limits.{taskLimit, logLimit};
 ghost use Rattle.model.specs.Log.{Log as LogState, logStarted, fed, logFinished, logAdmitted, atEnd, readAll};
-ghost use Rattle.slots.specs.Slot.{closed};
+ghost use Rattle.model.specs.LogMeaning.{Final};
 ghost use Rattle.dispatch.specs.State.{stateOf};
 ghost use Rattle.dispatch.specs.Step.{Unpacked, stateWith};
 ghost use Rattle.logbook.specs.State.{joined, logStateOf, fedOf};
 ghost use Rattle.logbook.specs.Bytes.{Readable, ReadTo, endsSlot, isDue, slotOn, stoppedAt, passedOn, doneHeard, kindHeard, otherRead, logBelonging};
-ghost use Rattle.logbook.specs.InPlace.{goesOn, isFinal};
 use dispatch::Counts;
 use dispatch::Dispatcher;
 use dispatch::Room;
@@ -29,7 +28,7 @@ use values::Refusal;
 use values::SLOT_COUNT_LIMIT;
 use values::Table;
 
-// So many bytes at a time: a block that has to be read twice is no longer.
+// A block whose lists are spoilt is read twice, so it is short.
 const BLOCK: usize = 256;
 
 // The place of 8 for a log whose counts are wrong.
@@ -198,7 +197,7 @@ fn read_all(log: Log, t: Table, piece: &[u8]) -> Log
     read_blocks(log, &period, &cost, &slack, &rank, t.count, piece)
 }
 
-// A block is read in place for as long as that goes, and then byte by byte; behind a fault or a difference nothing is read.
+// Each block is read in place, and on copies from where that stops; a fault or a difference is final.
 fn read_blocks(
     log: Log,
     period: &Numbers,
@@ -239,7 +238,7 @@ fn block_end(at: usize, len: usize) -> usize
 
 // A fault or a difference: no byte changes it.
 fn is_final(reading: Reading) -> bool
-    ensures { λ r. ⌜ r ≡ isFinal (reading .found) ⌝ }
+    ensures { λ r. ⌜ (r ≡ true → Final (reading .found)) ⌝ }
 {
     let found = reading.found;
     match found {
@@ -259,7 +258,7 @@ struct Run {
     log: Log,
 }
 
-// The lists step in place, up to the first finding. A slot that differs or has a late job spoils them: then nothing is read.
+// The lists step in place up to the first finding. A slot that differs or has a late job spoils them, so the block counts as unread.
 fn read_in_place(
     log: Log,
     period: &Numbers,
@@ -287,7 +286,7 @@ fn read_in_place(
     while goes_on(read, at, to) {
         let byte = piece[at];
         if ends_slot(read, byte) {
-            hear_report(&mut left, last, read.done);
+            dispatch::hear_report(&mut left, last, read.done);
             let seen = slots::serve(&mut wait, &mut left, period, cost, slack, rank, n);
             if !is_met(seen, read.opened, byte, n) {
                 return Run { at: from, log };
@@ -309,7 +308,7 @@ fn read_in_place(
 
 // Nothing is found yet, and a byte is left.
 fn goes_on(reading: Reading, at: usize, to: usize) -> bool
-    ensures { λ r. ⌜ r ≡ goesOn (reading .found) at to ⌝ }
+    ensures { λ r. ⌜ (r ≡ true → at < to) ⌝ }
 {
     let found = reading.found;
     match found {
@@ -323,18 +322,9 @@ fn goes_on(reading: Reading, at: usize, to: usize) -> bool
     }
 }
 
-// A done report closes the open job of the task that ran last.
-fn hear_report(left: &mut Numbers, last: u32, done: bool)
-    ensures { λ _. ⌜ now (left .exit) ≡ cond done (closed (now (left .entry)) last) (now (left .entry)) ⌝ }
-{
-    if done {
-        slots::close(left, last);
-    }
-}
-
 // No job was late, and the record is that of the owner.
 fn is_met(seen: Seen, opened: bool, byte: u8, n: usize) -> bool
-    ensures { λ r. ⌜ r ≡ cond (seen .late) false (isDue opened byte n (seen .owner)) ⌝ }
+    ensures { λ r. ⌜ (r ≡ true → (seen .late ≡ false) × (isDue opened byte n (seen .owner) ≡ true)) ⌝ }
 {
     if seen.late {
         return false;
@@ -342,7 +332,7 @@ fn is_met(seen: Seen, opened: bool, byte: u8, n: usize) -> bool
     is_due(opened, byte, n, seen.owner)
 }
 
-// Any byte: the dispatcher's lists are changed only where the slot is its own.
+// Reads on copies of the lists, so that a slot that differs leaves them as they were.
 fn read_bytes(
     log: Log,
     period: &Numbers,

@@ -17,7 +17,7 @@ use Rattle.model.specs.Patterns.{startingAt, light, calm, quickAnswer, c
 use Rattle.model.specs.Patterns.{calmPatterns, distancePass, distanceAnswer}
 use Rattle.model.specs.TableFile.{tableOf, bytesOf, taskRecords, fileOf, readFrom, formOf, fileRead, periodicFrom}
 use Rattle.model.specs.Dispatcher.{State, slotCount, firstStrange, startOf, admitted, started, stepped, steppedBy}
-use Rattle.model.specs.Presses.{Pressed, startedMixed, admittedMixed, notTaken, ownerCome, afterCome, steppedPressed}
+use Rattle.model.specs.Presses.{Pressed, startedMixed, admittedMixed, notTaken, comes, ownerCome, afterCome, steppedPressed}
 use Rattle.model.specs.Writer.{tableIn, firstStranger}
 use Rattle.model.specs.PlainText.{split, filled, allDigits, valueAfter, numbersFault, same, budgetLine, taskLine}
 use Rattle.model.specs.PlainText.{lineOf, readLines, textForm, textRead, taskTexts, textOf}
@@ -208,3 +208,22 @@ press-refused :
 unfolding steppedPressed admittedMixed slotCount firstStrange
     judgedMixed firstFaulty taskFault first round load horizon largest sum count
 press-refused = (refl, refl)
+
+-- Ties go as in the run, by the clock or by a press: the shorter period or spacing, then the lower number.
+press-ties :
+    map (λ t. ownerCome t (startOf t) false (comes t (startOf t) 3)) (
+    tableOf (of 0 1 4 8 ∷ button 1 4 4 ∷ []) ∷ tableOf (of 0 1 4 4 ∷ button 1 4 8 ∷ [])
+    ∷ tableOf (button 1 4 8 ∷ of 0 1 4 8 ∷ []) ∷ []
+    )
+    ≡ 1 ∷ 0 ∷ 0 ∷ []
+unfolding startOf ownerCome choose fill
+press-ties = refl
+
+-- A button's job at its deadline is closed as late, and then a press of it is taken, in one step.
+press-at-deadline :
+    let t = tableOf (button 2 3 3 ∷ []) in
+    map (λ pressed. steppedPressed t (uncounted (padded 0 []) (padded 0 (1 ∷ [])) taskLimit) false pressed .answer) (0 ∷ 1 ∷ [])
+    ≡ map (λ owner. SlotAnswer.Slot (record { owner = owner; late = 1; closed = 1; lowest = 0 })) (taskLimit ∷ 0 ∷ [])
+unfolding steppedPressed admittedMixed slotCount firstStrange ownerCome choose
+    judgedMixed firstFaulty taskFault first round load horizon largest sum count bits
+press-at-deadline = refl

@@ -111,12 +111,19 @@ module _ (t : Table) (d : State) (done : Bool) where
   abbrev pub leftLate : ℕ → ℕ
   leftLate i = cond (isLate i) 0 (leftDone i)
 
-  -- Rule 3: a task whose wait is 0 has a job released, with C slots, and its wait becomes T.
+  -- Rule 3: a task of which a job comes has C slots left, and its wait becomes T.
+  abbrev pub waitCome : (ℕ → Bool) → ℕ → ℕ
+  waitCome come i = cond (come i) (task t i .period) (waitOf d i)
+
+  abbrev pub leftCome : (ℕ → Bool) → ℕ → ℕ
+  leftCome come i = cond (come i) (task t i .cost) (leftLate i)
+
+  -- A job is released of a task whose wait is 0.
   abbrev pub waitReleased : ℕ → ℕ
-  waitReleased i = cond (eqb (waitOf d i) 0) (task t i .period) (waitOf d i)
+  waitReleased = waitCome (λ i. eqb (waitOf d i) 0)
 
   abbrev pub leftReleased : ℕ → ℕ
-  leftReleased i = cond (eqb (waitOf d i) 0) (task t i .cost) (leftLate i)
+  leftReleased = leftCome (λ i. eqb (waitOf d i) 0)
 
 -- Rule 4, from the waits and the slots left that rule 3 leaves, in any order of the tasks: the open job with the
 -- earliest deadline gets the slot, the one with the fewest slots to its deadline; ties go by the order, as in the run.
@@ -146,6 +153,7 @@ slotTold t d done owner =
       lowest = first (isLate t d done) 0 taskLimit;
     }
 
+-- A step of document 01: rule 4 after its rule 3.
 module _ (t : Table) (rank : Order) (d : State) (done : Bool) where
   unfoldable pub ownerNowBy : ℕ
   ownerNowBy = earliest t rank (waitReleased t d done) (leftReleased t d done)

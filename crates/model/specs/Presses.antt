@@ -1,6 +1,6 @@
--- The dispatcher of tables with buttons (T-13): a button's job comes when it is pressed. Its state, its start, the places
--- of 8 and rules 1, 2 and 4 are those of document 01's dispatcher, which refuses such tables; a button's wait is the
--- slots until it may be pressed again.
+-- The dispatcher of tables with buttons (ours, for T-13's tables): a button's job comes when it is pressed. Its state,
+-- its start, the places of 8 and rules 1, 2 and 4 are those of document 01's dispatcher, which refuses such tables; a
+-- button's wait is the slots until it may be pressed again.
 use Rattle.model.specs.Notation.{_≡_, _⊎_, Bool, cond, not, _&&_, ℕ, zero, suc, _+_, min, _≤_, _<_}
 use Rattle.model.specs.Notation.{T, leb, ltb, eqb, bits, inSet, count}
 use Rattle.model.specs.Values.{Table, Refusal, Admission, Turn, SlotAnswer, refusal}
@@ -8,8 +8,8 @@ use Rattle.model.specs.Limits.{taskLimit, slotCountLimit}
 use Rattle.model.specs.Tasks.{task, isButton, judgedMixed}
 use Rattle.model.specs.Demand.{Arrivals}
 use Rattle.model.specs.Run.{tieOrder}
-use Rattle.model.specs.Dispatcher.{State, Started, waitOf, slotCount, admittedBy, startOf, startJudged, leftLate}
-use Rattle.model.specs.Dispatcher.{earliest, slotGiven, slotTold}
+use Rattle.model.specs.Dispatcher.{State, Started, waitOf, slotCount, admittedBy, startOf, startJudged}
+use Rattle.model.specs.Dispatcher.{waitCome, leftCome, earliest, slotGiven, slotTold}
 
 -- A start on any table of both sorts; a button may be pressed at once. When a state belongs to such a table.
 unfoldable pub startedMixed : Table → Started
@@ -24,6 +24,7 @@ module _ (t : Table) (d : State) (pressed : ℕ) where
   takes i = inSet pressed i && (ltb i (t .count) && (isButton (task t i) && eqb (waitOf d i) 0))
 
   -- Those that are not: too early, of a task that is no button, or of no task.
+  -- Bits from `taskLimit` on are neither taken nor told.
   unfoldable pub notTaken : ℕ
   notTaken = bits (λ i. inSet pressed i && not (takes i)) taskLimit
 
@@ -32,19 +33,12 @@ module _ (t : Table) (d : State) (pressed : ℕ) where
   comes i = cond (isButton (task t i)) (takes i) (eqb (waitOf d i) 0)
 
 module _ (t : Table) (d : State) (done : Bool) (come : ℕ → Bool) where
-  -- Rule 3: a task of which a job comes has C slots, and its wait becomes T, which is a button's spacing.
-  abbrev pub waitCome : ℕ → ℕ
-  waitCome i = cond (come i) (task t i .period) (waitOf d i)
-
-  abbrev pub leftCome : ℕ → ℕ
-  leftCome i = cond (come i) (task t i .cost) (leftLate t d done i)
-
-  -- Rule 4. A wait of 0 stays 0.
+  -- Rule 4 after rule 3. A wait of 0 stays 0.
   unfoldable pub ownerCome : ℕ
-  ownerCome = earliest t (tieOrder t) waitCome leftCome
+  ownerCome = earliest t (tieOrder t) (waitCome t d done come) (leftCome t d done come)
 
   unfoldable pub afterCome : State
-  afterCome = slotGiven t d waitCome leftCome ownerCome
+  afterCome = slotGiven t d (waitCome t d done come) (leftCome t d done come) ownerCome
 
 -- The answer of a step, the presses that it did not take, and the successor.
 pub record Pressed : Type 0 where
@@ -98,7 +92,7 @@ module _ (t : Table) (done : ℕ → Bool) (pressed : ℕ → ℕ) where
   unfoldable pub hadUnder : ℕ → ℕ → ℕ → ℕ
   hadUnder i from to = count (λ n. leb from n && eqb (ownerUnder n) i) to
 
-  -- The job of task i that arrived at u is finished by n: by n, and before another can come,
+  -- The job of task i that arrived at u is finished by n: by n, and by u + T, when another may come,
   -- it had its whole cost, or was reported done.
   abbrev pub FinishedUnder : ℕ → ℕ → ℕ → Type 0
   FinishedUnder i u n =

@@ -1,4 +1,4 @@
--- ASKED BY AN INSTANT (`quick-asked`): a table passes quickly exactly if its load is at most 1 and, with all tasks started at 0, the jobs due by any instant ask for no more slots than there are before it.
+-- ASKED BY AN INSTANT (`quick-asked`): a table passes quickly exactly if its load is at most 1 and, with all offsets 0, the jobs due by any instant u ask for at most u slots.
 use mathlib.Core.Path.{_≡_, refl, _∙_}
 use mathlib.Core.Logic.{_↔_}
 use Prim.Native.Nat.{ℕ, _+_, _-_, _*_, _/_, _≤_, _<_}
@@ -85,7 +85,10 @@ module _ (t : Table) (r : Ranged t) where
     where
       never : T (quickPass t) → (u : ℕ) → asked t u ≤ u
       never h u = elim (decLt u (asked t u)) [
-        | yes p ↦ absurd (feasible-iff (simultaneous t) (simultaneous-ranged t r) .0 (quick-iff t r .0 h) 0 u (too-much-iff (simultaneous t) 0 u .1 (elim (decLt 0 u) [ yes q ↦ q | no q ↦ (let e : u ≡ 0 = omega arith in absurd (omega (arith, asked-none, rw e at p))) ], omega (arith, demand-all u))))
+        | yes p ↦
+            let some : 0 < u = elim (decLt 0 u) [ yes q ↦ q | no q ↦ (let e : u ≡ 0 = omega arith in absurd (omega (arith, asked-none, rw e at p))) ] in
+            let feasible = feasible-iff (simultaneous t) (simultaneous-ranged t r) .0 (quick-iff t r .0 h) in
+            absurd (feasible 0 u (too-much-iff (simultaneous t) 0 u .1 (some, omega (arith, demand-all u))))
         | no p ↦ omega arith
       ]
 

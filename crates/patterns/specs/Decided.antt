@@ -1,4 +1,4 @@
--- DECIDED UP TO A BOUND (`quick-decided`): where no instant beyond a bound and up to H asks for too much, those up to the bound decide the quick test.
+-- DECIDED UP TO A BOUND (`quick-decided`): if all instants beyond a bound and up to H have enough, those up to the bound decide the quick test.
 use mathlib.Core.Path.{_≡_, refl, _∙_}
 use mathlib.Core.Bool.{Bool}
 use Prim.Native.Nat.{ℕ, zero, suc, _+_, _-_, _*_, _/_, _≤_, _<_}
@@ -20,9 +20,12 @@ use Rattle.patterns.specs.Asked.{dueBy, askedOf, asked, asked-none, quic
 abbrev pub enough : Table → ℕ → Bool
 enough t u = leb (asked t u) u
 
--- No instant beyond the bound and up to H asks for too much.
+-- Every instant beyond `low` and up to `high` has enough; and so has every one beyond the bound and up to H.
+abbrev pub EnoughBetween : Table → ℕ → ℕ → Type 0
+EnoughBetween t low high = (u : ℕ) → low < u → u ≤ high → asked t u ≤ u
+
 abbrev pub EnoughBeyond : Table → ℕ → Type 0
-EnoughBeyond t bound = (u : ℕ) → bound < u → u ≤ round t → asked t u ≤ u
+EnoughBeyond t bound = EnoughBetween t bound (round t)
 
 module _ (t : Table) (r : Ranged t) where
   -- A round later the jobs of one round more are due.

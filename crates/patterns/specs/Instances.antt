@@ -18,13 +18,12 @@ use Rattle.model.specs.Schedule.{Schedule, Good}
 use Rattle.model.specs.Arrivals.{Respects, GoodFor}
 use Rattle.model.specs.Run.{Order, tieOrder, choose, ownerOf, served}
 use Rattle.model.specs.Verdict.{verdict}
-use Rattle.model.specs.Dispatcher.{leftOf}
+use Rattle.model.specs.Dispatcher.{leftOf, startOf}
 use Rattle.model.specs.Idle.{idleAt, firstIdle, missedAt}
 use Rattle.model.specs.Patterns.{startingAt, light, calmBy, calm, simultaneous, quickPass, commonDivisor, distance, pattern, distancePass}
 use Rattle.model.specs.TableFile.{tableOf}
 use Rattle.model.specs.Examples.{of, table-b, table-d, table-g}
 use Rattle.model.specs.ButtonExamples.{button, table-shutter}
-use Rattle.model.specs.Dispatcher.{startOf}
 use Rattle.model.specs.Presses.{ownerCome, afterCome, stateUnder, arrivals, ownerUnder, FinishedUnder}
 use Rattle.counting.specs.Count.{is-true, every-iff}
 use Rattle.wellformed.specs.Ranges.{Ranged}

@@ -1,4 +1,4 @@
--- NEVER LATE (`clear-ever`): where a walk has no slot left a round after some time from the start of a cycle on, and no deadline before is late, none ever is.
+-- NEVER LATE (`clear-ever`): a walk that rests so, with no deadline late before, has none late ever.
 use mathlib.Core.Path.{_≡_, sym, subst}
 use Prim.Native.Nat.{ℕ, zero, suc, _+_, _-_, _≤_}
 use native.Mathlib.Decide.{decLt}

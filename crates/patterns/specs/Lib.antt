@@ -9,7 +9,6 @@ pub mod WalkIdle
 pub mod Missed
 -- One round of a walk from an idle instant on is all of it.
 pub mod IdleBefore
-pub mod ServedLater
 pub mod RoundAgain
 pub mod LateAgain
 pub mod WorstAgain

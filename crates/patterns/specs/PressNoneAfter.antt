@@ -10,8 +10,8 @@ use lib.Dec.{T, eqb}
 use Rattle.values.specs.declared.Table.{Table}
 use Rattle.model.specs.Notation.{bit, count}
 use Rattle.model.specs.Tasks.{task}
-use Rattle.model.specs.Dispatcher.{leftOf, isLate, leftDone, leftLate}
-use Rattle.model.specs.Presses.{comes, leftCome, stateUnder, arrivals, ownerUnder, doneUnder, hadUnder, FinishedUnder}
+use Rattle.model.specs.Dispatcher.{leftOf, isLate, leftDone, leftLate, leftCome}
+use Rattle.model.specs.Presses.{comes, stateUnder, arrivals, ownerUnder, doneUnder, hadUnder, FinishedUnder}
 use Rattle.counting.specs.Count.{is-true, is-false}
 use Rattle.counting.specs.Below.{between-none}
 use Rattle.wellformed.specs.Ranges.{Ranged}

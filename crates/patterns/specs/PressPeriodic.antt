@@ -45,7 +45,7 @@ module _ (t : Table) (none : Buttonless t) where
       pub owners-same : (n : ℕ) → ownerUnder t done pressed n ≡ ownerAt t done n
       owners-same n = owner-is (stateUnder t done pressed n) (done n) (pressed n) ∙ ap (λ (d : State). ownerNow t d (done n)) (states-same n)
 
-  -- So is any step on any state: its answer and its successor.
+  -- A step on any state gives the same answer and the same successor.
   module _ (d : State) (done : Bool) (pressed : ℕ) where
     abbrev Same : Admission → Type 0
     Same a = (pressAdmitted t d done pressed a .answer ≡ stepAdmittedBy t (tieOrder t) d done a .answer) × (pressAdmitted t d done pressed a .state ≡ stepAdmittedBy t (tieOrder t) d done a .state)

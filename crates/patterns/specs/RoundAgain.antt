@@ -1,4 +1,4 @@
--- A ROUND AGAIN (`again`): where a walk has no slot left a round after some time from the start of a cycle on, what it waits for and has left from that time on is the same a round later.
+-- A ROUND AGAIN (`again`): a walk with no slot left a round after an instant repeats from that instant on.
 use mathlib.Core.Path.{_≡_, sym, ap, _∙_}
 use mathlib.Core.List.{List, []}
 use mathlib.Core.Bool.{false}
@@ -28,29 +28,29 @@ pub record Same (d e : State) : Type 0 where
   pub lefts : d .left ≡ e .left
 
 -- Without a done report a step reads no more of a state than these.
-abbrev read : State → State
-read d = record { wait = d .wait; left = d .left; last = 0; given = []; empty = 0 }
+abbrev blanked : State → State
+blanked d = record { wait = d .wait; left = d .left; last = 0; given = []; empty = 0 }
 
-same-read : {d e : State} → Same d e → read d ≡ read e
-same-read s = cc (s .waits, s .lefts)
+same-blanked : {d e : State} → Same d e → blanked d ≡ blanked e
+same-blanked s = cc (s .waits, s .lefts)
 
 module _ (t : Table) {d e : State} (s : Same d e) where
   pub late-same : (i : ℕ) → isLate t d false i ≡ isLate t e false i
-  late-same i = ap (λ (x : State). isLate t x false i) (same-read s)
+  late-same i = ap (λ (x : State). isLate t x false i) (same-blanked s)
 
   pub owner-same : ownerNow t d false ≡ ownerNow t e false
   unfolding ownerNowBy
-  owner-same = ap (λ (x : State). ownerNow t x false) (same-read s)
+  owner-same = ap (λ (x : State). ownerNow t x false) (same-blanked s)
 
   after-same : Same (after t d false) (after t e false)
   unfolding afterBy ownerNowBy
-  after-same = record { waits = ap (λ (x : State). after t x false .wait) (same-read s); lefts = ap (λ (x : State). after t x false .left) (same-read s) }
+  after-same = record { waits = ap (λ (x : State). after t x false .wait) (same-blanked s); lefts = ap (λ (x : State). after t x false .left) (same-blanked s) }
 
 module _ (t : Table) (r : Ranged t) (Y : Cycle (tieSystem t r)) where
   abbrev S : System
   S = tieSystem t r
 
-  -- From the start of the cycle on; a round later no deadline was late so far, and the walk has no slot left before the releases.
+  -- An instant from the start of the cycle on: a round later no deadline has been late, and no job is open before the releases.
   pub record Rests (u : ℕ) : Type 0 where
     pub started : Y .start ≤ u
     pub clear : Clear t (u + Y .round)

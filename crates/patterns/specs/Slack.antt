@@ -1,4 +1,4 @@
--- SLACK (`slack-enough`): where H slots and what the load leaves of u rounds exceed the slack of the deadlines, the jobs due by u ask for no more than u slots.
+-- SLACK (`slack-enough`): by u at most u slots are asked for, if the slack of the deadlines is below H and u times what the load leaves of H.
 use Prim.Native.Nat.{ℕ, _+_, _-_, _*_, _/_, _≤_, _<_}
 use native.Mathlib.Nat.{mul-comm, mul-left-comm, mul-add, add-mul, mul-sub, mul-le-mul-left, div-mul-le-self}
 use native.Mathlib.Decide.{decLt}
@@ -12,7 +12,7 @@ use Rattle.wellformed.specs.Ranges.{Ranged}
 use Rattle.wellformed.specs.Round.{share, shares-round}
 use Rattle.patterns.specs.Asked.{dueBy, askedOf, asked}
 
--- By how much a task's deadline comes before its next release, once for each slot that it asks for in h slots; and so of all tasks in a round.
+-- The slots from a task's deadline to its next release, once for each slot that it asks for in h slots; and these of all tasks in a round.
 abbrev pub slackOf : Task → ℕ → ℕ
 slackOf k h = k .cost * ((k .period - k .deadline) * (h / k .period))
 

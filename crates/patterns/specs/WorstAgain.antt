@@ -1,4 +1,4 @@
--- NO LARGER RESPONSE (`worst-ever`): where a walk has no slot left a round after some time from the start of a cycle on, and no deadline before is late, the worst responses that it has noted by then are those that it has noted by any later time.
+-- NO LARGER RESPONSE (`worst-ever`): a walk that rests so notes no larger response later.
 use mathlib.Core.Path.{_≡_, refl, sym, ap, _∙_}
 use mathlib.Core.List.{List}
 use Prim.Native.Nat.{ℕ, suc, _+_, _-_, _≤_, _<_}
@@ -8,7 +8,6 @@ use native.Mathlib.Omega.{arith}
 use lib.ListN.{getD}
 use lib.Seq.{ext-getD}
 use Rattle.values.specs.declared.Table.{Table}
-use Rattle.model.specs.Tasks.{task}
 use Rattle.wellformed.specs.Ranges.{Ranged}
 use Rattle.backlog.specs.Shift.{Cycle}
 use Rattle.backlog.specs.TableSystem.{tieSystem}

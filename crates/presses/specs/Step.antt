@@ -18,8 +18,8 @@ use Rattle.model.specs.Limits.{taskLimit, slotCountLimit}
 use Rattle.model.specs.Notation.{bit, bits, inSet, fill}
 use Rattle.model.specs.Tasks.{task, isButton, measure}
 use Rattle.model.specs.Run.{tieOrder}
-use Rattle.model.specs.Dispatcher.{State, waitOf, givenOf, slotCount, admittedBy, isLate, leftLate}
-use Rattle.model.specs.Presses.{Pressed, notTaken, comes, waitCome, leftCome, ownerCome, afterCome, pressTaken, pressAdmitted}
+use Rattle.model.specs.Dispatcher.{State, waitOf, givenOf, slotCount, admittedBy, isLate, leftLate, waitCome, leftCome}
+use Rattle.model.specs.Presses.{Pressed, notTaken, comes, ownerCome, afterCome, pressTaken, pressAdmitted}
 use Rattle.counting.specs.Count.{and-iff, one-of-iff}
 use Rattle.counting.specs.Sum.{sum-member}
 use Rattle.counting.specs.Fill.{fill-eq, fill-again}
@@ -67,14 +67,14 @@ module _ (t : Table) (d : State) (done : Bool) (pressed : ℕ) (p : Pressable t 
   whole : Whole d
   whole = record { waits = b .waits; lefts = b .lefts }
 
-  -- A button that may be pressed and is not waits on.
+  -- A free button that nobody presses waits on.
   abbrev holds : ℕ → Bool
   holds i = isFree t (d .wait) i && not (inSet pressed i)
 
   abbrev held : ℕ → ℕ
   held i = cond (holds i) 1 (waitOf d i)
 
-  -- The presses that are not taken, and those that wait on, by the set of the buttons that may be pressed.
+  -- The presses that are not taken, and the waits with those buttons held, from the set of the free ones.
   untaken-is : {free untaken : ℕ} → free ≡ bits (isFree t (d .wait)) taskLimit → untaken ≡ bits (λ i. inSet pressed i && not (inSet free i)) taskLimit → untaken ≡ notTaken t d pressed
   unfolding notTaken
   untaken-is e q = q ∙ bits-eq _ _ taskLimit (λ i l. rw (e, in-bits (isFree t (d .wait)) taskLimit i l) (both (inSet pressed i) (isFree t (d .wait) i)))
@@ -87,7 +87,7 @@ module _ (t : Table) (d : State) (done : Bool) (pressed : ℕ) (p : Pressable t 
   unfolding putAll
   held-fill {free} e q s = s ∙ fill-eq (t .count) _ _ (d .wait) (λ i l. let few : i < taskLimit = omega (arith, p .ranged .few) in rw (q, in-bits (λ k. inSet free k && not (inSet pressed k)) taskLimit i few, e, in-bits (isFree t (d .wait)) taskLimit i few))
 
-  -- Of a task whose wait is 0 no job is open once the late ones are closed.
+  -- A task whose wait is 0 has no open job once the late ones are closed.
   none-open : (i : ℕ) → i < t .count → waitOf d i ≡ 0 → leftLate t d done i ≡ 0
   none-open i l z = go (eq-zero-or-pos (leftLate t d done i))
     where

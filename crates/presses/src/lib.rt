@@ -17,7 +17,7 @@ use values::SlotAnswer;
 use values::TASK_LIMIT;
 use values::Table;
 
-// A dispatcher's state; of a button, its wait is the slots until it may be pressed again.
+// A dispatcher's state. A button's wait is the slots until it may be pressed again.
 pub struct Presses {
     pub state: Dispatcher,
 }
@@ -154,8 +154,7 @@ pub struct Moved {
     pub untaken: u32,
 }
 
-// The four rules on the lists. A button that may be pressed and is not waits one slot more before the releases, so that
-// no job of it comes and its wait is 0 again after the slot.
+// A free button that nobody presses gets wait 1 first: `serve` then releases no job of it, and leaves it free.
 fn advance(d: Dispatcher, t: Table, done: bool, pressed: u32) -> Moved
     requires { ⌜ Pressable t (stateOf d) ⌝ }
     ensures { λ r. ⌜ Advanced t (stateOf d) done pressed r ⌝ }

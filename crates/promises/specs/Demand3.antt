@@ -86,7 +86,7 @@ module _ (t : Table) (m : Measure) (well : judged t ≡ Judgement.WellFormed m) 
       → n < release (task t i) (suc j) → FinishedBy t rank done i j n → ownerAtBy t rank done n ≡ i → ⊥
   none-after-by = after.none-after t ranged rank done
 
-  -- On a table that passes, which no order alters:
+  -- On a table that passes, which it does in every order or in none:
   module _ (budget : ℕ) (pass : verdict t budget ≡ Verdict.Passes) where
     -- every task has a worst response in this order, at most its deadline;
     pub worst-by : (i : ℕ) → i < t .count → (w : ℕ) × Worst t rank i w × (w ≤ task t i .deadline)

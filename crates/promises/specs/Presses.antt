@@ -1,11 +1,15 @@
--- THE DISPATCHER THAT IS TOLD OF PRESSES (T-13): on a table that passes the distance test, under any presses and any done
+-- THE DISPATCHER OF TABLES WITH BUTTONS (ours, for T-13's tables): on a table that passes the distance test, under any presses and any done
 -- reports, every job that arrived is finished by its deadline; none is cut off, given too much or left waiting.
-use mathlib.Core.Path.{_≡_, refl}
+use mathlib.Core.Path.{_≡_, refl, sym, _∙_}
 use mathlib.Core.Logic.{_↔_}
-use mathlib.Core.Bool.{Bool, true, not, _&&_}
+use mathlib.Core.Bool.{Bool, true, false, not, _&&_}
 use Prim.Native.Nat.{ℕ, suc, _+_, _≤_, _<_}
-use lib.Dec.{T, eqb}
+use borrow.Author.Tests.{eq-eqb, ne-eqb}
+use native.Mathlib.Omega.{arith}
+use lib.Dec.{T, ltb, eqb}
+use lib.ListN.{length}
 use Rattle.values.specs.declared.Table.{Table}
+use Rattle.values.specs.declared.Refusal.{Refusal}
 use Rattle.values.specs.declared.Measure.{Measure}
 use Rattle.values.specs.declared.Judgement.{Judgement}
 use Rattle.values.specs.declared.Admission.{Admission}
@@ -17,17 +21,24 @@ use Rattle.model.specs.Values.{refusal}
 use Rattle.model.specs.Tasks.{task, isButton, judgedMixed, judged}
 use Rattle.model.specs.Arrivals.{Respects}
 use Rattle.model.specs.Patterns.{distancePass, distanceAnswer}
-use Rattle.model.specs.Dispatcher.{State, Started, givenOf, slotCount, started, stepped}
+use Rattle.model.specs.Dispatcher.{State, Started, givenOf, slotCount, firstStrange, lastStrange, started, stepped}
 use Rattle.model.specs.History.{stateAt, ownerAt}
-use Rattle.model.specs.Presses.{Pressed, startedMixed, admittedMixed, takes, notTaken, refusePressed, steppedPressed}
+use Rattle.model.specs.Presses.{Pressed, startedMixed, admittedMixed, notTaken, comes, afterCome, refusePressed, pressTaken}
+use Rattle.model.specs.Presses.{steppedPressed}
 use Rattle.model.specs.Presses.{stateUnder, arrivals, ownerUnder, turnUnder, hadUnder, FinishedUnder}
-use Rattle.counting.specs.Bits.{in-bits}
+use Rattle.dispatch.specs.State.{stateOf}
+use Rattle.presses.specs.declared.Presses.{Presses}
+use Rattle.presses.specs.declared.Started.{Started as StartedCall}
+use Rattle.presses.specs.declared.Pressed.{Pressed as PressedCall}
+use Rattle.presses.specs.State.{startedOf, pressedOf, one-started, one-pressed}
 use Rattle.wellformed.specs.Ranges.{Ranged}
 use Rattle.wellformed.specs.WellFormed.{well-mixed, periodic-iff}
 use Rattle.wellformed.specs.Admitted.{Fitting, admitted-by-iff}
+use Rattle.backlog.specs.Taken.{Belongs}
+use Rattle.backlog.specs.Coming.{belongs-come, slots-come}
 use Rattle.patterns.specs.DistancePass.{distance-case}
 use Rattle.patterns.specs.TakenArrivals.{taken-respects}
-use Rattle.patterns.specs.PressTaken.{taken-iff}
+use Rattle.patterns.specs.PressTaken.{taken-iff, told-iff}
 use Rattle.patterns.specs.PressAccounts.{slots-are, given-is, empty-is}
 use Rattle.patterns.specs.PressNeverRefused as refused
 use Rattle.patterns.specs.PressNoneEarly.{owned-arrived}
@@ -37,21 +48,73 @@ use Rattle.patterns.specs.PressNoneCut.{none-cut}
 use Rattle.patterns.specs.PressInTime.{in-time}
 use Rattle.patterns.specs.PressNoneWaits.{none-waits}
 use Rattle.patterns.specs.PressPeriodic as periodic
+use Rattle.telling.specs.PressSteps.{refused-keeps}
 
--- A state is taken exactly if its table, of both sorts, is well-formed and no place of 8 fits it.
+-- Each call has one permitted result.
+pub one-press-start : (t : Table) (a b : StartedCall) → startedOf a ≡ startedMixed t → startedOf b ≡ startedMixed t → a ≡ b
+one-press-start t a b e f = one-started a b (e ∙ sym f)
+
+pub one-press-step : (t : Table) (d : Presses) (done : Bool) (pressed : ℕ) (a b : PressedCall)
+    → pressedOf a ≡ steppedPressed t (stateOf (d .state)) done pressed
+    → pressedOf b ≡ steppedPressed t (stateOf (d .state)) done pressed → a ≡ b
+one-press-step t d done pressed a b e f = one-pressed a b (e ∙ sym f)
+
+-- A start is refused as its table is. A refused step hands the state back as it came, and takes no press.
+pub press-refused-start : (t : Table) (r : Refusal) → judgedMixed t ≡ Judgement.Refused r
+    → startedMixed t .admission ≡ Admission.Refused r
+unfolding startedMixed
+press-refused-start t r e = rw e refl
+
+pub press-refused-step : (t : Table) (d : State) (done : Bool) (pressed : ℕ) (r : Refusal)
+    → steppedPressed t d done pressed .answer ≡ SlotAnswer.Refused r
+    → steppedPressed t d done pressed ≡ refusePressed r d pressed
+press-refused-step = refused-keeps
+
+-- A state is admitted exactly if its table, of both sorts, is well-formed and no place of 8 fits it.
 pub press-admitted-exactly : (t : Table) (d : State)
     → (admittedMixed t d ≡ Admission.Admitted)
     ↔ (((m : Measure) × (judgedMixed t ≡ Judgement.WellFormed m)) × Fitting t d)
 unfolding admittedMixed
 press-admitted-exactly t d = admitted-by-iff t d (judgedMixed t)
 
--- A step tells of each bit whether it is a press that was not taken.
+-- A step on any state: refused as the state is, refused by 9 if it can count no slot more, or taken.
+module _ (t : Table) (d : State) (done : Bool) (pressed : ℕ) where
+  pub press-strange : (r : Refusal) → admittedMixed t d ≡ Admission.Refused r
+      → steppedPressed t d done pressed ≡ refusePressed r d pressed
+  unfolding steppedPressed
+  press-strange r e = rw e refl
+
+  pub press-full : admittedMixed t d ≡ Admission.Admitted → slotCount t d ≡ slotCountLimit
+      → steppedPressed t d done pressed ≡ refusePressed (refusal 9 0) d pressed
+  unfolding steppedPressed
+  press-full e full = rw (e, eq-eqb (slotCount t d) slotCountLimit full) refl
+
+  pub press-taken : admittedMixed t d ≡ Admission.Admitted → slotCount t d < slotCountLimit
+      → steppedPressed t d done pressed ≡ pressTaken t d done pressed
+  unfolding steppedPressed
+  press-taken e room = rw (e, ne-eqb (slotCount t d) slotCountLimit (λ f. absurd (omega arith))) refl
+
+-- A press is told as not taken, unless it is of a button of the table whose job comes.
 pub press-told : (t : Table) (d : State) (pressed i : ℕ) → i < taskLimit
-    → inSet (notTaken t d pressed) i ≡ (inSet pressed i && not (takes t d pressed i))
-unfolding notTaken
-press-told t d pressed i = in-bits (λ k. inSet pressed k && not (takes t d pressed k)) taskLimit i
+    → inSet (notTaken t d pressed) i
+    ≡ (inSet pressed i && not (ltb i (t .count) && (isButton (task t i) && comes t d pressed i)))
+press-told = told-iff
+
+-- A state that 8 does not refuse leads to one that 8 does not refuse and that counts one slot more, whoever made it.
+pub press-taken-next : (t : Table) (m : Measure) (d : State) (done : Bool) (pressed : ℕ)
+    → judgedMixed t ≡ Judgement.WellFormed m → length (d .wait) ≡ taskLimit → length (d .left) ≡ taskLimit
+    → length (d .given) ≡ taskLimit → t .count ≤ firstStrange t d → lastStrange t d ≡ false
+    → let next = afterCome t d done (comes t d pressed) in
+    (length (next .wait) ≡ taskLimit) × (length (next .left) ≡ taskLimit) × (length (next .given) ≡ taskLimit)
+    × (t .count ≤ firstStrange t next) × (lastStrange t next ≡ false) × (slotCount t next ≡ slotCount t d + 1)
+press-taken-next t m d done pressed well waits lefts gives each ran =
+    let r = well-mixed t m well .ranged in
+    let belongs : Belongs t d = record { waits = waits; lefts = lefts; gives = gives; each = each; ran = ran } in
+    let b = belongs-come t r d done (comes t d pressed) belongs in
+    (b .waits, b .lefts, b .gives, b .each, b .ran, slots-come t r d done (comes t d pressed) belongs)
 
 -- A history: a start on a well-formed table of both sorts, and steps with any done reports and any presses.
+-- `stateUnder t done pressed n` is the state after n steps, as many as can be counted; beyond, what the rules would give.
 module _ (t : Table) (m : Measure) (well : judgedMixed t ≡ Judgement.WellFormed m) (done : ℕ → Bool) (pressed : ℕ → ℕ)
   where
     abbrev ranged : Ranged t

@@ -1,4 +1,4 @@
--- What the sums of the quick test can come to: they fit.
+-- The sums of the quick test fit their numbers.
 use Prim.Native.Nat.{ℕ, _+_, _-_, _*_, _/_, _≤_}
 use native.Mathlib.Nat.{le-trans, mul-le-mul, mul-le-mul-right, mul-div-le}
 use native.Mathlib.Omega.{arith}

@@ -11,36 +11,32 @@ use Rattle.values.specs.declared.Judgement.{Judgement}
 use Rattle.model.specs.Notation.{every}
 use Rattle.model.specs.Tasks.{round, load, judgedMixed}
 use Rattle.model.specs.Patterns.{quickPass}
-use Rattle.counting.specs.Count.{tests, is-true, is-false, every-iff}
+use Rattle.counting.specs.Count.{tests, is-false, all-pass, one-fails}
 use Rattle.wellformed.specs.Ranges.{Ranged}
 use Rattle.wellformed.specs.Round.{RoundKept}
 use Rattle.wellformed.specs.WellFormed.{WellFormed, well-mixed, mixed-iff}
 use Rattle.patterns.specs.Quick.{quick-light}
 use Rattle.patterns.specs.Asked.{asked, asked-none, asked-mono}
-use Rattle.patterns.specs.Decided.{enough, EnoughBeyond, quick-decided}
+use Rattle.patterns.specs.Decided.{enough, EnoughBetween, EnoughBeyond, quick-decided}
 use Rattle.patterns.specs.Slack.{slack, slack-enough}
-
--- Every instant beyond `high` and up to the bound has enough.
-abbrev pub EnoughDown : Table → ℕ → ℕ → Type 0
-EnoughDown t bound high = (u : ℕ) → high < u → u ≤ bound → asked t u ≤ u
 
 module _ (t : Table) (r : Ranged t) (bound : ℕ) where
   -- Further down: by an earlier instant no more is asked for than by `high`.
-  pub enough-down : (high next : ℕ) → high ≤ bound → EnoughDown t bound high → asked t high ≤ high → min (asked t high) (high - 1) ≤ next → EnoughDown t bound next
+  pub enough-down : (high next : ℕ) → high ≤ bound → EnoughBetween t high bound → asked t high ≤ high → min (asked t high) (high - 1) ≤ next → EnoughBetween t next bound
   enough-down high next l down fits far u a b = elim (decLe u high) [
     | yes p ↦ omega (arith, asked-mono t r u high p)
     | no p ↦ down u (omega arith) b
   ]
 
   -- At 0 all have enough; and where one has not, not all have.
-  pub down-to-0 : EnoughDown t bound 0 → true ≡ every (enough t) (suc bound)
-  down-to-0 down = sym (is-true (every (enough t) (suc bound)) (every-iff (enough t) (suc bound) .1 (λ u l. omega (tests, at u (omega arith)))))
+  pub down-to-0 : EnoughBetween t 0 bound → true ≡ every (enough t) (suc bound)
+  down-to-0 down = all-pass (enough t) (suc bound) (λ u l. omega (tests, at u (omega arith)))
     where
       at : (u : ℕ) → u ≤ bound → asked t u ≤ u
       at u l = elim (decLe 1 u) [ yes p ↦ down u (omega arith) l | no p ↦ (let e : u ≡ 0 = omega arith in rw e (omega (arith, asked-none t r))) ]
 
   pub too-much : (u : ℕ) → u ≤ bound → u < asked t u → false ≡ every (enough t) (suc bound)
-  too-much u l h = sym (is-false (every (enough t) (suc bound)) (λ all. absurd (omega (tests, every-iff (enough t) (suc bound) .0 all u (omega arith)))))
+  too-much u l h = one-fails (enough t) (suc bound) u (omega arith) (λ fits. absurd (omega (tests, fits)))
 
 module _ (t : Table) {m : Measure} (well : judgedMixed t ≡ Judgement.WellFormed m) where
   abbrev facts : WellFormed t m

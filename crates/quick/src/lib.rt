@@ -19,10 +19,10 @@ use values::SLOT_LIMIT;
 use values::Table;
 use values::Task;
 
-// How far up from 0 to look: some of the longest periods.
+// How far up from 0 the search looks: some sixteen of the longest periods.
 const EARLY: u64 = 1_000_000;
 
-// What is asked for by an instant, and a later instant at which to look next: the first deadline after it.
+// The slots that are asked for by an instant, and the first deadline after it, where the way up looks next.
 struct Seen {
     asked: u64,
     next: u64,
@@ -64,14 +64,10 @@ fn look(t: Table, u: u64) -> Seen
         slots = slots + to_u64(task.cost) * jobs;
         next = smaller(next, to_u64(task.deadline) + to_u64(task.period) * jobs);
     }
-    Seen {
-        asked: slots,
-        next: next,
-    }
+    Seen { asked: slots, next }
 }
 
-// Whether no instant up to the bound asks for too much. Down from it: no earlier instant asks for more than `high`, so that each from
-// there down to what `high` asks for has enough. And for a while up from 0, deadline by deadline: one that has not mostly comes early.
+// No earlier instant asks for more than `high` does, so the way down leaps to that number; the way up finds early failures soon.
 fn all_enough(t: Table, bound: u64) -> bool
     requires { ⌜ Ranged t ⌝ }
     requires { ⌜ bound ≤ roundLimit ⌝ }
@@ -85,18 +81,18 @@ fn all_enough(t: Table, bound: u64) -> bool
             return false;
         }
         high = smaller(above.asked, high - 1);
-        if low < EARLY {
+        if low < smaller(EARLY, high) {
             let below = look(t, low);
             if low < below.asked {
                 return false;
             }
-            low = smaller(below.next, bound);
+            low = below.next;
         }
     }
     true
 }
 
-// By how much a task's deadline comes before its next release, once for each slot that it asks for in a round.
+// The slots from a task's deadline to its next release, once for each slot that the task asks for in a round.
 fn slack_of(k: Task, round: u64) -> u64
     requires { ⌜ InRange k ⌝ }
     requires { ⌜ round ≤ roundLimit ⌝ }
@@ -119,7 +115,7 @@ fn slack(t: Table, round: u64) -> u64
     total
 }
 
-// Beyond it, and up to H, no instant asks for too much: each slot adds to what the load leaves over, until that outweighs the slack.
+// No instant beyond it, up to H, asks for too much: what the load leaves over has outgrown the slack.
 fn bound(t: Table, m: Measure) -> u64
     requires { ⌜ judgedMixed t ≡ Judgement.WellFormed m ⌝ }
     requires { ⌜ m .load ≤ m .round ⌝ }

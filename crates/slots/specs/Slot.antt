@@ -21,12 +21,9 @@ closed left task = cond (ltb task taskLimit) (set left task 0) left
 abbrev pub isLate : List ℕ → List ℕ → List ℕ → ℕ → ℕ → Bool
 isLate wait left slack n i = ltb i n && (ltb 0 (at left i) && eqb (at wait i) (at slack i))
 
--- Task i is in a set of bits; all in it have this number.
-abbrev pub isMember : ℕ → ℕ → Bool
-isMember = inSet
-
+-- Each task of a set of bits gets this number.
 unfoldable pub putAll : List ℕ → ℕ → ℕ → ℕ → List ℕ
-putAll numbers tasks number n = fill n (λ i. cond (isMember tasks i) number (at numbers i)) numbers
+putAll numbers tasks number n = fill n (λ i. cond (inSet tasks i) number (at numbers i)) numbers
 
 -- Task i is a button that may be pressed.
 abbrev pub isFree : Table → List ℕ → ℕ → Bool

@@ -5,14 +5,14 @@ ghost use Prim.Native.Nat.{_+_, _-_, _*_, _^_, _≤_, _<_};
 ghost use lib.Dec.{ltb, eqb};
 ghost use lib.ListN.{set};
 ghost use Rattle.model.specs.Limits.{taskLimit, slotLimit};
-ghost use Rattle.model.specs.Notation.{bit, bits};
+ghost use Rattle.model.specs.Notation.{bit, bits, inSet};
 ghost use Rattle.model.specs.Tasks.{isButton};
 ghost use Rattle.model.specs.Dispatcher.{startOf};
 ghost use Rattle.wellformed.specs.Ranges.{Ranged};
 ghost use Rattle.slots.specs.Columns.{columnsOf};
 ghost use Rattle.slots.specs.Choice.{ranks, keyOf};
 ghost use Rattle.slots.specs.Serve.{Served};
-ghost use Rattle.slots.specs.Slot.{closed, isLate, isMember, putAll, isFree, noneLeft, waitReleased, leftReleased};
+ghost use Rattle.slots.specs.Slot.{closed, isLate, putAll, isFree, noneLeft, waitReleased, leftReleased};
 use values::TASK_LIMIT;
 use values::Table;
 use values::Task;
@@ -126,7 +126,7 @@ pub fn close_all(left: &mut Numbers, tasks: u32, n: usize)
     put_all(left, tasks, 0, n)
 }
 
-// Each of a set of tasks has this number.
+// Each task of the set gets this number.
 pub fn put_all(numbers: &mut Numbers, tasks: u32, number: u32, n: usize)
     requires { ⌜ n ≤ taskLimit ⌝ }
     ensures { λ _. ⌜ now (numbers .exit) ≡ putAll (now (numbers .entry)) tasks number n ⌝ }
@@ -138,7 +138,7 @@ pub fn put_all(numbers: &mut Numbers, tasks: u32, number: u32, n: usize)
 
 // The members of one set of tasks that are not in another.
 pub fn only_in(tasks: u32, others: u32) -> u32
-    ensures { λ r. ⌜ r ≡ bits (λ i. isMember tasks i && not (isMember others i)) taskLimit ⌝ }
+    ensures { λ r. ⌜ r ≡ bits (λ i. inSet tasks i && not (inSet others i)) taskLimit ⌝ }
 {
     let mut rest: u32 = 0;
     for i in 0..TASK_LIMIT {
@@ -149,7 +149,7 @@ pub fn only_in(tasks: u32, others: u32) -> u32
 
 fn is_only_in(tasks: u32, others: u32, i: usize) -> bool
     requires { ⌜ i < taskLimit ⌝ }
-    ensures { λ r. ⌜ r ≡ (isMember tasks i && not (isMember others i)) ⌝ }
+    ensures { λ r. ⌜ r ≡ (inSet tasks i && not (inSet others i)) ⌝ }
 {
     is_member(tasks, i) && !is_member(others, i)
 }
@@ -175,7 +175,7 @@ fn may_be_pressed(task: Task, wait: u32) -> bool
 
 fn is_member(tasks: u32, i: usize) -> bool
     requires { ⌜ i < taskLimit ⌝ }
-    ensures { λ r. ⌜ r ≡ isMember tasks i ⌝ }
+    ensures { λ r. ⌜ r ≡ inSet tasks i ⌝ }
 {
     (tasks >> i) & 1 == 1
 }

@@ -5,6 +5,7 @@ pub mod Refusals
 pub mod FileTold
 pub mod Reported
 pub mod Steps
+pub mod PressSteps
 -- The exact test's answers.
 pub mod Answers
 pub mod Passed

@@ -38,7 +38,7 @@ fitting t d m e =
     let (c, e₃) = unrefused (ltb slotCountLimit (slotCount t d)) _ e₂ in
     record { each = ltb-false (firstStrange t d) (t .count) a; ran = b; room = ltb-false slotCountLimit (slotCount t d) c }
 
--- EXACTLY: by a judgement a state is admitted if that is well-formed and no place of 8 fits the state.
+-- EXACTLY: a state is admitted if its table is judged well-formed and no place of 8 fits the state.
 abbrev pub AdmissibleBy : Table → State → Judgement → Type 0
 AdmissibleBy t d j = ((m : Measure) × (j ≡ Judgement.WellFormed m)) × Fitting t d
 

@@ -119,7 +119,7 @@ periodic-iff t m = (
         let (a, e₁) = passed (ltb (firstButton t) (t .count)) 11 (firstButton t) e in
         (w ∙ e₁, buttonless-iff t .0 (ltb-false (firstButton t) (t .count) a))
 
--- Without one it is judged as it is at all.
+-- A table without a button is judged the same, whether buttons are allowed or not.
 pub judged-same : (t : Table) → Buttonless t → judged t ≡ judgedMixed t
 unfolding judged
 judged-same t none = go (judgedMixed t)

@@ -10,7 +10,7 @@ use lib.Dec.{T}
 use Rattle.values.specs.declared.Table.{Table}
 use Rattle.model.specs.Tasks.{task, isButton}
 use Rattle.model.specs.Patterns.{calm, pattern}
-use Rattle.distance.specs.Passing.{all-pass, one-fails}
+use Rattle.counting.specs.Count.{all-pass, one-fails}
 use Rattle.distance.proofs.each_calm.Statement.{statement}
 use Rattle.distance.proofs.each_calm.Tie as tie
 

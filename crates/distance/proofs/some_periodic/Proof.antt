@@ -8,7 +8,7 @@ use borrow.Author.Needs.{needs}
 use lib.Dec.{T}
 use Rattle.values.specs.declared.Table.{Table}
 use Rattle.model.specs.Tasks.{task, isButton}
-use Rattle.distance.specs.Passing.{one-passes, none-passes}
+use Rattle.counting.specs.Count.{one-passes, none-passes}
 use Rattle.distance.proofs.some_periodic.Statement.{statement}
 use Rattle.distance.proofs.some_periodic.Tie as tie
 

@@ -1,4 +1,4 @@
--- Over, or with no job open late enough.
+-- Over, or with no job open from `again` on.
 use mathlib.Core.Logic.{inl, inr}
 use mathlib.Core.Path.{sym, subst}
 use native.Mathlib.Omega.{arith}

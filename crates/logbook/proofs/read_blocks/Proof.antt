@@ -1,5 +1,5 @@
 -- The bytes below `at` are read.
-use mathlib.Core.Path.{_≡_, sym, _∙_}
+use mathlib.Core.Path.{_≡_}
 use Prim.Native.Nat.{_-_, _≤_}
 use native.Mathlib.Omega.{arith}
 use lib.ListN.{length}
@@ -7,7 +7,6 @@ use Rattle.values.specs.declared.Table.{Table}
 use Rattle.dispatch.specs.Step.{Unpacked}
 use Rattle.logbook.specs.State.{logStateOf}
 use Rattle.logbook.specs.Bytes.{Readable, ReadTo, read-none, all-read, rest-stays}
-use Rattle.logbook.specs.InPlace.{is-final}
 use borrow.Author.Needs.{needs}
 use Rattle.logbook.proofs.read_blocks.Statement.{statement}
 use Rattle.logbook.proofs.read_blocks.Tie as tie
@@ -28,7 +27,7 @@ is-final-requires c κs = search needs
 returns : tie.Need-returns Inv-loop μ-loop
 returns c t u r =
     let turn = c .before .before .before .before in
-    rest-stays (is-final (turn .loop .next .reading .found) (sym (c .before .is-final .ensures) ∙ c .if1 .taken)) (turn .loop .inv .1 t u r)
+    rest-stays (c .before .is-final .ensures (c .if1 .taken)) (turn .loop .inv .1 t u r)
 
 block-end-requires : tie.Need-block-end-requires Inv-loop μ-loop
 block-end-requires c κs = search needs

@@ -2,8 +2,9 @@
 use mathlib.Core.Path.{_≡_, refl, sym, ap, _∙_}
 use mathlib.Core.Logic.{inl, inr}
 use mathlib.Core.Bool.{true, false}
-use Prim.Native.Nat.{ℕ, _-_, _≤_, _<_}
+use Prim.Native.Nat.{_-_, _≤_, _<_}
 use native.Mathlib.Omega.{arith}
+use borrow.Author.Tests.{not-false}
 use lib.ListN.{getD}
 use Rattle.values.specs.declared.Table.{Table}
 use Rattle.model.specs.Limits.{logLimit}
@@ -12,7 +13,7 @@ use Rattle.model.specs.Log.{Log, readByte}
 use Rattle.dispatch.specs.Step.{Unpacked, Advanced, stateWith, owner-room, state-is}
 use Rattle.logbook.specs.State.{joined, logStateOf}
 use Rattle.logbook.specs.Bytes.{Readable, ReadTo, isDue, steps, slot-same, slot-byte, other-byte, one-more}
-use Rattle.logbook.specs.InPlace.{goes-on, movedTo, moved-if, whole, met}
+use Rattle.logbook.specs.InPlace.{movedTo, moved-if, whole}
 use borrow.Author.Needs.{needs}
 use Rattle.logbook.proofs.read_in_place.Statement.{statement}
 use Rattle.logbook.proofs.read_in_place.Tie as tie
@@ -39,7 +40,7 @@ here c = joined (stateWith (c .loop .wait) (c .loop .left) (c .loop .last) (c .l
 
 -- A byte is left.
 below : (c : tie.Then1 Inv-loop μ-loop) → c .before .before .loop .at < start-from (c .before .before) .args .to
-below c = goes-on (c .before .before .loop .read .found) _ _ (sym (c .before .goes-on .ensures) ∙ c .if1 .taken)
+below c = c .before .goes-on .ensures (c .if1 .taken)
 
 shared-slice-read-byte : tie.Need-shared-slice-read-byte Inv-loop μ-loop
 shared-slice-read-byte c = omega (arith, below (c .before), start-from (c .before .before .before) .pre .0)
@@ -72,8 +73,7 @@ turn-from c = c .before .before .before .before .before .before .before .before 
 -- No job was late, and the record is the owner's.
 own : (c : tie.Else3 Inv-loop μ-loop) → let turn = turn-from c in let s = start-from turn .args in let seen = c .before .before .serve .result in
     (seen .late ≡ false) × (isDue (turn .loop .read .opened) (getD (s .piece .now) (turn .loop .at) 0) (s .n) (seen .owner) ≡ true)
-own c = let turn = turn-from c in let s = start-from turn .args in let seen = c .before .before .serve .result in
-    met (seen .late) (isDue (turn .loop .read .opened) (getD (s .piece .now) (turn .loop .at) 0) (s .n) (seen .owner)) (c .before .is-met .ensures) (c .if3 .left)
+own c = c .before .is-met .ensures (not-false _ (c .if3 .left))
 
 -- What a slot's rules make of it, of any such table.
 moved : (c : tie.Else3 Inv-loop μ-loop) (t : Table) → let turn = turn-from c in let s = start-from turn .args in

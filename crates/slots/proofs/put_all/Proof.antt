@@ -4,14 +4,14 @@ use mathlib.Core.Bool.{cond}
 use Prim.Native.Nat.{_≤_, _-_}
 use native.Mathlib.Omega.{arith}
 use borrow.Author.Needs.{needs}
-use Rattle.model.specs.Notation.{fill}
+use Rattle.model.specs.Notation.{inSet, fill}
 use Rattle.counting.specs.Fill.{fill-none, fill-put, fill-read, fill-done}
-use Rattle.slots.specs.Slot.{at, isMember, putAll}
+use Rattle.slots.specs.Slot.{at, putAll}
 use Rattle.slots.proofs.put_all.Statement.{statement}
 use Rattle.slots.proofs.put_all.Tie as tie
 
 abbrev Inv-loop : tie.InvT-loop
-Inv-loop numbers₀ tasks number n i₀ numbers i = (i ≤ n) × (numbers ≡ fill i (λ k. cond (isMember tasks k) number (at numbers₀ k)) numbers₀)
+Inv-loop numbers₀ tasks number n i₀ numbers i = (i ≤ n) × (numbers ≡ fill i (λ k. cond (inSet tasks k) number (at numbers₀ k)) numbers₀)
 
 abbrev μ-loop : tie.MeasureT-loop
 μ-loop numbers₀ tasks number n i₀ numbers i = n - i

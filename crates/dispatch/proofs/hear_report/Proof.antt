@@ -1,7 +1,7 @@
 -- There is a report, or none.
 use borrow.Author.Needs.{needs}
-use Rattle.logbook.proofs.hear_report.Statement.{statement}
-use Rattle.logbook.proofs.hear_report.Tie as tie
+use Rattle.dispatch.proofs.hear_report.Statement.{statement}
+use Rattle.dispatch.proofs.hear_report.Tie as tie
 
 close-requires : tie.Need-close-requires
 close-requires c κs = search needs
