@@ -5,14 +5,8 @@ use borrow.Author.Needs.{needs}
 use Rattle.answers.proofs.conclude.Statement.{statement}
 use Rattle.answers.proofs.conclude.Tie as tie
 
-brief-requires : tie.Need-brief-requires
-brief-requires c κs = search needs
-
 returns : tie.Need-returns
 returns c = let s = c .before .before .args in rw (lt-ltb 0 (s .asked) (omega arith)) (c .brief .ensures)
-
-brief-requires-2 : tie.Need-brief-requires-2
-brief-requires-2 c κs = search needs
 
 returns-2 : tie.Need-returns-2
 returns-2 c = let s = c .before .before .before .before .args in rw (le-ltb 0 (s .asked) (omega arith), lt-ltb (s .at) (s .m .horizon) (omega arith)) (c .brief2 .ensures)
@@ -21,6 +15,4 @@ returns-3 : tie.Need-returns-3
 returns-3 c = let s = c .before .before .before .args in rw (le-ltb 0 (s .asked) (omega arith), le-ltb (s .at) (s .m .horizon) (omega arith))
 
 pub conclude-spec : {M : Type 1} → statement M
-conclude-spec =
-    tie.close
-    (tie.spec brief-requires returns brief-requires-2 returns-2 returns-3)
+conclude-spec = tie.close (tie.spec (λ c κs. search needs) returns (λ c κs. search needs) returns-2 returns-3)

@@ -6,18 +6,6 @@ use Rattle.numbers.specs.Form.{on-form, right-length}
 use Rattle.cameracalls.proofs.start.Statement.{statement}
 use Rattle.cameracalls.proofs.start.Tie as tie
 
-form-for-requires : tie.Need-form-for-requires
-form-for-requires c κs = search needs
-
-enum-known-admission : tie.Need-enum-known-admission
-enum-known-admission c = search needs
-
-refusal-number-requires : tie.Need-refusal-number-requires
-refusal-number-requires c κs = search needs
-
-enum-told : tie.Need-enum-told
-enum-told c = search needs
-
 start-table-requires : tie.Need-start-table-requires
 start-table-requires c κs =
     let told = c .before .before in
@@ -32,9 +20,6 @@ returns c =
     let s = form .before .before .before .args in
     rw (on-form stateBytes (s .file .now) (s .state .now) (form .form-for .ensures) (λ t. startWritten (s .state .now) (started t .state) (started t .admission)), known .admission .given .1, c .refusal-number .ensures)
 
-same-length : tie.Need-same-length
-same-length c = search needs
-
 returns-2 : tie.Need-returns-2
 returns-2 c =
     let called = c .before .before in
@@ -47,11 +32,5 @@ pub start-spec : {M : Type 1} → statement M
 start-spec =
     tie.close
     (tie.spec
-    form-for-requires
-    enum-known-admission
-    refusal-number-requires
-    enum-told
-    start-table-requires
-    returns
-    same-length
+    (λ c κs. search needs) (λ c. search needs) (λ c κs. search needs) (λ c. search needs) start-table-requires returns (λ c. search needs)
     returns-2)

@@ -3,31 +3,10 @@ use borrow.Author.Needs.{needs}
 use Rattle.cameracalls.proofs.start_table.Statement.{statement}
 use Rattle.cameracalls.proofs.start_table.Tie as tie
 
-start-requires : tie.Need-start-requires
-start-requires c κs = search needs
-
-enum-known-admission : tie.Need-enum-known-admission
-enum-known-admission c = search needs
-
-refusal-number-requires : tie.Need-refusal-number-requires
-refusal-number-requires c κs = search needs
-
-enum-told : tie.Need-enum-told
-enum-told c = search needs
-
-quiet-requires : tie.Need-quiet-requires
-quiet-requires c κs = search needs
-
-write-state-requires : tie.Need-write-state-requires
-write-state-requires c κs = search needs
-
 returns : tie.Need-returns
 returns c =
     let known = c .before .before in
     rw (← known .before .before .start .ensures, known .admission .given .1, c .refusal-number .ensures)
-
-same-length : tie.Need-same-length
-same-length c = search needs
 
 returns-2 : tie.Need-returns-2
 returns-2 c =
@@ -39,12 +18,5 @@ pub start-table-spec : {M : Type 1} → statement M
 start-table-spec =
     tie.close
     (tie.spec
-    start-requires
-    enum-known-admission
-    refusal-number-requires
-    enum-told
-    quiet-requires
-    write-state-requires
-    returns
-    same-length
-    returns-2)
+    (λ c κs. search needs) (λ c. search needs) (λ c κs. search needs) (λ c. search needs) (λ c κs. search needs) (λ c κs. search needs)
+    returns (λ c. search needs) returns-2)

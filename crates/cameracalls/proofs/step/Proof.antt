@@ -8,18 +8,6 @@ use Rattle.numbers.specs.Form.{on-form, right-length}
 use Rattle.cameracalls.proofs.step.Statement.{statement}
 use Rattle.cameracalls.proofs.step.Tie as tie
 
-form-for-requires : tie.Need-form-for-requires
-form-for-requires c κs = search needs
-
-enum-known-admission : tie.Need-enum-known-admission
-enum-known-admission c = search needs
-
-refusal-number-requires : tie.Need-refusal-number-requires
-refusal-number-requires c κs = search needs
-
-enum-told : tie.Need-enum-told
-enum-told c = search needs
-
 step-table-requires : tie.Need-step-table-requires
 step-table-requires c κs =
     let told = c .before .before in
@@ -34,9 +22,6 @@ returns c =
     let s = form .before .before .before .args in
     rw (on-form stateBytes (s .file .now) (s .state .now) (form .form-for .ensures) (λ t. let x = stepped t (stateIn (s .state .now)) (not (eqb (s .done) 0)) in stepWritten (s .state .now) (x .state) (x .answer)), known .admission .given .1, c .refusal-number .ensures)
 
-same-length : tie.Need-same-length
-same-length c = search needs
-
 returns-2 : tie.Need-returns-2
 returns-2 c =
     let called = c .before .before in
@@ -49,11 +34,5 @@ pub step-spec : {M : Type 1} → statement M
 step-spec =
     tie.close
     (tie.spec
-    form-for-requires
-    enum-known-admission
-    refusal-number-requires
-    enum-told
-    step-table-requires
-    returns
-    same-length
+    (λ c κs. search needs) (λ c. search needs) (λ c κs. search needs) (λ c. search needs) step-table-requires returns (λ c. search needs)
     returns-2)

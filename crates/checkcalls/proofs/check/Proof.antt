@@ -8,20 +8,11 @@ use borrow.Author.Tests.{lt-ltb, le-ltb}
 use Rattle.checkcalls.proofs.check.Statement.{statement}
 use Rattle.checkcalls.proofs.check.Tie as tie
 
-refused-at-requires : tie.Need-refused-at-requires
-refused-at-requires c κs = search needs
-
 returns : tie.Need-returns
 returns c =
     let n = length (c .before .before .before .before .args .report .now) in
     let whole : min n 65535 ≡ n = omega (arith, c .before .if1 .taken) in
     rw (lt-ltb _ _ (c .before .if1 .taken), c .refused-at .ensures, whole)
-
-check-file-requires : tie.Need-check-file-requires
-check-file-requires c κs = search needs
-
-same-length : tie.Need-same-length
-same-length c = search needs
 
 returns-2 : tie.Need-returns-2
 returns-2 c =
@@ -29,5 +20,4 @@ returns-2 c =
     rw (le-ltb _ _ (e .before .before .if1 .left)) (e .check-file .ensures)
 
 pub check-spec : {M : Type 1} → statement M
-check-spec =
-    tie.close (tie.spec refused-at-requires returns check-file-requires same-length returns-2)
+check-spec = tie.close (tie.spec (λ c κs. search needs) returns (λ c κs. search needs) (λ c. search needs) returns-2)

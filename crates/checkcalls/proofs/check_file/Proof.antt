@@ -6,27 +6,6 @@ use Rattle.quick.specs.Answers.{told-either}
 use Rattle.checkcalls.proofs.check_file.Statement.{statement}
 use Rattle.checkcalls.proofs.check_file.Tie as tie
 
-read-requires : tie.Need-read-requires
-read-requires c κs = search needs
-
-enum-known-admission : tie.Need-enum-known-admission
-enum-known-admission c = search needs
-
-refusal-number-requires : tie.Need-refusal-number-requires
-refusal-number-requires c κs = search needs
-
-enum-told : tie.Need-enum-told
-enum-told c = search needs
-
-tested-requires : tie.Need-tested-requires
-tested-requires c κs = search needs
-
-test-requires : tie.Need-test-requires
-test-requires c κs = search needs
-
-is-pass-requires : tie.Need-is-pass-requires
-is-pass-requires c κs = search needs
-
 export-answer-requires : tie.Need-export-answer-requires
 export-answer-requires c κs =
     let told = c .before .before .before .before .before in
@@ -36,9 +15,6 @@ returns : tie.Need-returns
 returns c =
     let known = c .before .before in
     rw (← known .before .before .read .ensures, known .admission .given .1, c .refusal-number .ensures)
-
-same-length : tie.Need-same-length
-same-length c = search needs
 
 returns-2 : tie.Need-returns-2
 returns-2 c =
@@ -55,14 +31,5 @@ pub check-file-spec : {M : Type 1} → statement M
 check-file-spec =
     tie.close
     (tie.spec
-    read-requires
-    enum-known-admission
-    refusal-number-requires
-    enum-told
-    tested-requires
-    test-requires
-    is-pass-requires
-    export-answer-requires
-    returns
-    same-length
-    returns-2)
+    (λ c κs. search needs) (λ c. search needs) (λ c κs. search needs) (λ c. search needs) (λ c κs. search needs) (λ c κs. search needs)
+    (λ c κs. search needs) export-answer-requires returns (λ c. search needs) returns-2)

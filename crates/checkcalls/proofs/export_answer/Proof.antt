@@ -4,23 +4,8 @@ use Rattle.checkcalls.specs.Outcomes.{by-outcome}
 use Rattle.checkcalls.proofs.export_answer.Statement.{statement}
 use Rattle.checkcalls.proofs.export_answer.Tie as tie
 
-enum-known-outcome : tie.Need-enum-known-outcome
-enum-known-outcome c = search needs
-
-refusal-number-requires : tie.Need-refusal-number-requires
-refusal-number-requires c κs = search needs
-
-enum-known-outcome-2 : tie.Need-enum-known-outcome-2
-enum-known-outcome-2 c = search needs
-
-write-report-requires : tie.Need-write-report-requires
-write-report-requires c κs = search needs
-
 returns : tie.Need-returns
 returns c = rw (c .before .before .outcome .given .1, c .refusal-number .ensures)
-
-same-length : tie.Need-same-length
-same-length c = search needs
 
 returns-2 : tie.Need-returns-2
 returns-2 c =
@@ -33,10 +18,4 @@ pub export-answer-spec : {M : Type 1} → statement M
 export-answer-spec =
     tie.close
     (tie.spec
-    enum-known-outcome
-    refusal-number-requires
-    enum-known-outcome-2
-    write-report-requires
-    returns
-    same-length
-    returns-2)
+    (λ c. search needs) (λ c κs. search needs) (λ c. search needs) (λ c κs. search needs) returns (λ c. search needs) returns-2)

@@ -12,12 +12,6 @@ use Rattle.checkcalls.proofs.passes.Tie as tie
 returns : tie.Need-returns
 returns c = rw (lt-leb _ _ (c .if1 .taken))
 
-slice-aggregate-has-line : tie.Need-slice-aggregate-has-line
-slice-aggregate-has-line c = search needs
-
-has-line-requires : tie.Need-has-line-requires
-has-line-requires c κs = search needs
-
 returns-2 : tie.Need-returns-2
 unfolding text
 returns-2 c =
@@ -35,5 +29,4 @@ returns-3 c =
     rw (le-leb _ _ (found .before .before .if1 .left), lacks)
 
 pub passes-spec : {M : Type 1} → statement M
-passes-spec =
-    tie.close (tie.spec returns slice-aggregate-has-line has-line-requires returns-2 returns-3)
+passes-spec = tie.close (tie.spec returns (λ c. search needs) (λ c κs. search needs) returns-2 returns-3)

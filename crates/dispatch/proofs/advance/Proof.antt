@@ -20,18 +20,6 @@ late-from c = c .before .before
 abbrev report-from : tie.After-late-set → tie.After-after-report
 report-from c = c .before .before .before
 
-after-report-requires : tie.Need-after-report-requires
-after-report-requires c κs = search needs
-
-late-set-requires : tie.Need-late-set-requires
-late-set-requires c κs = search needs
-
-close-all-requires : tie.Need-close-all-requires
-close-all-requires c κs = search needs
-
-serve-requires : tie.Need-serve-requires
-serve-requires c κs = search needs
-
 returns : tie.Need-returns
 returns c t given empty unpacked unrefused =
     let closing = closing-from c in
@@ -42,6 +30,4 @@ returns c t given empty unpacked unrefused =
     (report .after-report .ensures) (late .late-set .ensures) (closing .close-all .ensures) (c .serve .ensures)
 
 pub advance-spec : {M : Type 1} → statement M
-advance-spec =
-    tie.close
-    (tie.spec after-report-requires late-set-requires close-all-requires serve-requires returns)
+advance-spec = tie.close (tie.spec (λ c κs. search needs) (λ c κs. search needs) (λ c κs. search needs) (λ c κs. search needs) returns)

@@ -4,12 +4,6 @@ use borrow.Author.Needs.{needs}
 use Rattle.dispatch.proofs.cannot_be_open.Statement.{statement}
 use Rattle.dispatch.proofs.cannot_be_open.Tie as tie
 
-less-requires : tie.Need-less-requires
-less-requires c κs = search needs
-
-less-requires-2 : tie.Need-less-requires-2
-less-requires-2 c κs = search needs
-
 returns : tie.Need-returns
 returns c = rw (← c .before .less .ensures, lt-ltb _ _ (c .if1 .taken))
 
@@ -17,4 +11,4 @@ returns-2 : tie.Need-returns-2
 returns-2 c = rw (c .less2 .ensures, ← c .before .before .less .ensures, le-ltb _ _ (c .before .if1 .left))
 
 pub cannot-be-open-spec : {M : Type 1} → statement M
-cannot-be-open-spec = tie.close (tie.spec less-requires less-requires-2 returns returns-2)
+cannot-be-open-spec = tie.close (tie.spec (λ c κs. search needs) (λ c κs. search needs) returns returns-2)

@@ -5,9 +5,6 @@ use native.Mathlib.Omega.{arith}
 use Rattle.dispatch.proofs.count_empty.Statement.{statement}
 use Rattle.dispatch.proofs.count_empty.Tie as tie
 
-add-result : tie.Need-add-result
-add-result c = search needs
-
 returns : tie.Need-returns
 returns c = rw (eq-eqb _ _ (c .if1 .taken))
 
@@ -15,4 +12,4 @@ returns-2 : tie.Need-returns-2
 returns-2 c = rw (ne-eqb _ _ (c .if1 .left)) (omega arith)
 
 pub count-empty-spec : {M : Type 1} → statement M
-count-empty-spec = tie.close (tie.spec add-result returns returns-2)
+count-empty-spec = tie.close (tie.spec (λ c. search needs) returns returns-2)

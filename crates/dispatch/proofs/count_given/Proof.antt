@@ -6,20 +6,8 @@ use Rattle.dispatch.specs.Accounts.{counted, counted-owner}
 use Rattle.dispatch.proofs.count_given.Statement.{statement}
 use Rattle.dispatch.proofs.count_given.Tie as tie
 
-mul-given : tie.Need-mul-given
-mul-given c = search needs
-
-element-copy-out-given : tie.Need-element-copy-out-given
-element-copy-out-given c = search needs
-
 add-given : tie.Need-add-given
 add-given c = omega (arith, c .before .before .pre (c .before .if1 .taken))
-
-mul-given-2 : tie.Need-mul-given-2
-mul-given-2 c = search needs
-
-element-write-given : tie.Need-element-write-given
-element-write-given c = search needs
 
 returns : tie.Need-returns
 returns c = counted-owner _ _ _ (c .before .if1 .taken) (omega arith)
@@ -31,4 +19,5 @@ returns-2 c = simp (le-ltb _ _ (c .if1 .left))
 pub count-given-spec : {M : Type 1} → statement M
 count-given-spec =
     tie.close
-    (tie.spec mul-given element-copy-out-given add-given mul-given-2 element-write-given returns returns-2)
+    (tie.spec
+    (λ c. search needs) (λ c. search needs) add-given (λ c. search needs) (λ c. search needs) returns returns-2)

@@ -19,27 +19,6 @@ abbrev μ-loop : tie.MeasureT-loop
 loop-holds : tie.Need-loop-holds Inv-loop μ-loop
 loop-holds c = (omega arith, λ k a b. absurd (omega arith))
 
-mul-is-strange : tie.Need-mul-is-strange Inv-loop μ-loop
-mul-is-strange c = search needs
-
-element-copy-out-is-strange : tie.Need-element-copy-out-is-strange Inv-loop μ-loop
-element-copy-out-is-strange c = search needs
-
-mul-is-strange-2 : tie.Need-mul-is-strange-2 Inv-loop μ-loop
-mul-is-strange-2 c = search needs
-
-element-copy-out-is-strange-2 : tie.Need-element-copy-out-is-strange-2 Inv-loop μ-loop
-element-copy-out-is-strange-2 c = search needs
-
-mul-is-strange-3 : tie.Need-mul-is-strange-3 Inv-loop μ-loop
-mul-is-strange-3 c = search needs
-
-element-copy-out-is-strange-3 : tie.Need-element-copy-out-is-strange-3 Inv-loop μ-loop
-element-copy-out-is-strange-3 c = search needs
-
-is-strange-requires : tie.Need-is-strange-requires Inv-loop μ-loop
-is-strange-requires c κs = search needs
-
 returns : tie.Need-returns Inv-loop μ-loop
 unfolding firstStrange
 returns c = let s = c .before in
@@ -47,12 +26,6 @@ returns c = let s = c .before in
     let p = strange (a .before .args .t2) (stateOf (a .before .args .t1)) in
     let e : p (a .loop .i) ≡ true = sym (s .is-strange .ensures) ∙ c .if1 .taken in
     sym (first-is p 0 (a .before .args .t2 .count) (a .loop .i) (omega arith) (omega arith) (rw e tt) (a .loop .inv .1))
-
-add-i : tie.Need-add-i Inv-loop μ-loop
-add-i c = search needs
-
-loop-less : tie.Need-loop-less Inv-loop μ-loop
-loop-less c = search needs
 
 loop-again : tie.Need-loop-again Inv-loop μ-loop
 loop-again c = let s = c .before in
@@ -72,18 +45,5 @@ pub first-strange-spec : {M : Type 1} → statement M
 first-strange-spec =
     tie.close
     (tie.spec
-    Inv-loop
-    μ-loop
-    loop-holds
-    mul-is-strange
-    element-copy-out-is-strange
-    mul-is-strange-2
-    element-copy-out-is-strange-2
-    mul-is-strange-3
-    element-copy-out-is-strange-3
-    is-strange-requires
-    returns
-    add-i
-    loop-less
-    loop-again
-    returns-2)
+    Inv-loop μ-loop loop-holds (λ c. search needs) (λ c. search needs) (λ c. search needs) (λ c. search needs) (λ c. search needs)
+    (λ c. search needs) (λ c κs. search needs) returns (λ c. search needs) (λ c. search needs) loop-again returns-2)

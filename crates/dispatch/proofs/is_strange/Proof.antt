@@ -4,17 +4,11 @@ use borrow.Author.Needs.{needs}
 use Rattle.dispatch.proofs.is_strange.Statement.{statement}
 use Rattle.dispatch.proofs.is_strange.Tie as tie
 
-waits-too-long-requires : tie.Need-waits-too-long-requires
-waits-too-long-requires c κs = search needs
-
 returns : tie.Need-returns
 returns c = rw (← c .before .waits-too-long .ensures, c .if1 .taken)
 
 returns-2 : tie.Need-returns-2
 returns-2 c = let e = c .before .before in rw (← e .before .waits-too-long .ensures, e .if1 .left, lt-ltb _ _ (c .if2 .taken))
-
-cannot-be-open-requires : tie.Need-cannot-be-open-requires
-cannot-be-open-requires c κs = search needs
 
 returns-3 : tie.Need-returns-3
 returns-3 c = let n = c .before .before in
@@ -27,12 +21,4 @@ returns-4 c = let n = c .before in
     rw (← e .before .waits-too-long .ensures, e .if1 .left, le-ltb _ _ (n .if2 .left), le-ltb _ _ (c .if3 .left))
 
 pub is-strange-spec : {M : Type 1} → statement M
-is-strange-spec =
-    tie.close
-    (tie.spec
-    waits-too-long-requires
-    returns
-    returns-2
-    cannot-be-open-requires
-    returns-3
-    returns-4)
+is-strange-spec = tie.close (tie.spec (λ c κs. search needs) returns returns-2 (λ c κs. search needs) returns-3 returns-4)

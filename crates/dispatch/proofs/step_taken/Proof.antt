@@ -26,9 +26,6 @@ count-given-requires c κs = let a = moved-from c in
     let (t, unpacked, unrefused) = a .before .before .before .before .pre in
     owner-room t _ _ unrefused _ (moved a t unpacked unrefused)
 
-turn-of-requires : tie.Need-turn-of-requires
-turn-of-requires c κs = search needs
-
 count-empty-requires : tie.Need-count-empty-requires
 unfolding slotCount
 count-empty-requires c κs = let a = moved-from (c .before .before) in
@@ -43,6 +40,4 @@ returns c t unpacked unrefused =
     (counted .count-given .ensures) (c .before .turn-of .ensures) (c .count-empty .ensures)
 
 pub step-taken-spec : {M : Type 1} → statement M
-step-taken-spec =
-    tie.close
-    (tie.spec advance-requires count-given-requires turn-of-requires count-empty-requires returns)
+step-taken-spec = tie.close (tie.spec advance-requires count-given-requires (λ c κs. search needs) count-empty-requires returns)

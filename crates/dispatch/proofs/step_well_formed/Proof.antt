@@ -9,18 +9,6 @@ use Rattle.dispatch.specs.Accounts.{refused-tells}
 use Rattle.dispatch.proofs.step_well_formed.Statement.{statement}
 use Rattle.dispatch.proofs.step_well_formed.Tie as tie
 
-belonging-requires : tie.Need-belonging-requires
-belonging-requires c κs = search needs
-
-enum-known-why : tie.Need-enum-known-why
-enum-known-why c = search needs
-
-handed-back-requires : tie.Need-handed-back-requires
-handed-back-requires c κs = search needs
-
-enum-known-room : tie.Need-enum-known-room
-enum-known-room c = search needs
-
 step-admitted-requires : tie.Need-step-admitted-requires
 step-admitted-requires c κs = (c .before .before .before .before .pre, sym (c .before .before .before .belonging .ensures) ∙ c .before .room .given .1)
 
@@ -38,10 +26,4 @@ pub step-well-formed-spec : {M : Type 1} → statement M
 step-well-formed-spec =
     tie.close
     (tie.spec
-    belonging-requires
-    enum-known-why
-    handed-back-requires
-    enum-known-room
-    step-admitted-requires
-    returns
-    returns-2)
+    (λ c κs. search needs) (λ c. search needs) (λ c κs. search needs) (λ c. search needs) step-admitted-requires returns returns-2)

@@ -5,9 +5,6 @@ use Rattle.dispatch.specs.Strange.{above-both}
 use Rattle.dispatch.proofs.waits_too_long.Statement.{statement}
 use Rattle.dispatch.proofs.waits_too_long.Tie as tie
 
-offset-of-requires : tie.Need-offset-of-requires
-offset-of-requires c κs = search needs
-
 returns : tie.Need-returns
 returns c = let o = c .before .before in simp (above-both, ← o .offset-of .ensures, lt-ltb _ _ (c .before .if1 .taken))
 
@@ -15,4 +12,4 @@ returns-2 : tie.Need-returns-2
 returns-2 c = simp (above-both, ← c .before .offset-of .ensures, le-ltb _ _ (c .if1 .left))
 
 pub waits-too-long-spec : {M : Type 1} → statement M
-waits-too-long-spec = tie.close (tie.spec offset-of-requires returns returns-2)
+waits-too-long-spec = tie.close (tie.spec (λ c κs. search needs) returns returns-2)

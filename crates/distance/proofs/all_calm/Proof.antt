@@ -7,14 +7,8 @@ use Rattle.distance.specs.Passing.{quick-decides, quick-calm}
 use Rattle.distance.proofs.all_calm.Statement.{statement}
 use Rattle.distance.proofs.all_calm.Tie as tie
 
-passes-requires : tie.Need-passes-requires
-passes-requires c κs = search needs
-
 some-periodic-requires : tie.Need-some-periodic-requires
 some-periodic-requires c κs = well-mixed _ _ (c .before .before .pre .0) .ranged
-
-each-calm-requires : tie.Need-each-calm-requires
-each-calm-requires c κs = search needs
 
 returns : tie.Need-returns
 returns c = rw (← c .before .before .some-periodic .ensures, c .before .if2 .taken) (c .each-calm .ensures)
@@ -28,4 +22,4 @@ returns-2 c =
     ]
 
 pub all-calm-spec : {M : Type 1} → statement M
-all-calm-spec = tie.close (tie.spec passes-requires some-periodic-requires each-calm-requires returns returns-2)
+all-calm-spec = tie.close (tie.spec (λ c κs. search needs) some-periodic-requires (λ c κs. search needs) returns returns-2)

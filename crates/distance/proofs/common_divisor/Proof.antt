@@ -7,9 +7,6 @@ use Rattle.patterns.specs.Distance.{divisor-is}
 use Rattle.distance.proofs.common_divisor.Statement.{statement}
 use Rattle.distance.proofs.common_divisor.Tie as tie
 
-divisor-requires : tie.Need-divisor-requires
-divisor-requires c κs = search needs
-
 cast-result : tie.Need-cast-result
 cast-result c = omega (arith, le-of-dvd (c .before .pre) (c .divisor .ensures .divides-left))
 
@@ -17,4 +14,4 @@ returns : tie.Need-returns
 returns c = gcd-unique (c .divisor .ensures) (divisor-is _ _ (c .before .pre))
 
 pub common-divisor-spec : {M : Type 1} → statement M
-common-divisor-spec = tie.close (tie.spec divisor-requires cast-result returns)
+common-divisor-spec = tie.close (tie.spec (λ c κs. search needs) cast-result returns)

@@ -5,12 +5,6 @@ use Rattle.distance.specs.Machine.{seen, diff-fits}
 use Rattle.distance.proofs.difference.Statement.{statement}
 use Rattle.distance.proofs.difference.Tie as tie
 
-signed-requires : tie.Need-signed-requires
-signed-requires c κs = search needs
-
-signed-requires-2 : tie.Need-signed-requires-2
-signed-requires-2 c κs = search needs
-
 sub-result : tie.Need-sub-result
 sub-result c =
     let x = c .before .signed .ensures in
@@ -24,4 +18,4 @@ returns c =
     rw (seen _ _ (x .0) (x .1), seen _ _ (y .0) (y .1)) (toZ-ofZ (diff-fits _ _ (x .1) (y .1)))
 
 pub difference-spec : {M : Type 1} → statement M
-difference-spec = tie.close (tie.spec signed-requires signed-requires-2 sub-result returns)
+difference-spec = tie.close (tie.spec (λ c κs. search needs) (λ c κs. search needs) sub-result returns)

@@ -10,24 +10,12 @@ use Rattle.distance.specs.Passing.{divisor-pos}
 use Rattle.distance.proofs.distance_of.Statement.{statement}
 use Rattle.distance.proofs.distance_of.Tie as tie
 
-is-button-requires : tie.Need-is-button-requires
-is-button-requires c κs = search needs
-
 returns : tie.Need-returns
 unfolding distance
 returns c = rw (← c .before .is-button .ensures, c .if1 .taken)
 
 common-divisor-requires : tie.Need-common-divisor-requires
 common-divisor-requires c κs = c .before .before .pre .0
-
-offset-of-requires : tie.Need-offset-of-requires
-offset-of-requires c κs = search needs
-
-offset-of-requires-2 : tie.Need-offset-of-requires-2
-offset-of-requires-2 c κs = search needs
-
-difference-requires : tie.Need-difference-requires
-difference-requires c κs = search needs
 
 reduced-requires : tie.Need-reduced-requires
 reduced-requires c κs =
@@ -51,11 +39,5 @@ pub distance-of-spec : {M : Type 1} → statement M
 distance-of-spec =
     tie.close
     (tie.spec
-    is-button-requires
-    returns
-    common-divisor-requires
-    offset-of-requires
-    offset-of-requires-2
-    difference-requires
-    reduced-requires
-    returns-2)
+    (λ c κs. search needs) returns common-divisor-requires (λ c κs. search needs) (λ c κs. search needs) (λ c κs. search needs)
+    reduced-requires returns-2)

@@ -16,17 +16,11 @@ Inv-loop i t n first start₀ k₀ start k = (n ≡ t .count) × (first ≡ task
 abbrev μ-loop : tie.MeasureT-loop
 μ-loop i t n first start₀ k₀ start k = n - k
 
-mul-first : tie.Need-mul-first Inv-loop μ-loop
-mul-first c = search needs
-
 element-copy-out-first : tie.Need-element-copy-out-first Inv-loop μ-loop
 element-copy-out-first c = omega (arith, c .pre .0 .few, c .pre .1)
 
 loop-holds : tie.Need-loop-holds Inv-loop μ-loop
 loop-holds c = (refl, refl, omega arith, fill-none _ _)
-
-mul-distance-of : tie.Need-mul-distance-of Inv-loop μ-loop
-mul-distance-of c = search needs
 
 element-copy-out-distance-of : tie.Need-element-copy-out-distance-of Inv-loop μ-loop
 element-copy-out-distance-of c = omega (arith, c .before .before .before .pre .0 .few)
@@ -38,17 +32,8 @@ distance-of-requires c κs =
     let r = s .pre .0 in
     (rw (a .loop .inv .1) (r .each _ (s .pre .1) .period-pos), r .each _ (c .before .loop-test .taken) .period-pos)
 
-mul-start : tie.Need-mul-start Inv-loop μ-loop
-mul-start c = search needs
-
 array-write-start : tie.Need-array-write-start Inv-loop μ-loop
 array-write-start c = omega (arith, c .before .before .before .before .before .pre .0 .few)
-
-add-k : tie.Need-add-k Inv-loop μ-loop
-add-k c = search needs
-
-loop-less : tie.Need-loop-less Inv-loop μ-loop
-loop-less c = search needs
 
 loop-again : tie.Need-loop-again Inv-loop μ-loop
 loop-again c =
@@ -62,17 +47,5 @@ pub distances-spec : {M : Type 1} → statement M
 distances-spec =
     tie.close
     (tie.spec
-    Inv-loop
-    μ-loop
-    mul-first
-    element-copy-out-first
-    loop-holds
-    mul-distance-of
-    element-copy-out-distance-of
-    distance-of-requires
-    mul-start
-    array-write-start
-    add-k
-    loop-less
-    loop-again
-    returns)
+    Inv-loop μ-loop (λ c. search needs) element-copy-out-first loop-holds (λ c. search needs) element-copy-out-distance-of
+    distance-of-requires (λ c. search needs) array-write-start (λ c. search needs) (λ c. search needs) loop-again returns)

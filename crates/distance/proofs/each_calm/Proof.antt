@@ -38,12 +38,6 @@ returns c =
     let a = p .before in
     one-fails (stands (table a)) (table a .count) (a .before .loop .i) (a .loop-test .taken) (subst T (sym (p .pattern-calm .ensures) ∙ not-true _ (c .if1 .taken)))
 
-add-i : tie.Need-add-i Inv-loop μ-loop
-add-i c = search needs
-
-loop-less : tie.Need-loop-less Inv-loop μ-loop
-loop-less c = search needs
-
 loop-again : tie.Need-loop-again Inv-loop μ-loop
 loop-again c =
     let p = c .before in
@@ -60,12 +54,4 @@ pub each-calm-spec : {M : Type 1} → statement M
 each-calm-spec =
     tie.close
     (tie.spec
-    Inv-loop
-    μ-loop
-    loop-holds
-    pattern-calm-requires
-    returns
-    add-i
-    loop-less
-    loop-again
-    returns-2)
+    Inv-loop μ-loop loop-holds pattern-calm-requires returns (λ c. search needs) (λ c. search needs) loop-again returns-2)

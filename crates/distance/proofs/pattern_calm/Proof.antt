@@ -27,9 +27,6 @@ mul-is-button c = omega (arith, c .pre .1 .1, ranged c .few)
 element-copy-out-is-button : tie.Need-element-copy-out-is-button
 element-copy-out-is-button c = omega (arith, c .pre .1 .1, ranged c .few)
 
-is-button-requires : tie.Need-is-button-requires
-is-button-requires c κs = search needs
-
 returns : tie.Need-returns
 returns c = rw (← c .before .is-button .ensures, c .if1 .taken)
 
@@ -53,11 +50,4 @@ pub pattern-calm-spec : {M : Type 1} → statement M
 pattern-calm-spec =
     tie.close
     (tie.spec
-    mul-is-button
-    element-copy-out-is-button
-    is-button-requires
-    returns
-    distances-requires
-    starting-requires
-    is-calm-requires
-    returns-2)
+    mul-is-button element-copy-out-is-button (λ c κs. search needs) returns distances-requires starting-requires is-calm-requires returns-2)

@@ -34,12 +34,6 @@ kept c =
 small : (c : tie.Start) → reduced (c .args .z) (c .args .g) < 2 ^ 32
 small c = omega (arith, reduced-lt (c .args .z) (c .args .g) (c .pre))
 
-remainder-requires : tie.Need-remainder-requires
-remainder-requires c κs = search needs
-
-signed-requires : tie.Need-signed-requires
-signed-requires c κs = search needs
-
 add-result : tie.Need-add-result
 add-result c = pos-fits _ _ (sum c) (small (c .before .before .before))
 
@@ -56,13 +50,4 @@ returns-2 : tie.Need-returns-2
 returns-2 c = cast-is _ _ (kept c) (small (c .before .before))
 
 pub reduced-spec : {M : Type 1} → statement M
-reduced-spec =
-    tie.close
-    (tie.spec
-    remainder-requires
-    signed-requires
-    add-result
-    cast-result
-    cast-result-2
-    returns
-    returns-2)
+reduced-spec = tie.close (tie.spec (λ c κs. search needs) (λ c κs. search needs) add-result cast-result cast-result-2 returns returns-2)

@@ -5,9 +5,6 @@ use Rattle.distance.specs.Machine.{seen, quot-fits, rem-fits}
 use Rattle.distance.proofs.remainder.Statement.{statement}
 use Rattle.distance.proofs.remainder.Tie as tie
 
-signed-requires : tie.Need-signed-requires
-signed-requires c κs = search needs
-
 rem-result : tie.Need-rem-result
 rem-result c =
     let y = c .signed .ensures in
@@ -19,4 +16,4 @@ returns c =
     rw (seen _ _ (y .0) (y .1), toZ-ofZ (c .before .fits .z)) (toZ-ofZ (rem-fits _ _ (c .before .fits .z)))
 
 pub remainder-spec : {M : Type 1} → statement M
-remainder-spec = tie.close (tie.spec signed-requires rem-result returns)
+remainder-spec = tie.close (tie.spec (λ c κs. search needs) rem-result returns)

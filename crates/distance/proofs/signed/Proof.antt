@@ -6,11 +6,8 @@ use mir.Facts.{toZ-pos}
 use Rattle.distance.proofs.signed.Statement.{statement}
 use Rattle.distance.proofs.signed.Tie as tie
 
-cast-result : tie.Need-cast-result
-cast-result c = search needs
-
 returns : tie.Need-returns
 returns c = (toZ-pos w64 (omega arith), omega arith)
 
 pub signed-spec : {M : Type 1} → statement M
-signed-spec = tie.close (tie.spec cast-result returns)
+signed-spec = tie.close (tie.spec (λ c. search needs) returns)

@@ -24,14 +24,8 @@ abbrev μ-loop : tie.MeasureT-loop
 loop-holds : tie.Need-loop-holds Inv-loop μ-loop
 loop-holds c = (refl, omega arith, λ k l. absurd (omega arith))
 
-mul-is-button : tie.Need-mul-is-button Inv-loop μ-loop
-mul-is-button c = search needs
-
 element-copy-out-is-button : tie.Need-element-copy-out-is-button Inv-loop μ-loop
 element-copy-out-is-button c = omega (arith, c .before .before .pre .few, c .before .loop .inv .0, c .loop-test .taken)
-
-is-button-requires : tie.Need-is-button-requires Inv-loop μ-loop
-is-button-requires c κs = search needs
 
 returns : tie.Need-returns Inv-loop μ-loop
 returns c =
@@ -39,12 +33,6 @@ returns c =
     let a = b .before .before in
     let t = a .before .before .args .t1 in
     one-passes (periodic t) (t .count) (a .before .loop .i) (omega (arith, a .before .loop .inv .0, a .loop-test .taken)) (rw (← b .is-button .ensures, c .if1 .taken) tt)
-
-add-i : tie.Need-add-i Inv-loop μ-loop
-add-i c = search needs
-
-loop-less : tie.Need-loop-less Inv-loop μ-loop
-loop-less c = search needs
 
 loop-again : tie.Need-loop-again Inv-loop μ-loop
 loop-again c =
@@ -63,14 +51,5 @@ pub some-periodic-spec : {M : Type 1} → statement M
 some-periodic-spec =
     tie.close
     (tie.spec
-    Inv-loop
-    μ-loop
-    loop-holds
-    mul-is-button
-    element-copy-out-is-button
-    is-button-requires
-    returns
-    add-i
-    loop-less
-    loop-again
-    returns-2)
+    Inv-loop μ-loop loop-holds (λ c. search needs) element-copy-out-is-button (λ c κs. search needs) returns (λ c. search needs)
+    (λ c. search needs) loop-again returns-2)

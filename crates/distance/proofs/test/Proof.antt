@@ -8,15 +8,6 @@ use Rattle.distance.specs.Passing.{is-heavy, is-light}
 use Rattle.distance.proofs.test.Statement.{statement}
 use Rattle.distance.proofs.test.Tie as tie
 
-judge-mixed-requires : tie.Need-judge-mixed-requires
-judge-mixed-requires c κs = search needs
-
-enum-known-why : tie.Need-enum-known-why
-enum-known-why c = search needs
-
-enum-known-m : tie.Need-enum-known-m
-enum-known-m c = search needs
-
 -- The table is well-formed where its measures are looked at.
 well : (c : tie.After-m) → judgedMixed (c .before .before .before .args .t) ≡ Judgement.WellFormed (c .m .given .0 .0)
 well c = sym (c .before .before .judge-mixed .ensures) ∙ c .m .given .1
@@ -52,11 +43,4 @@ pub test-spec : {M : Type 1} → statement M
 test-spec =
     tie.close
     (tie.spec
-    judge-mixed-requires
-    enum-known-why
-    enum-known-m
-    all-calm-requires
-    returns
-    returns-2
-    returns-3
-    returns-4)
+    (λ c κs. search needs) (λ c. search needs) (λ c. search needs) all-calm-requires returns returns-2 returns-3 returns-4)

@@ -13,21 +13,6 @@ returns c = gcd-none (omega arith) (omega arith)
 returns-2 : tie.Need-returns-2
 returns-2 c = let none : c .before .before .args .b ≡ 0 = omega arith in rw none (gcd-zero _)
 
-odd-part-requires : tie.Need-odd-part-requires
-odd-part-requires c κs = search needs
-
-odd-part-requires-2 : tie.Need-odd-part-requires-2
-odd-part-requires-2 c κs = search needs
-
-odd-divisor-requires : tie.Need-odd-divisor-requires
-odd-divisor-requires c κs = search needs
-
-shared-twos-requires : tie.Need-shared-twos-requires
-shared-twos-requires c κs = search needs
-
-cast-result : tie.Need-cast-result
-cast-result c = search needs
-
 shl-result : tie.Need-shl-result
 shl-result c = omega (arith, c .shared-twos .ensures, zeros-lt 64 (c .before .before .before .before .before .before .args .a) (omega arith) (omega arith))
 
@@ -36,4 +21,8 @@ returns-3 c =
     gcd-shifted (omega arith) (c .before .before .before .odd-part .ensures) (c .before .before .odd-part2 .ensures) (c .before .odd-divisor .ensures) (omega (arith, c .shared-twos .ensures))
 
 pub divisor-spec : {M : Type 1} → statement M
-divisor-spec = tie.close (tie.spec returns returns-2 odd-part-requires odd-part-requires-2 odd-divisor-requires shared-twos-requires cast-result shl-result returns-3)
+divisor-spec =
+    tie.close
+    (tie.spec
+    returns returns-2 (λ c κs. search needs) (λ c κs. search needs) (λ c κs. search needs) (λ c κs. search needs) (λ c. search needs)
+    shl-result returns-3)

@@ -39,4 +39,7 @@ returns : tie.Need-returns Inv-loop μ-loop
 returns c = odds-end (c .before .loop .inv) (omega arith)
 
 pub odd-divisor-spec : {M : Type 1} → statement M
-odd-divisor-spec = tie.close (tie.spec Inv-loop μ-loop loop-holds sub-odd-part odd-part-requires loop-less loop-again odd-part-requires-2 loop-less-2 loop-again-2 returns)
+odd-divisor-spec =
+    tie.close
+    (tie.spec
+    Inv-loop μ-loop loop-holds sub-odd-part odd-part-requires loop-less loop-again odd-part-requires-2 loop-less-2 loop-again-2 returns)

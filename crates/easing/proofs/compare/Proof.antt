@@ -21,9 +21,6 @@ found c = let a = c .before .before .before in next-is (a .before .args .old) (a
 loop-holds : tie.Need-loop-holds Inv-loop μ-loop
 loop-holds c = (refl, refl, omega arith, begin (c .args .old) (c .args .t2))
 
-mul-next-eased : tie.Need-mul-next-eased Inv-loop μ-loop
-mul-next-eased c = search needs
-
 element-copy-out-next-eased : tie.Need-element-copy-out-next-eased Inv-loop μ-loop
 element-copy-out-next-eased c = omega (arith, c .before .before .pre)
 
@@ -46,12 +43,6 @@ with-task-requires c κs =
 add-from : tie.Need-add-from Inv-loop μ-loop
 add-from c = omega (arith, c .before .before .before .before .before .before .pre .0, c .before .if1 .left)
 
-add-i : tie.Need-add-i Inv-loop μ-loop
-add-i c = search needs
-
-loop-less : tie.Need-loop-less Inv-loop μ-loop
-loop-less c = search needs
-
 loop-again : tie.Need-loop-again Inv-loop μ-loop
 loop-again c =
     let a = c .before .before .before .before .before in
@@ -66,17 +57,5 @@ pub compare-spec : {M : Type 1} → statement M
 compare-spec =
     tie.close
     (tie.spec
-    Inv-loop
-    μ-loop
-    loop-holds
-    mul-next-eased
-    element-copy-out-next-eased
-    next-eased-requires
-    cast-t15
-    returns
-    with-task-requires
-    add-from
-    add-i
-    loop-less
-    loop-again
-    returns-2)
+    Inv-loop μ-loop loop-holds (λ c. search needs) element-copy-out-next-eased next-eased-requires cast-t15 returns with-task-requires
+    add-from (λ c. search needs) (λ c. search needs) loop-again returns-2)

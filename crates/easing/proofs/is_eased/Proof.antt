@@ -5,12 +5,6 @@ use Rattle.easing.specs.Searching.{not-eased, is-eased}
 use Rattle.easing.proofs.is_eased.Statement.{statement}
 use Rattle.easing.proofs.is_eased.Tie as tie
 
-offset-of-requires : tie.Need-offset-of-requires
-offset-of-requires c κs = search needs
-
-offset-of-requires-2 : tie.Need-offset-of-requires-2
-offset-of-requires-2 c κs = search needs
-
 returns : tie.Need-returns
 returns c = let s = c .before .before .before .args in not-eased (s .old) (s .new) (λ e. absurd (omega (arith, e .same-offset, c .if1 .taken, c .before .offset-of2 .ensures, c .before .before .offset-of .ensures)))
 
@@ -30,4 +24,4 @@ returns-5 c =
     is-eased (s .old) (s .new) (record { same-offset = omega (arith, b .offset-of2 .ensures, b .before .offset-of .ensures); same-period = omega arith; lower-cost = omega arith; longer-deadline = omega arith })
 
 pub is-eased-spec : {M : Type 1} → statement M
-is-eased-spec = tie.close (tie.spec offset-of-requires offset-of-requires-2 returns returns-2 returns-3 returns-4 returns-5)
+is-eased-spec = tie.close (tie.spec (λ c κs. search needs) (λ c κs. search needs) returns returns-2 returns-3 returns-4 returns-5)

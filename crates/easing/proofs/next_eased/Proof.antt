@@ -25,14 +25,8 @@ abbrev μ-loop : tie.MeasureT-loop
 loop-holds : tie.Need-loop-holds Inv-loop μ-loop
 loop-holds c = (refl, omega arith, omega arith, λ i a b. absurd (omega arith))
 
-mul-is-eased : tie.Need-mul-is-eased Inv-loop μ-loop
-mul-is-eased c = search needs
-
 element-copy-out-is-eased : tie.Need-element-copy-out-is-eased Inv-loop μ-loop
 element-copy-out-is-eased c = omega (arith, c .before .before .pre)
-
-is-eased-requires : tie.Need-is-eased-requires Inv-loop μ-loop
-is-eased-requires c κs = search needs
 
 returns : tie.Need-returns Inv-loop μ-loop
 returns c =
@@ -40,12 +34,6 @@ returns c =
     let s = a .before .args in
     let found = subst T (sym (c .if1 .taken) ∙ c .before .is-eased .ensures) tt in
     sym (first-is (eased (s .t1) (s .k)) (s .from) (s .t1 .count - s .from) (a .loop .i) (a .loop .inv .1) (omega (arith, a .loop .inv .1)) found (a .loop .inv .3))
-
-add-i : tie.Need-add-i Inv-loop μ-loop
-add-i c = search needs
-
-loop-less : tie.Need-loop-less Inv-loop μ-loop
-loop-less c = search needs
 
 loop-again : tie.Need-loop-again Inv-loop μ-loop
 loop-again c =
@@ -63,14 +51,5 @@ pub next-eased-spec : {M : Type 1} → statement M
 next-eased-spec =
     tie.close
     (tie.spec
-    Inv-loop
-    μ-loop
-    loop-holds
-    mul-is-eased
-    element-copy-out-is-eased
-    is-eased-requires
-    returns
-    add-i
-    loop-less
-    loop-again
-    returns-2)
+    Inv-loop μ-loop loop-holds (λ c. search needs) element-copy-out-is-eased (λ c κs. search needs) returns (λ c. search needs)
+    (λ c. search needs) loop-again returns-2)

@@ -5,14 +5,8 @@ use Rattle.counting.specs.Bits.{set-bit}
 use Rattle.easing.proofs.with_task.Statement.{statement}
 use Rattle.easing.proofs.with_task.Tie as tie
 
-cast-result : tie.Need-cast-result
-cast-result c = search needs
-
-shl-result : tie.Need-shl-result
-shl-result c = search needs
-
 returns : tie.Need-returns
 returns c = set-bit _ _ (omega arith) (c .pre .1)
 
 pub with-task-spec : {M : Type 1} → statement M
-with-task-spec = tie.close (tie.spec cast-result shl-result returns)
+with-task-spec = tie.close (tie.spec (λ c. search needs) (λ c. search needs) returns)

@@ -8,9 +8,6 @@ use Rattle.exact.proofs.first_idle.Tie as tie
 returns : tie.Need-returns
 returns c = let s = c .before .args in rw (lt-ltb 0 (s .idle) (omega arith))
 
-none-left-requires : tie.Need-none-left-requires
-none-left-requires c κs = search needs
-
 returns-2 : tie.Need-returns-2
 returns-2 c = let s = c .before .before .before .args in rw (le-ltb 0 (s .idle) (omega arith), ← c .before .none-left .ensures, c .if2 .taken)
 
@@ -18,4 +15,4 @@ returns-3 : tie.Need-returns-3
 returns-3 c = let s = c .before .before .before .args in rw (le-ltb 0 (s .idle) (omega arith), ← c .before .none-left .ensures, c .if2 .left)
 
 pub first-idle-spec : {M : Type 1} → statement M
-first-idle-spec = tie.close (tie.spec returns none-left-requires returns-2 returns-3)
+first-idle-spec = tie.close (tie.spec returns (λ c κs. search needs) returns-2 returns-3)

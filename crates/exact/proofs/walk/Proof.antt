@@ -63,9 +63,6 @@ light c = let f = facts c in omega (arith, c .before .before .before .before .be
 abbrev home : tie.After-struct-known Inv-loop μ-loop Inv-search μ-search → tie.At-search Inv-loop μ-loop Inv-search μ-search
 home c = c .before .before .before .before .before .before .before .before
 
-smaller-requires : tie.Need-smaller-requires Inv-loop μ-loop Inv-search μ-search
-smaller-requires c κs = search needs
-
 unpack-requires : tie.Need-unpack-requires Inv-loop μ-loop Inv-search μ-search
 unpack-requires c κs = well-formed _ _ (c .before .pre .0) .ranged
 
@@ -81,17 +78,11 @@ search-holds c =
 serve-requires : tie.Need-serve-requires Inv-loop μ-loop Inv-search μ-search
 serve-requires c κs = facts (c .before .before .before .before .before .before) .ranged .few
 
-note-requires : tie.Need-note-requires Inv-loop μ-loop Inv-search μ-search
-note-requires c κs = search needs
-
 add-at : tie.Need-add-at Inv-loop μ-loop Inv-search μ-search
 add-at c = let a = home (c .before .before .before .before .before .before .before) in let f = facts a in omega (arith, f .horizon-is, f .horizon-le, a .search .inv .0 .1)
 
 first-idle-requires : tie.Need-first-idle-requires Inv-loop μ-loop Inv-search μ-search
 first-idle-requires c κs = facts (home (c .before .before .before .before .before .before .before .before)) .ranged .few
-
-search-less : tie.Need-search-less Inv-loop μ-loop Inv-search μ-search
-search-less c = search needs
 
 search-again : tie.Need-search-again Inv-loop μ-loop Inv-search μ-search
 search-again c =
@@ -167,9 +158,6 @@ loop-again c =
       none-between (table a) (facts a .ranged) (light a) (v .0) (omega (arith, v .1, v .2)) (b .start-before .ensures .1) (v .3),
     )
 
-conclude-requires : tie.Need-conclude-requires Inv-loop μ-loop Inv-search μ-search
-conclude-requires c κs = search needs
-
 returns : tie.Need-returns Inv-loop μ-loop Inv-search μ-search
 returns c =
     let a = home (c .before .before) in
@@ -186,29 +174,6 @@ pub walk-spec : {M : Type 1} → statement M
 walk-spec =
     tie.close
     (tie.spec
-    Inv-loop
-    μ-loop
-    Inv-search
-    μ-search
-    smaller-requires
-    unpack-requires
-    offsets-requires
-    search-holds
-    serve-requires
-    note-requires
-    add-at
-    first-idle-requires
-    search-less
-    search-again
-    loop-holds
-    search-less-2
-    search-again-2
-    sub-start-before
-    sub-start-before-2
-    start-before-requires
-    demand-requires
-    sub-if3
-    loop-less
-    loop-again
-    conclude-requires
-    returns)
+    Inv-loop μ-loop Inv-search μ-search (λ c κs. search needs) unpack-requires offsets-requires search-holds serve-requires
+    (λ c κs. search needs) add-at first-idle-requires (λ c. search needs) search-again loop-holds search-less-2 search-again-2
+    sub-start-before sub-start-before-2 start-before-requires demand-requires sub-if3 loop-less loop-again (λ c κs. search needs) returns)

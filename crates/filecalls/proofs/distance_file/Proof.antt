@@ -5,24 +5,6 @@ use Rattle.model.specs.Report.{fileNumber, distanceNumber}
 use Rattle.filecalls.proofs.distance_file.Statement.{statement}
 use Rattle.filecalls.proofs.distance_file.Tie as tie
 
-form-of-requires : tie.Need-form-of-requires
-form-of-requires c κs = search needs
-
-enum-known-admission : tie.Need-enum-known-admission
-enum-known-admission c = search needs
-
-refusal-number-requires : tie.Need-refusal-number-requires
-refusal-number-requires c κs = search needs
-
-enum-told : tie.Need-enum-told
-enum-told c = search needs
-
-test-requires : tie.Need-test-requires
-test-requires c κs = search needs
-
-distance-number-requires : tie.Need-distance-number-requires
-distance-number-requires c κs = search needs
-
 returns : tie.Need-returns
 returns c =
     let known = c .before .before in
@@ -38,11 +20,5 @@ pub distance-file-spec : {M : Type 1} → statement M
 distance-file-spec =
     tie.close
     (tie.spec
-    form-of-requires
-    enum-known-admission
-    refusal-number-requires
-    enum-told
-    test-requires
-    distance-number-requires
-    returns
-    returns-2)
+    (λ c κs. search needs) (λ c. search needs) (λ c κs. search needs) (λ c. search needs) (λ c κs. search needs) (λ c κs. search needs)
+    returns returns-2)

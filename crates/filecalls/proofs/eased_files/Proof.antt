@@ -4,18 +4,6 @@ use Rattle.tablefile.specs.Periodic.{few-periodic}
 use Rattle.filecalls.proofs.eased_files.Statement.{statement}
 use Rattle.filecalls.proofs.eased_files.Tie as tie
 
-read-periodic-requires : tie.Need-read-periodic-requires
-read-periodic-requires c κs = search needs
-
-enum-known-admission : tie.Need-enum-known-admission
-enum-known-admission c = search needs
-
-refused-file-requires : tie.Need-refused-file-requires
-refused-file-requires c κs = search needs
-
-enum-told : tie.Need-enum-told
-enum-told c = search needs
-
 eased-from-requires : tie.Need-eased-from-requires
 eased-from-requires c κs = few-periodic _ (c .before .before .before .read-periodic .ensures) (c .before .enum-told .given .1)
 
@@ -33,10 +21,4 @@ pub eased-files-spec : {M : Type 1} → statement M
 eased-files-spec =
     tie.close
     (tie.spec
-    read-periodic-requires
-    enum-known-admission
-    refused-file-requires
-    enum-told
-    eased-from-requires
-    returns
-    returns-2)
+    (λ c κs. search needs) (λ c. search needs) (λ c κs. search needs) (λ c. search needs) eased-from-requires returns returns-2)

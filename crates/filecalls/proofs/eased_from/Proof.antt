@@ -6,23 +6,8 @@ use Rattle.tablefile.specs.Periodic.{few-periodic}
 use Rattle.filecalls.proofs.eased_from.Statement.{statement}
 use Rattle.filecalls.proofs.eased_from.Tie as tie
 
-read-periodic-requires : tie.Need-read-periodic-requires
-read-periodic-requires c κs = search needs
-
-enum-known-admission : tie.Need-enum-known-admission
-enum-known-admission c = search needs
-
-refused-file-requires : tie.Need-refused-file-requires
-refused-file-requires c κs = search needs
-
-enum-told : tie.Need-enum-told
-enum-told c = search needs
-
 compare-requires : tie.Need-compare-requires
 compare-requires c κs = (c .before .before .before .before .before .pre, few-periodic _ (c .before .before .before .read-periodic .ensures) (c .before .enum-told .given .1))
-
-easing-number-requires : tie.Need-easing-number-requires
-easing-number-requires c κs = search needs
 
 returns : tie.Need-returns
 returns c =
@@ -38,11 +23,5 @@ pub eased-from-spec : {M : Type 1} → statement M
 eased-from-spec =
     tie.close
     (tie.spec
-    read-periodic-requires
-    enum-known-admission
-    refused-file-requires
-    enum-told
-    compare-requires
-    easing-number-requires
-    returns
+    (λ c κs. search needs) (λ c. search needs) (λ c κs. search needs) (λ c. search needs) compare-requires (λ c κs. search needs) returns
     returns-2)

@@ -7,27 +7,6 @@ use Rattle.model.specs.Largest.{costAnswer, costNumber}
 use Rattle.filecalls.proofs.largest_file.Statement.{statement}
 use Rattle.filecalls.proofs.largest_file.Tie as tie
 
-form-of-requires : tie.Need-form-of-requires
-form-of-requires c κs = search needs
-
-enum-known-admission : tie.Need-enum-known-admission
-enum-known-admission c = search needs
-
-refusal-number-requires : tie.Need-refusal-number-requires
-refusal-number-requires c κs = search needs
-
-enum-told : tie.Need-enum-told
-enum-told c = search needs
-
-tellable-task-requires : tie.Need-tellable-task-requires
-tellable-task-requires c κs = search needs
-
-largest-cost-requires : tie.Need-largest-cost-requires
-largest-cost-requires c κs = search needs
-
-cost-number-requires : tie.Need-cost-number-requires
-cost-number-requires c κs = search needs
-
 returns : tie.Need-returns
 returns c =
     let known = c .before .before in
@@ -45,12 +24,5 @@ pub largest-file-spec : {M : Type 1} → statement M
 largest-file-spec =
     tie.close
     (tie.spec
-    form-of-requires
-    enum-known-admission
-    refusal-number-requires
-    enum-told
-    tellable-task-requires
-    largest-cost-requires
-    cost-number-requires
-    returns
-    returns-2)
+    (λ c κs. search needs) (λ c. search needs) (λ c κs. search needs) (λ c. search needs) (λ c κs. search needs) (λ c κs. search needs)
+    (λ c κs. search needs) returns returns-2)

@@ -3,35 +3,11 @@ use borrow.Author.Needs.{needs}
 use Rattle.filecalls.proofs.quick_number.Statement.{statement}
 use Rattle.filecalls.proofs.quick_number.Tie as tie
 
-enum-known-answer : tie.Need-enum-known-answer
-enum-known-answer c = search needs
-
-refusal-number-requires : tie.Need-refusal-number-requires
-refusal-number-requires c κs = search needs
-
-enum-told : tie.Need-enum-told
-enum-told c = search needs
-
-enum-told-2 : tie.Need-enum-told-2
-enum-told-2 c = search needs
-
 returns : tie.Need-returns
 returns c = rw (c .before .before .answer .given .1) (c .refusal-number .ensures)
-
-returns-2 : tie.Need-returns-2
-returns-2 c = search needs
-
-returns-3 : tie.Need-returns-3
-returns-3 c = search needs
 
 pub quick-number-spec : {M : Type 1} → statement M
 quick-number-spec =
     tie.close
     (tie.spec
-    enum-known-answer
-    refusal-number-requires
-    enum-told
-    enum-told-2
-    returns
-    returns-2
-    returns-3)
+    (λ c. search needs) (λ c κs. search needs) (λ c. search needs) (λ c. search needs) returns (λ c. search needs) (λ c. search needs))

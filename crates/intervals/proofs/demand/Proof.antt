@@ -25,15 +25,6 @@ fits c = let a = c .before .before .before .before in let s = a .before in asks-
 loop-holds : tie.Need-loop-holds Inv-loop μ-loop
 loop-holds c = (omega arith, omega arith, sum-none _)
 
-mul-task : tie.Need-mul-task Inv-loop μ-loop
-mul-task c = search needs
-
-element-copy-out-task : tie.Need-element-copy-out-task Inv-loop μ-loop
-element-copy-out-task c = search needs
-
-to-u64-requires : tie.Need-to-u64-requires Inv-loop μ-loop
-to-u64-requires c κs = search needs
-
 jobs-in-requires : tie.Need-jobs-in-requires Inv-loop μ-loop
 jobs-in-requires c κs = let a = c .before .before .before in let s = a .before in (s .pre .0 .each (a .loop .i) (omega arith), s .pre .1)
 
@@ -42,12 +33,6 @@ mul-asked c = omega (arith, product c, fits c)
 
 add-asked : tie.Need-add-asked Inv-loop μ-loop
 add-asked c = omega (arith, product c, fits c)
-
-add-i : tie.Need-add-i Inv-loop μ-loop
-add-i c = search needs
-
-loop-less : tie.Need-loop-less Inv-loop μ-loop
-loop-less c = search needs
 
 loop-again : tie.Need-loop-again Inv-loop μ-loop
 loop-again c =
@@ -63,16 +48,5 @@ pub demand-spec : {M : Type 1} → statement M
 demand-spec =
     tie.close
     (tie.spec
-    Inv-loop
-    μ-loop
-    loop-holds
-    mul-task
-    element-copy-out-task
-    to-u64-requires
-    jobs-in-requires
-    mul-asked
-    add-asked
-    add-i
-    loop-less
-    loop-again
-    returns)
+    Inv-loop μ-loop loop-holds (λ c. search needs) (λ c. search needs) (λ c κs. search needs) jobs-in-requires mul-asked add-asked
+    (λ c. search needs) (λ c. search needs) loop-again returns)

@@ -15,23 +15,8 @@ is c = rw (c .before .before .wide-offset-of .ensures .0, c .to-u64 .ensures .0)
 room : (c : tie.After-to-u64) → let s = c .before .before .before in let o = c .before .before .wide-offset-of .result in let p = c .to-u64 .result in o + (s .args .from - o - 1) / p * p < s .args .from
 room c = let s = c .before .before .before in omega (arith, is c, before-from (s .args .k) (s .pre) (s .args .from) (omega (arith, c .before .if1 .left, c .before .before .wide-offset-of .ensures .0)))
 
-wide-offset-of-requires : tie.Need-wide-offset-of-requires
-wide-offset-of-requires c κs = search needs
-
 returns : tie.Need-returns
 returns c = (λ h. h, λ j h. omega (arith, c .if1 .taken, c .before .wide-offset-of .ensures .0))
-
-to-u64-requires : tie.Need-to-u64-requires
-to-u64-requires c κs = search needs
-
-sub-result : tie.Need-sub-result
-sub-result c = search needs
-
-sub-result-2 : tie.Need-sub-result-2
-sub-result-2 c = search needs
-
-div-result : tie.Need-div-result
-div-result c = search needs
 
 mul-result : tie.Need-mul-result
 mul-result c = omega (arith, room c)
@@ -46,12 +31,5 @@ pub release-before-spec : {M : Type 1} → statement M
 release-before-spec =
     tie.close
     (tie.spec
-    wide-offset-of-requires
-    returns
-    to-u64-requires
-    sub-result
-    sub-result-2
-    div-result
-    mul-result
-    add-result
+    (λ c κs. search needs) returns (λ c κs. search needs) (λ c. search needs) (λ c. search needs) (λ c. search needs) mul-result add-result
     returns-2)

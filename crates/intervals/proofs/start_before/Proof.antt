@@ -21,26 +21,11 @@ abbrev μ-loop : tie.MeasureT-loop
 loop-holds : tie.Need-loop-holds Inv-loop μ-loop
 loop-holds c = (omega arith, λ h. h, λ k l. absurd (omega arith))
 
-mul-task : tie.Need-mul-task Inv-loop μ-loop
-mul-task c = search needs
-
-element-copy-out-task : tie.Need-element-copy-out-task Inv-loop μ-loop
-element-copy-out-task c = search needs
-
-to-u64-requires : tie.Need-to-u64-requires Inv-loop μ-loop
-to-u64-requires c κs = search needs
-
 mul-if1 : tie.Need-mul-if1 Inv-loop μ-loop
 mul-if1 c = let s = c .before .before .before .before in omega (arith, mul-le-mul {n₂ = taskLimit} {m₂ = 4294967296} (s .pre .few) (let h : c .to-u64 .result ≤ 4294967296 = omega (arith, c .to-u64 .ensures .0, c .to-u64 .ensures .1) in h))
 
 release-before-requires : tie.Need-release-before-requires Inv-loop μ-loop
 release-before-requires c κs = let a = c .before .before .before .before in a .before .pre .each (a .loop .i) (omega arith)
-
-add-i : tie.Need-add-i Inv-loop μ-loop
-add-i c = search needs
-
-loop-less : tie.Need-loop-less Inv-loop μ-loop
-loop-less c = search needs
 
 -- A later start passes over no less.
 higher : (t : Table) {spare low high from : ℕ} (k : ℕ) → low ≤ high → PassedOver t spare low from k → PassedOver t spare high from k
@@ -77,15 +62,5 @@ pub start-before-spec : {M : Type 1} → statement M
 start-before-spec =
     tie.close
     (tie.spec
-    Inv-loop
-    μ-loop
-    loop-holds
-    mul-task
-    element-copy-out-task
-    to-u64-requires
-    mul-if1
-    release-before-requires
-    add-i
-    loop-less
-    loop-again
-    returns)
+    Inv-loop μ-loop loop-holds (λ c. search needs) (λ c. search needs) (λ c κs. search needs) mul-if1 release-before-requires
+    (λ c. search needs) (λ c. search needs) loop-again returns)

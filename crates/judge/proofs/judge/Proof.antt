@@ -8,34 +8,10 @@ use Rattle.judge.specs.Front.{front, counted}
 use Rattle.judge.proofs.judge.Statement.{statement}
 use Rattle.judge.proofs.judge.Tie as tie
 
-read-requires : tie.Need-read-requires
-read-requires c κs = search needs
-
-enum-known-admission : tie.Need-enum-known-admission
-enum-known-admission c = search needs
-
-write-refusal-requires : tie.Need-write-refusal-requires
-write-refusal-requires c κs = search needs
-
-enum-told : tie.Need-enum-told
-enum-told c = search needs
-
-test-requires : tie.Need-test-requires
-test-requires c κs = search needs
-
-test-requires-2 : tie.Need-test-requires-2
-test-requires-2 c κs = search needs
-
-is-pass-requires : tie.Need-is-pass-requires
-is-pass-requires c κs = search needs
-
 write-outcome-requires : tie.Need-write-outcome-requires
 write-outcome-requires c κs =
     let told = c .before .before .before .before .before in
     (few-tasks _ (told .before .before .read .ensures) (told .enum-told .given .1), search needs)
-
-same-length : tie.Need-same-length
-same-length c = search needs
 
 returns : tie.Need-returns
 returns c =
@@ -43,9 +19,6 @@ returns c =
     let known = w .before .before .before in
     let line = w .write-refusal .ensures .0 in
     (rw (← known .before .before .read .ensures, known .admission .given .1) (front _ _ line), counted (refusalLine (known .admission .given .0 .0)) _ line)
-
-same-length-2 : tie.Need-same-length-2
-same-length-2 c = search needs
 
 returns-2 : tie.Need-returns-2
 returns-2 c =
@@ -64,15 +37,5 @@ pub judge-spec : {M : Type 1} → statement M
 judge-spec =
     tie.close
     (tie.spec
-    read-requires
-    enum-known-admission
-    write-refusal-requires
-    enum-told
-    test-requires
-    test-requires-2
-    is-pass-requires
-    write-outcome-requires
-    same-length
-    returns
-    same-length-2
-    returns-2)
+    (λ c κs. search needs) (λ c. search needs) (λ c κs. search needs) (λ c. search needs) (λ c κs. search needs) (λ c κs. search needs)
+    (λ c κs. search needs) write-outcome-requires (λ c. search needs) returns (λ c. search needs) returns-2)

@@ -29,23 +29,8 @@ last-lt c =
 loop-holds : tie.Need-loop-holds Inv-loop μ-loop
 loop-holds c = (omega arith, omega arith, lasts-none (c .args .t1) (c .args .to))
 
-mul-task : tie.Need-mul-task Inv-loop μ-loop
-mul-task c = search needs
-
-element-copy-out-task : tie.Need-element-copy-out-task Inv-loop μ-loop
-element-copy-out-task c = search needs
-
 jobs-in-requires : tie.Need-jobs-in-requires Inv-loop μ-loop
 jobs-in-requires c κs = let a = c .before .before in (a .before .pre .0 .each (a .loop .i) (c .before .loop-test .taken), (omega arith, a .before .pre .1 .1))
-
-wide-offset-of-requires : tie.Need-wide-offset-of-requires Inv-loop μ-loop
-wide-offset-of-requires c κs = search needs
-
-sub-last : tie.Need-sub-last Inv-loop μ-loop
-sub-last c = search needs
-
-to-u64-requires : tie.Need-to-u64-requires Inv-loop μ-loop
-to-u64-requires c κs = search needs
 
 mul-last : tie.Need-mul-last Inv-loop μ-loop
 mul-last c = omega (arith, last-lt c)
@@ -56,26 +41,11 @@ add-last c = omega (arith, last-lt c)
 sub-entry : tie.Need-sub-entry Inv-loop μ-loop
 sub-entry c = omega (arith, last-lt (c .before))
 
-mul-entry : tie.Need-mul-entry Inv-loop μ-loop
-mul-entry c = search needs
-
-element-copy-out-entry : tie.Need-element-copy-out-entry Inv-loop μ-loop
-element-copy-out-entry c = search needs
-
 entry-requires : tie.Need-entry-requires Inv-loop μ-loop
 entry-requires c κs = let b = c .before .before .before .before .before in let a = b .before .before .before in let s = a .before in (omega (arith, s .pre .1 .1), omega (arith, s .pre .1 .0 (a .loop .i) (b .before .before .loop-test .taken), mark-small (s .args .t1) (s .pre .0) (a .loop .i) (b .before .before .loop-test .taken)))
 
 insert-requires : tie.Need-insert-requires Inv-loop μ-loop
 insert-requires c κs = let b = c .before .before .before .before .before .before in let a = b .before .before .before in omega (arith, a .before .pre .0 .few, b .before .before .loop-test .taken, a .loop .inv .1)
-
-add-jobs : tie.Need-add-jobs Inv-loop μ-loop
-add-jobs c = search needs
-
-add-i : tie.Need-add-i Inv-loop μ-loop
-add-i c = search needs
-
-loop-less : tie.Need-loop-less Inv-loop μ-loop
-loop-less c = search needs
 
 loop-again : tie.Need-loop-again Inv-loop μ-loop
 loop-again c =
@@ -99,24 +69,6 @@ pub last-jobs-spec : {M : Type 1} → statement M
 last-jobs-spec =
     tie.close
     (tie.spec
-    Inv-loop
-    μ-loop
-    loop-holds
-    mul-task
-    element-copy-out-task
-    jobs-in-requires
-    wide-offset-of-requires
-    sub-last
-    to-u64-requires
-    mul-last
-    add-last
-    sub-entry
-    mul-entry
-    element-copy-out-entry
-    entry-requires
-    insert-requires
-    add-jobs
-    add-i
-    loop-less
-    loop-again
-    returns)
+    Inv-loop μ-loop loop-holds (λ c. search needs) (λ c. search needs) jobs-in-requires (λ c κs. search needs) (λ c. search needs)
+    (λ c κs. search needs) mul-last add-last sub-entry (λ c. search needs) (λ c. search needs) entry-requires insert-requires
+    (λ c. search needs) (λ c. search needs) (λ c. search needs) loop-again returns)

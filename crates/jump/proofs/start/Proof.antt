@@ -58,32 +58,17 @@ mul-key c = omega (arith, few c)
 array-read-key : tie.Need-array-read-key Inv-loop μ-loop
 array-read-key c = omega (arith, busy c, few c)
 
-task-of-requires : tie.Need-task-of-requires Inv-loop μ-loop
-task-of-requires c κs = search needs
-
 mul-task : tie.Need-mul-task Inv-loop μ-loop
 mul-task c = omega (arith, own c, c .before .before .before .before .pre .0 .few)
 
 element-copy-out-task : tie.Need-element-copy-out-task Inv-loop μ-loop
 element-copy-out-task c = omega (arith, own c, c .before .before .before .before .pre .0 .few)
 
-time-of-requires : tie.Need-time-of-requires Inv-loop μ-loop
-time-of-requires c κs = search needs
-
-to-u64-requires : tie.Need-to-u64-requires Inv-loop μ-loop
-to-u64-requires c κs = search needs
-
 add-asked : tie.Need-add-asked Inv-loop μ-loop
 add-asked c = let k = c .before .before .before in let s = k .before .before .before .before in omega (arith, c .to-u64 .ensures, asked-le _ (s .pre .0) _ (k .before .loop .inv), s .pre .1 .1 .0)
 
-to-u64-requires-2 : tie.Need-to-u64-requires-2 Inv-loop μ-loop
-to-u64-requires-2 c κs = search needs
-
 add-longer : tie.Need-add-longer Inv-loop μ-loop
 add-longer c = omega (arith, length-le (c .before), c .to-u642 .ensures, c .before .before .before .before .before .before .before .before .before .pre .1 .1 .0)
-
-wide-offset-of-requires : tie.Need-wide-offset-of-requires Inv-loop μ-loop
-wide-offset-of-requires c κs = search needs
 
 add-if2 : tie.Need-add-if2 Inv-loop μ-loop
 add-if2 c = omega (arith, length-le (c .before .before), c .before .to-u642 .ensures, c .wide-offset-of .ensures, c .before .before .before .before .before .before .before .before .before .before .pre .1 .1 .0)
@@ -150,32 +135,7 @@ pub start-spec : {M : Type 1} → statement M
 start-spec =
     tie.close
     (tie.spec
-    Inv-loop
-    μ-loop
-    last-jobs-requires
-    loop-holds
-    sub-key
-    mul-key
-    array-read-key
-    task-of-requires
-    mul-task
-    element-copy-out-task
-    time-of-requires
-    to-u64-requires
-    add-asked
-    to-u64-requires-2
-    add-longer
-    wide-offset-of-requires
-    add-if2
-    sub-insert
-    mul-entry
-    element-copy-out-entry
-    entry-requires
-    insert-requires
-    loop-less
-    loop-again
-    sub-jobs
-    loop-less-2
-    loop-again-2
-    sub-result
+    Inv-loop μ-loop last-jobs-requires loop-holds sub-key mul-key array-read-key (λ c κs. search needs) mul-task element-copy-out-task
+    (λ c κs. search needs) (λ c κs. search needs) add-asked (λ c κs. search needs) add-longer (λ c κs. search needs) add-if2 sub-insert
+    mul-entry element-copy-out-entry entry-requires insert-requires loop-less loop-again sub-jobs loop-less-2 loop-again-2 sub-result
     returns)

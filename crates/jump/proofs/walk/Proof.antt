@@ -22,9 +22,6 @@ facts c = well-formed _ _ (begin c .pre .0)
 time-le : (c : tie.After-walk) → c .walk .result .here .time ≤ horizonLimit
 time-le c = omega (arith, c .walk .ensures .upto, c .before .before .smaller .ensures, facts c .horizon-is, facts c .horizon-le)
 
-smaller-requires : tie.Need-smaller-requires
-smaller-requires c κs = search needs
-
 -- A round is within the horizon, and one before its end every task has had its first release for a round.
 sub-walk : tie.Need-sub-walk
 sub-walk c = let f = well-formed _ _ (c .before .before .pre .0) in omega (arith, f .round-is, f .horizon-is, f .offset-le 0 (f .ranged .some))
@@ -48,9 +45,6 @@ start-requires c κs =
 demand-requires : tie.Need-demand-requires
 demand-requires c κs = let w = c .before .before .before .before .before .before .before in (facts w .ranged, (omega (arith, c .start .ensures .0), time-le w))
 
-conclude-requires : tie.Need-conclude-requires
-conclude-requires c κs = search needs
-
 returns : tie.Need-returns
 returns c =
     let k = c .before .before in
@@ -60,9 +54,6 @@ returns c =
     let s = begin w in
     let (less, much, none) = k .start .ensures in
     rw (c .conclude .ensures) (permitted-late (s .args .t) (s .args .m) (s .args .budget) (s .pre .0) (s .pre .1) (x .tally) _ _ (omega (arith, x .upto, w .before .before .smaller .ensures)) (x .clear) (x .late (l .if1 .taken)) less (c .before .demand .ensures) (omega (arith, much, c .before .demand .ensures)) none)
-
-conclude-requires-2 : tie.Need-conclude-requires-2
-conclude-requires-2 c κs = search needs
 
 returns-2 : tie.Need-returns-2
 returns-2 c =
@@ -78,13 +69,5 @@ pub walk-spec : {M : Type 1} → statement M
 walk-spec =
     tie.close
     (tie.spec
-    smaller-requires
-    sub-walk
-    walk-requires
-    unpack-requires
-    start-requires
-    demand-requires
-    conclude-requires
-    returns
-    conclude-requires-2
-    returns-2)
+    (λ c κs. search needs) sub-walk walk-requires unpack-requires start-requires demand-requires (λ c κs. search needs) returns
+    (λ c κs. search needs) returns-2)

@@ -8,22 +8,10 @@ use Rattle.model.specs.Largest.{costAnswer}
 use Rattle.largest.proofs.largest_cost.Statement.{statement}
 use Rattle.largest.proofs.largest_cost.Tie as tie
 
-judge-requires : tie.Need-judge-requires
-judge-requires c κs = search needs
-
-enum-known-why : tie.Need-enum-known-why
-enum-known-why c = search needs
-
-enum-told : tie.Need-enum-told
-enum-told c = search needs
-
 told-requires : tie.Need-told-requires
 told-requires c κs =
     let a = c .before .before in
     (well-of (a .before .before .before .args .t) _ (sym (a .before .before .judge .ensures) ∙ a .enum-told .given .1), omega arith)
-
-refused-task-requires : tie.Need-refused-task-requires
-refused-task-requires c κs = search needs
 
 returns : tie.Need-returns
 unfolding costAnswer
@@ -46,4 +34,5 @@ returns-3 c =
 pub largest-cost-spec : {M : Type 1} → statement M
 largest-cost-spec =
     tie.close
-    (tie.spec judge-requires enum-known-why enum-told told-requires refused-task-requires returns returns-2 returns-3)
+    (tie.spec
+    (λ c κs. search needs) (λ c. search needs) (λ c. search needs) told-requires (λ c κs. search needs) returns returns-2 returns-3)

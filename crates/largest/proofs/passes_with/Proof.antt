@@ -4,18 +4,11 @@ use borrow.Author.Needs.{needs}
 use Rattle.largest.proofs.passes_with.Statement.{statement}
 use Rattle.largest.proofs.passes_with.Tie as tie
 
-with-cost-requires : tie.Need-with-cost-requires
-with-cost-requires c κs = search needs
-
 verdict-on-requires : tie.Need-verdict-on-requires
 verdict-on-requires c κs = rw (c .with-cost .ensures) (c .before .pre .1)
-
-is-pass-requires : tie.Need-is-pass-requires
-is-pass-requires c κs = search needs
 
 returns : tie.Need-returns
 returns c = c .is-pass .ensures ∙ rw (c .before .verdict-on .ensures, c .before .before .with-cost .ensures)
 
 pub passes-with-spec : {M : Type 1} → statement M
-passes-with-spec =
-    tie.close (tie.spec with-cost-requires verdict-on-requires is-pass-requires returns)
+passes-with-spec = tie.close (tie.spec (λ c κs. search needs) verdict-on-requires (λ c κs. search needs) returns)

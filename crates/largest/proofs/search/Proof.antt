@@ -78,18 +78,5 @@ pub search-spec : {M : Type 1} → statement M
 search-spec =
     tie.close
     (tie.spec
-    Inv-loop
-    μ-loop
-    mul-task
-    element-copy-out-task
-    add-fails
-    loop-holds
-    sub-loop
-    sub-middle
-    add-middle
-    passes-with-requires
-    loop-less
-    loop-again
-    loop-less-2
-    loop-again-2
-    returns)
+    Inv-loop μ-loop mul-task element-copy-out-task add-fails loop-holds sub-loop sub-middle add-middle passes-with-requires loop-less
+    loop-again loop-less-2 loop-again-2 returns)

@@ -4,23 +4,8 @@ use borrow.Author.Needs.{needs}
 use Rattle.largest.proofs.told.Statement.{statement}
 use Rattle.largest.proofs.told.Tie as tie
 
-verdict-on-requires : tie.Need-verdict-on-requires
-verdict-on-requires c κs = search needs
-
-enum-told : tie.Need-enum-told
-enum-told c = search needs
-
 search-requires : tie.Need-search-requires
 search-requires c κs = (c .before .before .before .pre .0, (c .before .before .before .pre .1, sym (c .before .before .verdict-on .ensures) ∙ c .enum-told .given .1))
-
-enum-told-2 : tie.Need-enum-told-2
-enum-told-2 c = search needs
-
-enum-told-3 : tie.Need-enum-told-3
-enum-told-3 c = search needs
-
-enum-told-4 : tie.Need-enum-told-4
-enum-told-4 c = search needs
 
 returns : tie.Need-returns
 returns c = rw (← c .before .before .before .verdict-on .ensures, c .before .enum-told .given .1, ← c .search .ensures)
@@ -38,13 +23,5 @@ pub told-spec : {M : Type 1} → statement M
 told-spec =
     tie.close
     (tie.spec
-    verdict-on-requires
-    enum-told
-    search-requires
-    enum-told-2
-    enum-told-3
-    enum-told-4
-    returns
-    returns-2
-    returns-3
-    returns-4)
+    (λ c κs. search needs) (λ c. search needs) search-requires (λ c. search needs) (λ c. search needs) (λ c. search needs) returns returns-2
+    returns-3 returns-4)

@@ -7,15 +7,6 @@ use Rattle.largest.specs.Halving.{says}
 use Rattle.largest.proofs.verdict_on.Statement.{statement}
 use Rattle.largest.proofs.verdict_on.Tie as tie
 
-test-requires : tie.Need-test-requires
-test-requires c κs = search needs
-
-enum-told : tie.Need-enum-told
-enum-told c = search needs
-
-enum-known-outcome : tie.Need-enum-known-outcome
-enum-known-outcome c = search needs
-
 returns : tie.Need-returns
 returns c =
     let a = c .before .before in
@@ -30,4 +21,4 @@ returns-2 c =
     cc
 
 pub verdict-on-spec : {M : Type 1} → statement M
-verdict-on-spec = tie.close (tie.spec test-requires enum-told enum-known-outcome returns returns-2)
+verdict-on-spec = tie.close (tie.spec (λ c κs. search needs) (λ c. search needs) (λ c. search needs) returns returns-2)

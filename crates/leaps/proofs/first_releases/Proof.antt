@@ -18,32 +18,11 @@ abbrev μ-loop : tie.MeasureT-loop
 loop-holds : tie.Need-loop-holds Inv-loop μ-loop
 loop-holds c = (omega arith, firsts-none (c .args .t1))
 
-mul-wide-offset-of : tie.Need-mul-wide-offset-of Inv-loop μ-loop
-mul-wide-offset-of c = search needs
-
-element-copy-out-wide-offset-of : tie.Need-element-copy-out-wide-offset-of Inv-loop μ-loop
-element-copy-out-wide-offset-of c = search needs
-
-wide-offset-of-requires : tie.Need-wide-offset-of-requires Inv-loop μ-loop
-wide-offset-of-requires c κs = search needs
-
-mul-entry : tie.Need-mul-entry Inv-loop μ-loop
-mul-entry c = search needs
-
-element-copy-out-entry : tie.Need-element-copy-out-entry Inv-loop μ-loop
-element-copy-out-entry c = search needs
-
 entry-requires : tie.Need-entry-requires Inv-loop μ-loop
 entry-requires c κs = let a = c .before .before .before in let l = a .loop-test .taken in let s = a .before .before in (omega (arith, c .before .wide-offset-of .ensures), omega (arith, s .pre .1 (a .before .loop .i) l, mark-small (s .args .t1) (s .pre .0) (a .before .loop .i) l))
 
 insert-requires : tie.Need-insert-requires Inv-loop μ-loop
 insert-requires c κs = let b = c .before .before .before .before .before in omega (arith, b .before .before .pre .0 .few, b .loop-test .taken)
-
-add-i : tie.Need-add-i Inv-loop μ-loop
-add-i c = search needs
-
-loop-less : tie.Need-loop-less Inv-loop μ-loop
-loop-less c = search needs
 
 loop-again : tie.Need-loop-again Inv-loop μ-loop
 loop-again c = let b = c .before .before .before .before .before .before in let a = b .before in let v = a .loop .inv in (omega arith, rw (c .insert .ensures, c .before .before .entry .ensures, c .before .before .before .before .wide-offset-of .ensures .0, a .before .pre .1 (a .loop .i) (b .loop-test .taken)) (firsts-more _ (a .before .pre .0) _ (b .loop-test .taken) (v .1)))
@@ -55,17 +34,5 @@ pub first-releases-spec : {M : Type 1} → statement M
 first-releases-spec =
     tie.close
     (tie.spec
-    Inv-loop
-    μ-loop
-    loop-holds
-    mul-wide-offset-of
-    element-copy-out-wide-offset-of
-    wide-offset-of-requires
-    mul-entry
-    element-copy-out-entry
-    entry-requires
-    insert-requires
-    add-i
-    loop-less
-    loop-again
-    returns)
+    Inv-loop μ-loop loop-holds (λ c. search needs) (λ c. search needs) (λ c κs. search needs) (λ c. search needs) (λ c. search needs)
+    entry-requires insert-requires (λ c. search needs) (λ c. search needs) loop-again returns)

@@ -17,35 +17,8 @@ abbrev μ-loop : tie.MeasureT-loop
 loop-holds : tie.Need-loop-holds Inv-loop μ-loop
 loop-holds c = (omega arith, refl)
 
-sub-above : tie.Need-sub-above Inv-loop μ-loop
-sub-above c = search needs
-
-mul-above : tie.Need-mul-above Inv-loop μ-loop
-mul-above c = search needs
-
-element-copy-out-above : tie.Need-element-copy-out-above Inv-loop μ-loop
-element-copy-out-above c = search needs
-
-mul-queue : tie.Need-mul-queue Inv-loop μ-loop
-mul-queue c = search needs
-
-element-write-queue : tie.Need-element-write-queue Inv-loop μ-loop
-element-write-queue c = search needs
-
-sub-j : tie.Need-sub-j Inv-loop μ-loop
-sub-j c = search needs
-
-loop-less : tie.Need-loop-less Inv-loop μ-loop
-loop-less c = search needs
-
 loop-again : tie.Need-loop-again Inv-loop μ-loop
 loop-again c = let v = c .before .before .before .loop .inv in (omega (arith, v .0), inserted-below _ _ _ (c .before .before .loop-test .taken) (omega (arith, c .if1 .left)) ∙ v .1)
-
-mul-queue-2 : tie.Need-mul-queue-2 Inv-loop μ-loop
-mul-queue-2 c = search needs
-
-element-write-queue-2 : tie.Need-element-write-queue-2 Inv-loop μ-loop
-element-write-queue-2 c = search needs
 
 returns : tie.Need-returns Inv-loop μ-loop
 returns c =
@@ -59,17 +32,5 @@ pub insert-spec : {M : Type 1} → statement M
 insert-spec =
     tie.close
     (tie.spec
-    Inv-loop
-    μ-loop
-    loop-holds
-    sub-above
-    mul-above
-    element-copy-out-above
-    mul-queue
-    element-write-queue
-    sub-j
-    loop-less
-    loop-again
-    mul-queue-2
-    element-write-queue-2
-    returns)
+    Inv-loop μ-loop loop-holds (λ c. search needs) (λ c. search needs) (λ c. search needs) (λ c. search needs) (λ c. search needs)
+    (λ c. search needs) (λ c. search needs) loop-again (λ c. search needs) (λ c. search needs) returns)

@@ -16,9 +16,4 @@ returns : tie.Need-returns
 returns c t h = c .turn .ensures t (ready-now h (c .before .before .before .before .before .release-all .ensures t (due-now h)))
 
 pub leap-spec : {M : Type 1} → statement M
-leap-spec =
-    tie.close
-    (tie.spec
-    release-all-requires
-    turn-requires
-    returns)
+leap-spec = tie.close (tie.spec release-all-requires turn-requires returns)

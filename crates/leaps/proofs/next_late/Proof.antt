@@ -11,18 +11,6 @@ returns c = let s = c .before .args in rw (lt-ltb (s .done) (s .due) (omega (ari
 returns-2 : tie.Need-returns-2
 returns-2 c = rw (le-ltb _ _ (c .before .if1 .left), le-ltb 0 (c .before .before .args .jobs) (omega (arith, c .if2 .taken)))
 
-sub-time-of : tie.Need-sub-time-of
-sub-time-of c = search needs
-
-mul-time-of : tie.Need-mul-time-of
-mul-time-of c = search needs
-
-element-copy-out-time-of : tie.Need-element-copy-out-time-of
-element-copy-out-time-of c = search needs
-
-time-of-requires : tie.Need-time-of-requires
-time-of-requires c κs = search needs
-
 returns-3 : tie.Need-returns-3
 returns-3 c = rw (le-ltb _ _ (c .before .before .before .if1 .left), lt-ltb 0 (c .before .before .before .before .args .jobs) (omega (arith, c .before .before .if2 .left)), c .time-of .ensures)
 
@@ -30,10 +18,4 @@ pub next-late-spec : {M : Type 1} → statement M
 next-late-spec =
     tie.close
     (tie.spec
-    returns
-    returns-2
-    sub-time-of
-    mul-time-of
-    element-copy-out-time-of
-    time-of-requires
-    returns-3)
+    returns returns-2 (λ c. search needs) (λ c. search needs) (λ c. search needs) (λ c κs. search needs) returns-3)

@@ -51,17 +51,11 @@ mul-time-of c = let y = c .before .pre .1 in omega (arith, y .columns .last-is, 
 element-copy-out-time-of : tie.Need-element-copy-out-time-of Inv-loop μ-loop
 element-copy-out-time-of c = let y = c .before .pre .1 in omega (arith, y .columns .last-is, y .ranged .few, y .ranged .some)
 
-time-of-requires : tie.Need-time-of-requires Inv-loop μ-loop
-time-of-requires c κs = search needs
-
 mul-task-of : tie.Need-mul-task-of Inv-loop μ-loop
 mul-task-of c = let y = c .before .before .before .before .pre .1 in omega (arith, y .columns .last-is, y .ranged .few, y .ranged .some)
 
 element-copy-out-task-of : tie.Need-element-copy-out-task-of Inv-loop μ-loop
 element-copy-out-task-of c = let y = c .before .before .before .before .pre .1 in omega (arith, y .columns .last-is, y .ranged .few, y .ranged .some)
-
-task-of-requires : tie.Need-task-of-requires Inv-loop μ-loop
-task-of-requires c κs = search needs
 
 release-requires : tie.Need-release-requires Inv-loop μ-loop
 release-requires c κs =
@@ -102,17 +96,5 @@ pub release-all-spec : {M : Type 1} → statement M
 release-all-spec =
     tie.close
     (tie.spec
-    Inv-loop
-    μ-loop
-    loop-holds
-    mul-time-of
-    element-copy-out-time-of
-    time-of-requires
-    mul-task-of
-    element-copy-out-task-of
-    task-of-requires
-    release-requires
-    add-jobs
-    loop-less
-    loop-again
-    returns)
+    Inv-loop μ-loop loop-holds mul-time-of element-copy-out-time-of (λ c κs. search needs) mul-task-of element-copy-out-task-of
+    (λ c κs. search needs) release-requires add-jobs loop-less loop-again returns)

@@ -11,11 +11,8 @@ returns c = inl (c .if1 .taken, refl)
 returns-2 : tie.Need-returns-2
 returns-2 c = inr (c .before .if1 .left, inl (c .if2 .taken, refl))
 
-ended-requires : tie.Need-ended-requires
-ended-requires c κs = search needs
-
 returns-3 : tie.Need-returns-3
 returns-3 c = inr (c .before .before .if1 .left, inr (c .before .if2 .left, c .ended .ensures))
 
 pub skip-spec : {M : Type 1} → statement M
-skip-spec = tie.close (tie.spec returns returns-2 ended-requires returns-3)
+skip-spec = tie.close (tie.spec returns returns-2 (λ c κs. search needs) returns-3)

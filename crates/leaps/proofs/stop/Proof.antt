@@ -4,12 +4,6 @@ use borrow.Author.Needs.{needs}
 use Rattle.leaps.proofs.stop.Statement.{statement}
 use Rattle.leaps.proofs.stop.Tie as tie
 
-ended-requires : tie.Need-ended-requires
-ended-requires c κs = search needs
-
-ended-requires-2 : tie.Need-ended-requires-2
-ended-requires-2 c κs = search needs
-
 returns : tie.Need-returns
 returns c = rw (le-leb _ _ (c .before .if1 .taken)) (c .ended .ensures)
 
@@ -17,4 +11,4 @@ returns-2 : tie.Need-returns-2
 returns-2 c = rw (lt-leb _ _ (c .before .if1 .left)) (c .ended2 .ensures)
 
 pub stop-spec : {M : Type 1} → statement M
-stop-spec = tie.close (tie.spec ended-requires ended-requires-2 returns returns-2)
+stop-spec = tie.close (tie.spec (λ c κs. search needs) (λ c κs. search needs) returns returns-2)

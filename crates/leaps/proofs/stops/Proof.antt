@@ -19,10 +19,4 @@ returns-4 : tie.Need-returns-4
 returns-4 c = (λ e. absurd (subst T e tt), λ e. inr (omega (arith, c .before .before .if2 .left), omega (arith, c .if3 .left)))
 
 pub stops-spec : {M : Type 1} → statement M
-stops-spec =
-    tie.close
-    (tie.spec
-    returns
-    returns-2
-    returns-3
-    returns-4)
+stops-spec = tie.close (tie.spec returns returns-2 returns-3 returns-4)

@@ -55,17 +55,11 @@ mul-time-of c = let y = c .pre .1 in omega (arith, y .last-is, y .ranged .few, y
 element-copy-out-time-of : tie.Need-element-copy-out-time-of
 element-copy-out-time-of c = let y = c .pre .1 in omega (arith, y .last-is, y .ranged .few, y .ranged .some)
 
-time-of-requires : tie.Need-time-of-requires
-time-of-requires c κs = search needs
-
 rest-requires : tie.Need-rest-requires
 rest-requires c κs = let y = c .before .before .before .pre .1 in omega (arith, y .before, y .limit)
 
 returns : tie.Need-returns
 returns c t y = rw (c .rest .ensures) (rests t (y .ranged) (y .light) (y .clear) (y .held) (y .tally) (soon (c .before .before) t y) (y .before) (c .before .if1 .taken))
-
-sub-key : tie.Need-sub-key
-sub-key c = search needs
 
 mul-key : tie.Need-mul-key
 mul-key c = omega (arith, few c)
@@ -73,23 +67,11 @@ mul-key c = omega (arith, few c)
 element-copy-out-key : tie.Need-element-copy-out-key
 element-copy-out-key c = omega (arith, few c)
 
-task-of-requires : tie.Need-task-of-requires
-task-of-requires c κs = search needs
-
-time-of-requires-2 : tie.Need-time-of-requires-2
-time-of-requires-2 c κs = search needs
-
-mul-done : tie.Need-mul-done
-mul-done c = search needs
-
 element-copy-out-done : tie.Need-element-copy-out-done
 element-copy-out-done c = omega (arith, low (c .before))
 
 add-done : tie.Need-add-done
 add-done c = let k = c .before .before in let y = start (k .before .before) .pre .1 in omega (arith, small k, y .before, y .limit)
-
-stop-requires : tie.Need-stop-requires
-stop-requires c κs = search needs
 
 returns-2 : tie.Need-returns-2
 returns-2 c t y =
@@ -97,26 +79,14 @@ returns-2 c t y =
     let k = a .before .before in
     rw (c .stop .ensures) (stops t (y .ranged) (y .light) (y .clear) (y .held) (y .tally) (soon (k .before .before .before) t y) (y .before) (busy (k .before .before)) (k .task-of .ensures) (a .before .time-of2 .ensures) refl (inl (omega (arith, c .before .if3 .taken, c .before .before .if2 .taken), omega (arith, c .before .if3 .taken))))
 
-stop-requires-2 : tie.Need-stop-requires-2
-stop-requires-2 c κs = search needs
-
 returns-3 : tie.Need-returns-3
 returns-3 c t y =
     let a = c .before .before .before .before in
     let k = a .before .before in
     rw (c .stop2 .ensures) (stops t (y .ranged) (y .light) (y .clear) (y .held) (y .tally) (soon (k .before .before .before) t y) (y .before) (busy (k .before .before)) (k .task-of .ensures) (a .before .time-of2 .ensures) refl (inr (omega (arith, c .before .if4 .taken, c .before .before .before .if2 .taken), omega (arith, c .before .if4 .taken), omega (arith, c .before .if4 .taken, c .before .before .if3 .left))))
 
-sub-left : tie.Need-sub-left
-sub-left c = search needs
-
-mul-left : tie.Need-mul-left
-mul-left c = search needs
-
 element-write-left : tie.Need-element-write-left
 element-write-left c = omega (arith, low (c .before .before .before .before .before))
-
-going-requires : tie.Need-going-requires
-going-requires c κs = search needs
 
 returns-4 : tie.Need-returns-4
 returns-4 c t y =
@@ -124,17 +94,11 @@ returns-4 c t y =
     let k = a .before .before in
     rw (c .going .ensures) (preempt t (y .ranged) (y .light) (y .clear) (y .held) (y .tally) (soon (k .before .before .before) t y) (y .before) (busy (k .before .before)) (k .task-of .ensures) (a .before .time-of2 .ensures) refl (omega (arith, c .before .before .before .if2 .taken)) (omega (arith, c .before .before .if3 .left)) (omega (arith, c .before .if4 .left)))
 
-stop-requires-3 : tie.Need-stop-requires-3
-stop-requires-3 c κs = search needs
-
 returns-5 : tie.Need-returns-5
 returns-5 c t y =
     let a = c .before .before .before in
     let k = a .before .before in
     rw (c .stop3 .ensures) (stops t (y .ranged) (y .light) (y .clear) (y .held) (y .tally) (soon (k .before .before .before) t y) (y .before) (busy (k .before .before)) (k .task-of .ensures) (a .before .time-of2 .ensures) refl (inl (omega (arith, c .before .if5 .taken), omega (arith, c .before .if5 .taken, c .before .before .if2 .left))))
-
-stop-requires-4 : tie.Need-stop-requires-4
-stop-requires-4 c κs = search needs
 
 returns-6 : tie.Need-returns-6
 returns-6 c t y =
@@ -168,32 +132,7 @@ pub turn-spec : {M : Type 1} → statement M
 turn-spec =
     tie.close
     (tie.spec
-    mul-time-of
-    element-copy-out-time-of
-    time-of-requires
-    rest-requires
-    returns
-    sub-key
-    mul-key
-    element-copy-out-key
-    task-of-requires
-    time-of-requires-2
-    mul-done
-    element-copy-out-done
-    add-done
-    stop-requires
-    returns-2
-    stop-requires-2
-    returns-3
-    sub-left
-    mul-left
-    element-write-left
-    going-requires
-    returns-4
-    stop-requires-3
-    returns-5
-    stop-requires-4
-    returns-6
-    sub-finish
-    finish-requires
-    returns-7)
+    mul-time-of element-copy-out-time-of (λ c κs. search needs) rest-requires returns (λ c. search needs) mul-key element-copy-out-key
+    (λ c κs. search needs) (λ c κs. search needs) (λ c. search needs) element-copy-out-done add-done (λ c κs. search needs) returns-2
+    (λ c κs. search needs) returns-3 (λ c. search needs) (λ c. search needs) element-write-left (λ c κs. search needs) returns-4
+    (λ c κs. search needs) returns-5 (λ c κs. search needs) returns-6 sub-finish finish-requires returns-7)

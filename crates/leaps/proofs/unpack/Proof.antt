@@ -28,68 +28,14 @@ small c = let a = c .before .before .before in omega (arith, own c, mark-small (
 loop-holds : tie.Need-loop-holds Inv-loop μ-loop
 loop-holds c = (omega arith, fill-none _ _, fill-none _ _, fill-none _ _, fill-none _ _)
 
-mul-task : tie.Need-mul-task Inv-loop μ-loop
-mul-task c = search needs
-
-element-copy-out-task : tie.Need-element-copy-out-task Inv-loop μ-loop
-element-copy-out-task c = search needs
-
 rank-of-requires : tie.Need-rank-of-requires Inv-loop μ-loop
 rank-of-requires c κs = c .before .before .before .pre .each (c .before .before .loop .i) (c .before .loop-test .taken) .period-le
-
-cast-own : tie.Need-cast-own Inv-loop μ-loop
-cast-own c = search needs
-
-mul-own : tie.Need-mul-own Inv-loop μ-loop
-mul-own c = search needs
-
-add-own : tie.Need-add-own Inv-loop μ-loop
-add-own c = search needs
-
-to-u64-requires : tie.Need-to-u64-requires Inv-loop μ-loop
-to-u64-requires c κs = search needs
 
 entry-requires : tie.Need-entry-requires Inv-loop μ-loop
 entry-requires c κs = (omega (arith, c .to-u64 .ensures), small (c .before))
 
-mul-period : tie.Need-mul-period Inv-loop μ-loop
-mul-period c = search needs
-
-array-write-period : tie.Need-array-write-period Inv-loop μ-loop
-array-write-period c = search needs
-
-to-u64-requires-2 : tie.Need-to-u64-requires-2 Inv-loop μ-loop
-to-u64-requires-2 c κs = search needs
-
-mul-cost : tie.Need-mul-cost Inv-loop μ-loop
-mul-cost c = search needs
-
-array-write-cost : tie.Need-array-write-cost Inv-loop μ-loop
-array-write-cost c = search needs
-
-to-u64-requires-3 : tie.Need-to-u64-requires-3 Inv-loop μ-loop
-to-u64-requires-3 c κs = search needs
-
 entry-requires-2 : tie.Need-entry-requires-2 Inv-loop μ-loop
 entry-requires-2 c κs = (omega (arith, c .to-u643 .ensures), small (c .before .before .before .before))
-
-mul-deadline : tie.Need-mul-deadline Inv-loop μ-loop
-mul-deadline c = search needs
-
-array-write-deadline : tie.Need-array-write-deadline Inv-loop μ-loop
-array-write-deadline c = search needs
-
-mul-mark : tie.Need-mul-mark Inv-loop μ-loop
-mul-mark c = search needs
-
-array-write-mark : tie.Need-array-write-mark Inv-loop μ-loop
-array-write-mark c = search needs
-
-add-i : tie.Need-add-i Inv-loop μ-loop
-add-i c = search needs
-
-loop-less : tie.Need-loop-less Inv-loop μ-loop
-loop-less c = search needs
 
 loop-again : tie.Need-loop-again Inv-loop μ-loop
 loop-again c =
@@ -114,29 +60,7 @@ pub unpack-spec : {M : Type 1} → statement M
 unpack-spec =
     tie.close
     (tie.spec
-    Inv-loop
-    μ-loop
-    loop-holds
-    mul-task
-    element-copy-out-task
-    rank-of-requires
-    cast-own
-    mul-own
-    add-own
-    to-u64-requires
-    entry-requires
-    mul-period
-    array-write-period
-    to-u64-requires-2
-    mul-cost
-    array-write-cost
-    to-u64-requires-3
-    entry-requires-2
-    mul-deadline
-    array-write-deadline
-    mul-mark
-    array-write-mark
-    add-i
-    loop-less
-    loop-again
-    returns)
+    Inv-loop μ-loop loop-holds (λ c. search needs) (λ c. search needs) rank-of-requires (λ c. search needs) (λ c. search needs)
+    (λ c. search needs) (λ c κs. search needs) entry-requires (λ c. search needs) (λ c. search needs) (λ c κs. search needs)
+    (λ c. search needs) (λ c. search needs) (λ c κs. search needs) entry-requires-2 (λ c. search needs) (λ c. search needs)
+    (λ c. search needs) (λ c. search needs) (λ c. search needs) (λ c. search needs) loop-again returns)

@@ -46,9 +46,6 @@ first-releases-requires c κs =
     let s = u .before .before in
     (s .pre .0, marked _ (s .pre .0 .few) (u .unpack .ensures))
 
-going-requires : tie.Need-going-requires Inv-loop μ-loop
-going-requires c κs = search needs
-
 loop-holds : tie.Need-loop-holds Inv-loop μ-loop
 loop-holds c t h = h
 
@@ -58,9 +55,6 @@ home c = c .before .before .before .before .before .before .before .before
 
 leap-requires : tie.Need-leap-requires Inv-loop μ-loop
 leap-requires c κs = let a = c .before .before .before .before .before .before .before in (start a .args .t, a .loop .inv _ (first a))
-
-stops-requires : tie.Need-stops-requires Inv-loop μ-loop
-stops-requires c κs = search needs
 
 loop-less : tie.Need-loop-less Inv-loop μ-loop
 loop-less c =
@@ -75,9 +69,6 @@ loop-again c t h =
     let y = home b .loop .inv t h in
     here-next y (b .leap .ensures t y) (c .before .stops .ensures .0 (c .if1 .left))
 
-skip-requires : tie.Need-skip-requires Inv-loop μ-loop
-skip-requires c κs = search needs
-
 returns : tie.Need-returns Inv-loop μ-loop
 returns c =
     let k = c .before in
@@ -90,16 +81,5 @@ pub walk-spec : {M : Type 1} → statement M
 walk-spec =
     tie.close
     (tie.spec
-    Inv-loop
-    μ-loop
-    sub-last
-    unpack-requires
-    first-releases-requires
-    going-requires
-    loop-holds
-    leap-requires
-    stops-requires
-    loop-less
-    loop-again
-    skip-requires
-    returns)
+    Inv-loop μ-loop sub-last unpack-requires first-releases-requires (λ c κs. search needs) loop-holds leap-requires (λ c κs. search needs)
+    loop-less loop-again (λ c κs. search needs) returns)

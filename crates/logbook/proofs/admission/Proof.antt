@@ -7,15 +7,6 @@ use borrow.Author.Needs.{needs}
 use Rattle.logbook.proofs.admission.Statement.{statement}
 use Rattle.logbook.proofs.admission.Tie as tie
 
-judge-requires : tie.Need-judge-requires
-judge-requires c κs = search needs
-
-enum-known-why : tie.Need-enum-known-why
-enum-known-why c = search needs
-
-enum-told : tie.Need-enum-told
-enum-told c = search needs
-
 belonging-requires : tie.Need-belonging-requires
 belonging-requires c κs = well-formed _ _ (sym (c .before .before .judge .ensures) ∙ c .enum-told .given .1) .ranged .few
 
@@ -28,6 +19,4 @@ unfolding logAdmitted admitted
 returns-2 c = rw (← c .before .before .before .judge .ensures, c .before .enum-told .given .1) (c .belonging .ensures)
 
 pub admission-spec : {M : Type 1} → statement M
-admission-spec =
-    tie.close
-    (tie.spec judge-requires enum-known-why enum-told belonging-requires returns returns-2)
+admission-spec = tie.close (tie.spec (λ c κs. search needs) (λ c. search needs) (λ c. search needs) belonging-requires returns returns-2)

@@ -4,21 +4,6 @@ use borrow.Author.Needs.{needs}
 use Rattle.logbook.proofs.at_end.Statement.{statement}
 use Rattle.logbook.proofs.at_end.Tie as tie
 
-enum-told : tie.Need-enum-told
-enum-told c = search needs
-
-cast-t7 : tie.Need-cast-t7
-cast-t7 c = search needs
-
-enum-told-2 : tie.Need-enum-told-2
-enum-told-2 c = search needs
-
-enum-known-found : tie.Need-enum-known-found
-enum-known-found c = search needs
-
-enum-known-found-2 : tie.Need-enum-known-found-2
-enum-known-found-2 c = search needs
-
 returns : tie.Need-returns
 returns c = rw (c .enum-told .given .1) refl
 
@@ -35,12 +20,5 @@ pub at-end-spec : {M : Type 1} → statement M
 at-end-spec =
     tie.close
     (tie.spec
-    enum-told
-    cast-t7
-    enum-told-2
-    enum-known-found
-    enum-known-found-2
-    returns
-    returns-2
-    returns-3
+    (λ c. search needs) (λ c. search needs) (λ c. search needs) (λ c. search needs) (λ c. search needs) returns returns-2 returns-3
     returns-4)

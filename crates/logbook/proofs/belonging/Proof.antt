@@ -16,21 +16,6 @@ use borrow.Author.Needs.{needs}
 use Rattle.logbook.proofs.belonging.Statement.{statement}
 use Rattle.logbook.proofs.belonging.Tie as tie
 
-belonging-requires : tie.Need-belonging-requires
-belonging-requires c κs = search needs
-
-enum-known-why : tie.Need-enum-known-why
-enum-known-why c = search needs
-
-enum-known-room : tie.Need-enum-known-room
-enum-known-room c = search needs
-
-sub-miscounted : tie.Need-sub-miscounted
-sub-miscounted c = search needs
-
-miscounted-requires : tie.Need-miscounted-requires
-miscounted-requires c κs = search needs
-
 -- The dispatcher is admitted, and what it counts is what it can count less the room.
 counts : (c : tie.After-miscounted) → let s = c .before .before .before .before .before .before in let t = s .args .t in let d = stateOf (s .args .log .dispatcher) in
     (admittedBy t d (Judgement.WellFormed (measure t)) ≡ Admission.Admitted) × (c .miscounted .result ≡ miscounted t (logStateOf (s .args .log)))
@@ -58,11 +43,4 @@ pub belonging-spec : {M : Type 1} → statement M
 belonging-spec =
     tie.close
     (tie.spec
-    belonging-requires
-    enum-known-why
-    enum-known-room
-    sub-miscounted
-    miscounted-requires
-    returns
-    returns-2
-    returns-3)
+    (λ c κs. search needs) (λ c. search needs) (λ c. search needs) (λ c. search needs) (λ c κs. search needs) returns returns-2 returns-3)

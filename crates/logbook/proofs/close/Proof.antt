@@ -7,16 +7,10 @@ use borrow.Author.Needs.{needs}
 use Rattle.logbook.proofs.close.Statement.{statement}
 use Rattle.logbook.proofs.close.Tie as tie
 
-at-end-requires : tie.Need-at-end-requires
-at-end-requires c κs = search needs
-
-found-in-requires : tie.Need-found-in-requires
-found-in-requires c κs = search needs
-
 returns : tie.Need-returns
 returns c = let ended = c .before in
     let l = ended .before .before .before .args .log in
     ap (joined (stateOf (l .dispatcher))) (c .found-in .ensures ∙ ap (stoppedAt (l .reading)) (ended .at-end .ensures))
 
 pub close-spec : {M : Type 1} → statement M
-close-spec = tie.close (tie.spec at-end-requires found-in-requires returns)
+close-spec = tie.close (tie.spec (λ c κs. search needs) (λ c κs. search needs) returns)

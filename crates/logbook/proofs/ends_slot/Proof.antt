@@ -4,21 +4,6 @@ use borrow.Author.Needs.{needs}
 use Rattle.logbook.proofs.ends_slot.Statement.{statement}
 use Rattle.logbook.proofs.ends_slot.Tie as tie
 
-enum-told : tie.Need-enum-told
-enum-told c = search needs
-
-at-slot-requires : tie.Need-at-slot-requires
-at-slot-requires c κs = search needs
-
-enum-told-2 : tie.Need-enum-told-2
-enum-told-2 c = search needs
-
-enum-told-3 : tie.Need-enum-told-3
-enum-told-3 c = search needs
-
-enum-told-4 : tie.Need-enum-told-4
-enum-told-4 c = search needs
-
 returns : tie.Need-returns
 returns c = rw (c .before .enum-told .given .1) (c .at-slot .ensures)
 
@@ -35,12 +20,5 @@ pub ends-slot-spec : {M : Type 1} → statement M
 ends-slot-spec =
     tie.close
     (tie.spec
-    enum-told
-    at-slot-requires
-    enum-told-2
-    enum-told-3
-    enum-told-4
-    returns
-    returns-2
-    returns-3
+    (λ c. search needs) (λ c κs. search needs) (λ c. search needs) (λ c. search needs) (λ c. search needs) returns returns-2 returns-3
     returns-4)

@@ -21,16 +21,10 @@ abbrev μ-loop : tie.MeasureT-loop
 loop-holds : tie.Need-loop-holds Inv-loop μ-loop
 loop-holds c = (omega arith, λ t u r. read-none t _ _ r)
 
-is-final-requires : tie.Need-is-final-requires Inv-loop μ-loop
-is-final-requires c κs = search needs
-
 returns : tie.Need-returns Inv-loop μ-loop
 returns c t u r =
     let turn = c .before .before .before .before in
     rest-stays (c .before .is-final .ensures (c .if1 .taken)) (turn .loop .inv .1 t u r)
-
-block-end-requires : tie.Need-block-end-requires Inv-loop μ-loop
-block-end-requires c κs = search needs
 
 read-in-place-requires : tie.Need-read-in-place-requires Inv-loop μ-loop
 read-in-place-requires c κs =
@@ -72,16 +66,5 @@ pub read-blocks-spec : {M : Type 1} → statement M
 read-blocks-spec =
     tie.close
     (tie.spec
-    Inv-loop
-    μ-loop
-    loop-holds
-    is-final-requires
-    returns
-    block-end-requires
-    read-in-place-requires
-    read-bytes-requires
-    loop-less
-    loop-again
-    loop-less-2
-    loop-again-2
-    returns-2)
+    Inv-loop μ-loop loop-holds (λ c κs. search needs) returns (λ c κs. search needs) read-in-place-requires read-bytes-requires loop-less
+    loop-again loop-less-2 loop-again-2 returns-2)

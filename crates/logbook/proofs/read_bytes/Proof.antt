@@ -27,12 +27,6 @@ abbrev μ-loop : tie.MeasureT-loop
 loop-holds : tie.Need-loop-holds Inv-loop μ-loop
 loop-holds c = (omega arith, omega arith, λ t start u r. r)
 
-shared-slice-read-byte : tie.Need-shared-slice-read-byte Inv-loop μ-loop
-shared-slice-read-byte c = search needs
-
-ends-slot-requires : tie.Need-ends-slot-requires Inv-loop μ-loop
-ends-slot-requires c κs = search needs
-
 -- The start, from inside the loop; and the log here.
 abbrev start-from : tie.At-loop Inv-loop μ-loop → tie.Start Inv-loop μ-loop
 start-from c = c .before .before .before .before .before .before .before
@@ -55,9 +49,6 @@ advance-requires c κs =
     let turn = c .before .before .before .before in
     let s = start-from turn in
     (s .pre .1 .0, turn .loop .given, turn .loop .empty, s .pre .1 .2, steps _ (here turn) (now turn))
-
-is-due-requires : tie.Need-is-due-requires Inv-loop μ-loop
-is-due-requires c κs = search needs
 
 count-given-requires : tie.Need-count-given-requires Inv-loop μ-loop
 count-given-requires c κs =
@@ -82,17 +73,8 @@ one-slot-requires c κs = room (c .before .before .before .before .before .befor
 cast-t27 : tie.Need-cast-t27 Inv-loop μ-loop
 cast-t27 c = omega (arith, room (c .before .before .before .before .before .before .before .before) .0)
 
-found-in-requires : tie.Need-found-in-requires Inv-loop μ-loop
-found-in-requires c κs = search needs
-
 read-other-requires : tie.Need-read-other-requires Inv-loop μ-loop
 read-other-requires c κs = room (c .before .before .before .before) .1
-
-add-i : tie.Need-add-i Inv-loop μ-loop
-add-i c = search needs
-
-loop-less : tie.Need-loop-less Inv-loop μ-loop
-loop-less c = search needs
 
 -- One byte more is read, whichever way.
 turned : (c : tie.Joined1 Inv-loop μ-loop) (t : Table) → let turn = c .before .before .before .before in let s = start-from turn .args in
@@ -126,9 +108,6 @@ loop-again c =
       λ t start u r. let here = turn .loop .inv .2 t start u r in one-more (omega (arith, below)) here (turned c t u (here .may)),
     )
 
-log-of-requires : tie.Need-log-of-requires Inv-loop μ-loop
-log-of-requires c κs = search needs
-
 returns : tie.Need-returns Inv-loop μ-loop
 returns c t start u r =
     let turn = c .before .before in
@@ -139,21 +118,6 @@ pub read-bytes-spec : {M : Type 1} → statement M
 read-bytes-spec =
     tie.close
     (tie.spec
-    Inv-loop
-    μ-loop
-    loop-holds
-    shared-slice-read-byte
-    ends-slot-requires
-    advance-requires
-    is-due-requires
-    count-given-requires
-    count-empty-requires
-    one-slot-requires
-    cast-t27
-    found-in-requires
-    read-other-requires
-    add-i
-    loop-less
-    loop-again
-    log-of-requires
-    returns)
+    Inv-loop μ-loop loop-holds (λ c. search needs) (λ c κs. search needs) advance-requires (λ c κs. search needs) count-given-requires
+    count-empty-requires one-slot-requires cast-t27 (λ c κs. search needs) read-other-requires (λ c. search needs) (λ c. search needs)
+    loop-again (λ c κs. search needs) returns)

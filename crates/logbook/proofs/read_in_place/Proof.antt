@@ -28,9 +28,6 @@ abbrev μ-loop : tie.MeasureT-loop
 loop-holds : tie.Need-loop-holds Inv-loop μ-loop
 loop-holds c = (omega arith, omega arith, λ t start u r. r)
 
-goes-on-requires : tie.Need-goes-on-requires Inv-loop μ-loop
-goes-on-requires c κs = search needs
-
 -- The start, from inside the loop; and the log here.
 abbrev start-from : tie.At-loop Inv-loop μ-loop → tie.Start Inv-loop μ-loop
 start-from c = c .before .before .before .before .before .before .before
@@ -45,23 +42,14 @@ below c = c .before .goes-on .ensures (c .if1 .taken)
 shared-slice-read-byte : tie.Need-shared-slice-read-byte Inv-loop μ-loop
 shared-slice-read-byte c = omega (arith, below (c .before), start-from (c .before .before .before) .pre .0)
 
-ends-slot-requires : tie.Need-ends-slot-requires Inv-loop μ-loop
-ends-slot-requires c κs = search needs
-
 -- Of the table that there is, it may be read on.
 now : (c : tie.At-loop Inv-loop μ-loop) → Readable (start-from c .pre .1 .0) (here c)
 now c = let (t, start, u, r) = start-from c .pre .1 in c .loop .inv .2 t start u r .may
-
-hear-report-requires : tie.Need-hear-report-requires Inv-loop μ-loop
-hear-report-requires c κs = search needs
 
 serve-requires : tie.Need-serve-requires Inv-loop μ-loop
 serve-requires c κs =
     let turn = c .before .before .before .before .before .before .before .before .before in
     omega (arith, start-from turn .pre .1 .2 .0, now turn .ranged .few)
-
-is-met-requires : tie.Need-is-met-requires Inv-loop μ-loop
-is-met-requires c κs = search needs
 
 returns : tie.Need-returns Inv-loop μ-loop
 returns c = let turn = c .before .before .before .before .before .before .before .before .before .before .before .before in (start-from turn .pre .0 .0, λ t start u r. r)
@@ -142,9 +130,6 @@ loop-again c =
       λ t start u r. let here = turn .loop .inv .2 t start u r in one-more (omega (arith, left, within)) here (turned c t u (here .may)),
     )
 
-log-of-requires : tie.Need-log-of-requires Inv-loop μ-loop
-log-of-requires c κs = search needs
-
 returns-2 : tie.Need-returns-2 Inv-loop μ-loop
 returns-2 c = let turn = c .before .before .before in (turn .loop .inv .1, λ t start u r. rw (c .log-of .ensures) (turn .loop .inv .2 t start u r))
 
@@ -152,22 +137,6 @@ pub read-in-place-spec : {M : Type 1} → statement M
 read-in-place-spec =
     tie.close
     (tie.spec
-    Inv-loop
-    μ-loop
-    loop-holds
-    goes-on-requires
-    shared-slice-read-byte
-    ends-slot-requires
-    hear-report-requires
-    serve-requires
-    is-met-requires
-    returns
-    count-given-requires
-    count-empty-requires
-    one-slot-requires
-    read-other-requires
-    add-at
-    loop-less
-    loop-again
-    log-of-requires
-    returns-2)
+    Inv-loop μ-loop loop-holds (λ c κs. search needs) shared-slice-read-byte (λ c κs. search needs) (λ c κs. search needs) serve-requires
+    (λ c κs. search needs) returns count-given-requires count-empty-requires one-slot-requires read-other-requires add-at loop-less
+    loop-again (λ c κs. search needs) returns-2)

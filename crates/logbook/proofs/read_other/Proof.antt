@@ -7,27 +7,6 @@ use borrow.Author.Needs.{needs}
 use Rattle.logbook.proofs.read_other.Statement.{statement}
 use Rattle.logbook.proofs.read_other.Tie as tie
 
-enum-told : tie.Need-enum-told
-enum-told c = search needs
-
-read-kind-requires : tie.Need-read-kind-requires
-read-kind-requires c κs = search needs
-
-enum-told-2 : tie.Need-enum-told-2
-enum-told-2 c = search needs
-
-behind-end-requires : tie.Need-behind-end-requires
-behind-end-requires c κs = search needs
-
-stop-requires : tie.Need-stop-requires
-stop-requires c κs = search needs
-
-enum-told-3 : tie.Need-enum-told-3
-enum-told-3 c = search needs
-
-enum-told-4 : tie.Need-enum-told-4
-enum-told-4 c = search needs
-
 returns : tie.Need-returns
 returns c = let s = c .before .before .before .args in
     c .read-kind .ensures ∙ ap (otherRead (s .reading) (s .byte)) (sym (c .before .enum-told .given .1))
@@ -47,14 +26,5 @@ pub read-other-spec : {M : Type 1} → statement M
 read-other-spec =
     tie.close
     (tie.spec
-    enum-told
-    read-kind-requires
-    enum-told-2
-    behind-end-requires
-    stop-requires
-    enum-told-3
-    enum-told-4
-    returns
-    returns-2
-    returns-3
-    returns-4)
+    (λ c. search needs) (λ c κs. search needs) (λ c. search needs) (λ c κs. search needs) (λ c κs. search needs) (λ c. search needs)
+    (λ c. search needs) returns returns-2 returns-3 returns-4)

@@ -8,16 +8,10 @@ use borrow.Author.Needs.{needs}
 use Rattle.logbuffer.proofs.log_in.Statement.{statement}
 use Rattle.logbuffer.proofs.log_in.Tie as tie
 
-state-in-requires : tie.Need-state-in-requires
-state-in-requires c κs = search needs
-
-reading-in-requires : tie.Need-reading-in-requires
-reading-in-requires c κs = search needs
-
 returns : tie.Need-returns
 unfolding logIn
 returns c = let state = c .before in
     ap (λ (d : State). joined d (c .reading-in .result)) (state .state-in .ensures) ∙ ap (joined (stateIn (state .before .before .args .buffer .now))) (c .reading-in .ensures)
 
 pub log-in-spec : {M : Type 1} → statement M
-log-in-spec = tie.close (tie.spec state-in-requires reading-in-requires returns)
+log-in-spec = tie.close (tie.spec (λ c κs. search needs) (λ c κs. search needs) returns)

@@ -6,21 +6,6 @@ use Rattle.numbers.specs.Form.{on-form, right-length}
 use Rattle.logcalls.proofs.log_start.Statement.{statement}
 use Rattle.logcalls.proofs.log_start.Tie as tie
 
-form-for-requires : tie.Need-form-for-requires
-form-for-requires c κs = search needs
-
-enum-known-admission : tie.Need-enum-known-admission
-enum-known-admission c = search needs
-
-refusal-number-requires : tie.Need-refusal-number-requires
-refusal-number-requires c κs = search needs
-
-enum-told : tie.Need-enum-told
-enum-told c = search needs
-
-start-requires : tie.Need-start-requires
-start-requires c κs = search needs
-
 log-told-requires : tie.Need-log-told-requires
 log-told-requires c κs =
     let told = c .before .before .before in
@@ -35,9 +20,6 @@ returns c =
     let s = form .before .before .before .args in
     rw (on-form logBytes (s .file .now) (s .state .now) (form .form-for .ensures) (λ t. let f = logStarted t in logWritten (s .state .now) (f .log) (f .admission)), known .admission .given .1, c .refusal-number .ensures)
 
-same-length : tie.Need-same-length
-same-length c = search needs
-
 returns-2 : tie.Need-returns-2
 returns-2 c =
     let called = c .before .before in
@@ -51,12 +33,5 @@ pub log-start-spec : {M : Type 1} → statement M
 log-start-spec =
     tie.close
     (tie.spec
-    form-for-requires
-    enum-known-admission
-    refusal-number-requires
-    enum-told
-    start-requires
-    log-told-requires
-    returns
-    same-length
-    returns-2)
+    (λ c κs. search needs) (λ c. search needs) (λ c κs. search needs) (λ c. search needs) (λ c κs. search needs) log-told-requires returns
+    (λ c. search needs) returns-2)

@@ -23,21 +23,6 @@ abbrev μ-loop : tie.MeasureT-loop
 loop-holds : tie.Need-loop-holds Inv-loop μ-loop
 loop-holds c = (omega arith, refl)
 
-find-requires : tie.Need-find-requires Inv-loop μ-loop
-find-requires c κs = search needs
-
-sub-same : tie.Need-sub-same Inv-loop μ-loop
-sub-same c = search needs
-
-part-same-start : tie.Need-part-same-start Inv-loop μ-loop
-part-same-start c = search needs
-
-part-same-end : tie.Need-part-same-end Inv-loop μ-loop
-part-same-end c = search needs
-
-same-requires : tie.Need-same-requires Inv-loop μ-loop
-same-requires c κs = search needs
-
 -- The line that was compared.
 compared : (c : tie.After-same Inv-loop μ-loop) (b : Bool) → c .same .result ≡ b
     → let found = c .before .before in
@@ -67,15 +52,6 @@ add-left c =
     let found = c .before .before .before .before in
     omega (arith, found .find .ensures .1, c .if2 .left, found .before .loop .inv .0)
 
-sub-left : tie.Need-sub-left Inv-loop μ-loop
-sub-left c = search needs
-
-part-left-start : tie.Need-part-left-start Inv-loop μ-loop
-part-left-start c = search needs
-
-part-left-end : tie.Need-part-left-end Inv-loop μ-loop
-part-left-end c = search needs
-
 loop-less : tie.Need-loop-less Inv-loop μ-loop
 loop-less c =
     let found = c .before .before .before .before .before in
@@ -96,19 +72,5 @@ pub has-line-spec : {M : Type 1} → statement M
 has-line-spec =
     tie.close
     (tie.spec
-    Inv-loop
-    μ-loop
-    loop-holds
-    find-requires
-    sub-same
-    part-same-start
-    part-same-end
-    same-requires
-    returns
-    returns-2
-    add-left
-    sub-left
-    part-left-start
-    part-left-end
-    loop-less
-    loop-again)
+    Inv-loop μ-loop loop-holds (λ c κs. search needs) (λ c. search needs) (λ c. search needs) (λ c. search needs) (λ c κs. search needs)
+    returns returns-2 add-left (λ c. search needs) (λ c. search needs) (λ c. search needs) loop-less loop-again)

@@ -3,30 +3,6 @@ use borrow.Author.Needs.{needs}
 use Rattle.pieces.proofs.is.Statement.{statement}
 use Rattle.pieces.proofs.is.Tie as tie
 
-enum-told : tie.Need-enum-told
-enum-told c = search needs
-
-enum-told-2 : tie.Need-enum-told-2
-enum-told-2 c = search needs
-
-enum-told-3 : tie.Need-enum-told-3
-enum-told-3 c = search needs
-
-is-gap-requires : tie.Need-is-gap-requires
-is-gap-requires c κs = search needs
-
-enum-told-4 : tie.Need-enum-told-4
-enum-told-4 c = search needs
-
-is-gap-requires-2 : tie.Need-is-gap-requires-2
-is-gap-requires-2 c κs = search needs
-
-enum-told-5 : tie.Need-enum-told-5
-enum-told-5 c = search needs
-
-is-digit-requires : tie.Need-is-digit-requires
-is-digit-requires c κs = search needs
-
 returns : tie.Need-returns
 returns c = rw (c .enum-told .given .1)
 
@@ -46,16 +22,5 @@ pub is-spec : {M : Type 1} → statement M
 is-spec =
     tie.close
     (tie.spec
-    enum-told
-    enum-told-2
-    enum-told-3
-    is-gap-requires
-    enum-told-4
-    is-gap-requires-2
-    enum-told-5
-    is-digit-requires
-    returns
-    returns-2
-    returns-3
-    returns-4
-    returns-5)
+    (λ c. search needs) (λ c. search needs) (λ c. search needs) (λ c κs. search needs) (λ c. search needs) (λ c κs. search needs)
+    (λ c. search needs) (λ c κs. search needs) returns returns-2 returns-3 returns-4 returns-5)

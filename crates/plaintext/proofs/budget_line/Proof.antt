@@ -7,16 +7,10 @@ use Rattle.plaintext.proofs.budget_line.Tie as tie
 returns : tie.Need-returns
 returns c = rw (c .if1 .taken) (second-budget _)
 
-numbers-in-requires : tie.Need-numbers-in-requires
-numbers-in-requires c κs = search needs
-
 returns-2 : tie.Need-returns-2
 returns-2 c =
     let read = c .before .before in
     rw (read .before .if1 .left) (budget-fault (read .numbers-in .ensures) (c .if2 .taken))
-
-array-read-budget : tie.Need-array-read-budget
-array-read-budget c = search needs
 
 returns-3 : tie.Need-returns-3
 returns-3 c =
@@ -31,5 +25,4 @@ returns-4 c =
     rw (read .before .if1 .left) (budget-good (read .numbers-in .ensures) (tested .if2 .left) (c .if3 .left))
 
 pub budget-line-spec : {M : Type 1} → statement M
-budget-line-spec =
-    tie.close (tie.spec returns numbers-in-requires returns-2 array-read-budget returns-3 returns-4)
+budget-line-spec = tie.close (tie.spec returns (λ c κs. search needs) returns-2 (λ c. search needs) returns-3 returns-4)

@@ -10,21 +10,6 @@ use Rattle.plaintext.specs.Lines.{before-comment}
 use Rattle.plaintext.proofs.content.Statement.{statement}
 use Rattle.plaintext.proofs.content.Tie as tie
 
-without-return-requires : tie.Need-without-return-requires
-without-return-requires c κs = search needs
-
-sub-find : tie.Need-sub-find
-sub-find c = search needs
-
-part-find-start : tie.Need-part-find-start
-part-find-start c = search needs
-
-part-find-end : tie.Need-part-find-end
-part-find-end c = search needs
-
-find-requires : tie.Need-find-requires
-find-requires c κs = search needs
-
 returns : tie.Need-returns
 returns c =
     let cut = c .before .before in
@@ -33,4 +18,5 @@ returns c =
 pub content-spec : {M : Type 1} → statement M
 content-spec =
     tie.close
-    (tie.spec without-return-requires sub-find part-find-start part-find-end find-requires returns)
+    (tie.spec
+    (λ c κs. search needs) (λ c. search needs) (λ c. search needs) (λ c. search needs) (λ c κs. search needs) returns)

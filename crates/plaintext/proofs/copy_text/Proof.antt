@@ -5,23 +5,13 @@ use Rattle.writer.specs.Records.{short, fits}
 use Rattle.plaintext.proofs.copy_text.Statement.{statement}
 use Rattle.plaintext.proofs.copy_text.Tie as tie
 
-short-buffer-requires : tie.Need-short-buffer-requires
-short-buffer-requires c κs = search needs
-
 returns : tie.Need-returns
 returns c =
     let start = c .before .before .before .before in
     short (start .args .made .now) (start .args .buffer .now) (omega arith) (c .short-buffer .ensures)
 
-put-text-requires : tie.Need-put-text-requires
-put-text-requires c κs = search needs
-
-same-length : tie.Need-same-length
-same-length c = search needs
-
 returns-2 : tie.Need-returns-2
 returns-2 c = fits (c .before .before .put-text .ensures) (omega arith)
 
 pub copy-text-spec : {M : Type 1} → statement M
-copy-text-spec =
-    tie.close (tie.spec short-buffer-requires returns put-text-requires same-length returns-2)
+copy-text-spec = tie.close (tie.spec (λ c κs. search needs) returns (λ c κs. search needs) (λ c. search needs) returns-2)

@@ -7,11 +7,8 @@ use Rattle.plaintext.proofs.digit_of.Tie as tie
 sub-result : tie.Need-sub-result
 sub-result c = omega (arith, digit-range (c .args .byte) (c .pre))
 
-cast-result : tie.Need-cast-result
-cast-result c = search needs
-
 returns : tie.Need-returns
 returns c = omega (arith, digit-range (c .args .byte) (c .pre))
 
 pub digit-of-spec : {M : Type 1} → statement M
-digit-of-spec = tie.close (tie.spec sub-result cast-result returns)
+digit-of-spec = tie.close (tie.spec sub-result (λ c. search needs) returns)

@@ -3,25 +3,10 @@ use borrow.Author.Needs.{needs}
 use Rattle.plaintext.proofs.file_of.Statement.{statement}
 use Rattle.plaintext.proofs.file_of.Tie as tie
 
-form-of-requires : tie.Need-form-of-requires
-form-of-requires c κs = search needs
-
-enum-known-admission : tie.Need-enum-known-admission
-enum-known-admission c = search needs
-
-enum-told : tie.Need-enum-told
-enum-told c = search needs
-
-write-requires : tie.Need-write-requires
-write-requires c κs = search needs
-
 returns : tie.Need-returns
 returns c =
     let known = c .before in
     rw (← known .before .before .form-of .ensures, known .admission .given .1)
-
-same-length : tie.Need-same-length
-same-length c = search needs
 
 returns-2 : tie.Need-returns-2
 returns-2 c =
@@ -33,10 +18,4 @@ pub file-of-spec : {M : Type 1} → statement M
 file-of-spec =
     tie.close
     (tie.spec
-    form-of-requires
-    enum-known-admission
-    enum-told
-    write-requires
-    returns
-    same-length
-    returns-2)
+    (λ c κs. search needs) (λ c. search needs) (λ c. search needs) (λ c κs. search needs) returns (λ c. search needs) returns-2)

@@ -21,38 +21,11 @@ Inv-loop text given₀ budget₀ table₀ line₀ left₀ given budget table lin
 abbrev μ-loop : tie.MeasureT-loop
 μ-loop text given₀ budget₀ table₀ line₀ left₀ given budget table line left = length left
 
-no-tasks-requires : tie.Need-no-tasks-requires Inv-loop μ-loop
-no-tasks-requires c κs = search needs
-
 loop-holds : tie.Need-loop-holds Inv-loop μ-loop
 loop-holds c = (omega arith, start _ (c .no-tasks .ensures))
 
-find-requires : tie.Need-find-requires Inv-loop μ-loop
-find-requires c κs = search needs
-
 next-line-requires : tie.Need-next-line-requires Inv-loop μ-loop
 next-line-requires c κs = let at = c .before .loop .inv .1 .at in omega arith
-
-sub-read-line : tie.Need-sub-read-line Inv-loop μ-loop
-sub-read-line c = search needs
-
-part-read-line-start : tie.Need-part-read-line-start Inv-loop μ-loop
-part-read-line-start c = search needs
-
-part-read-line-end : tie.Need-part-read-line-end Inv-loop μ-loop
-part-read-line-end c = search needs
-
-read-line-requires : tie.Need-read-line-requires Inv-loop μ-loop
-read-line-requires c κs = search needs
-
-enum-told : tie.Need-enum-told Inv-loop μ-loop
-enum-told c = search needs
-
-enum-known-slots : tie.Need-enum-known-slots Inv-loop μ-loop
-enum-known-slots c = search needs
-
-enum-known-task : tie.Need-enum-known-task Inv-loop μ-loop
-enum-known-task c = search needs
 
 -- What the line that was read leads to.
 said : (c : tie.After-read-line Inv-loop μ-loop) (l : Line) → c .read-line .result ≡ l
@@ -80,17 +53,8 @@ joined c = elim (c .match .came) [
 with-task-requires : tie.Need-with-task-requires Inv-loop μ-loop
 with-task-requires c κs = said (c .before .before .before) (Line.OneTask (c .before .task .given .0 .0)) (c .before .task .given .1) .0
 
-enum-known-number : tie.Need-enum-known-number Inv-loop μ-loop
-enum-known-number c = search needs
-
-refused-line-requires : tie.Need-refused-line-requires Inv-loop μ-loop
-refused-line-requires c κs = search needs
-
 returns : tie.Need-returns Inv-loop μ-loop
 returns c = c .refused-line .ensures ∙ said (c .before .before .before .before) (Line.Fault (c .before .before .number .given .0 .0)) (c .before .before .number .given .1)
-
-ended-requires : tie.Need-ended-requires Inv-loop μ-loop
-ended-requires c κs = search needs
 
 returns-2 : tie.Need-returns-2 Inv-loop μ-loop
 returns-2 c =
@@ -103,15 +67,6 @@ add-left : tie.Need-add-left Inv-loop μ-loop
 add-left c =
     let found = c .before .before .before .before .before in
     omega (arith, found .find .ensures .1, c .if1 .left, found .before .loop .inv .0)
-
-sub-left : tie.Need-sub-left Inv-loop μ-loop
-sub-left c = search needs
-
-part-left-start : tie.Need-part-left-start Inv-loop μ-loop
-part-left-start c = search needs
-
-part-left-end : tie.Need-part-left-end Inv-loop μ-loop
-part-left-end c = search needs
 
 loop-less : tie.Need-loop-less Inv-loop μ-loop
 loop-less c =
@@ -132,28 +87,7 @@ pub form-of-spec : {M : Type 1} → statement M
 form-of-spec =
     tie.close
     (tie.spec
-    Inv-loop
-    μ-loop
-    no-tasks-requires
-    loop-holds
-    find-requires
-    next-line-requires
-    sub-read-line
-    part-read-line-start
-    part-read-line-end
-    read-line-requires
-    enum-told
-    enum-known-slots
-    enum-known-task
-    with-task-requires
-    enum-known-number
-    refused-line-requires
-    returns
-    ended-requires
-    returns-2
-    add-left
-    sub-left
-    part-left-start
-    part-left-end
-    loop-less
-    loop-again)
+    Inv-loop μ-loop (λ c κs. search needs) loop-holds (λ c κs. search needs) next-line-requires (λ c. search needs) (λ c. search needs)
+    (λ c. search needs) (λ c κs. search needs) (λ c. search needs) (λ c. search needs) (λ c. search needs) with-task-requires
+    (λ c. search needs) (λ c κs. search needs) returns (λ c κs. search needs) returns-2 add-left (λ c. search needs) (λ c. search needs)
+    (λ c. search needs) loop-less loop-again)

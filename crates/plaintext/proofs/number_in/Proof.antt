@@ -5,9 +5,6 @@ use Rattle.plaintext.specs.Numbers.{all-digits, a-stranger, no-number}
 use Rattle.plaintext.proofs.number_in.Statement.{statement}
 use Rattle.plaintext.proofs.number_in.Tie as tie
 
-find-requires : tie.Need-find-requires
-find-requires c κs = search needs
-
 returns : tie.Need-returns
 returns c = no-number _ _ _ (a-stranger _ (omega arith))
 
@@ -18,4 +15,4 @@ returns-2 : tie.Need-returns-2
 returns-2 c = c .value-of .ensures
 
 pub number-in-spec : {M : Type 1} → statement M
-number-in-spec = tie.close (tie.spec find-requires returns value-of-requires returns-2)
+number-in-spec = tie.close (tie.spec (λ c κs. search needs) returns value-of-requires returns-2)

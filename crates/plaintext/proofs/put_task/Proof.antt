@@ -6,30 +6,6 @@ use Rattle.plaintext.specs.Texts.{task-put}
 use Rattle.plaintext.proofs.put_task.Statement.{statement}
 use Rattle.plaintext.proofs.put_task.Tie as tie
 
-put-name-requires : tie.Need-put-name-requires
-put-name-requires c κs = search needs
-
-slice-aggregate-put-number : tie.Need-slice-aggregate-put-number
-slice-aggregate-put-number c = search needs
-
-cast-put-number : tie.Need-cast-put-number
-cast-put-number c = search needs
-
-put-number-requires : tie.Need-put-number-requires
-put-number-requires c κs = search needs
-
-slice-aggregate-put-line : tie.Need-slice-aggregate-put-line
-slice-aggregate-put-line c = search needs
-
-cast-put-line : tie.Need-cast-put-line
-cast-put-line c = search needs
-
-put-line-requires : tie.Need-put-line-requires
-put-line-requires c κs = search needs
-
-same-length : tie.Need-same-length
-same-length c = search needs
-
 returns : tie.Need-returns
 unfolding text
 returns c =
@@ -42,12 +18,5 @@ pub put-task-spec : {M : Type 1} → statement M
 put-task-spec =
     tie.close
     (tie.spec
-    put-name-requires
-    slice-aggregate-put-number
-    cast-put-number
-    put-number-requires
-    slice-aggregate-put-line
-    cast-put-line
-    put-line-requires
-    same-length
-    returns)
+    (λ c κs. search needs) (λ c. search needs) (λ c. search needs) (λ c κs. search needs) (λ c. search needs) (λ c. search needs)
+    (λ c κs. search needs) (λ c. search needs) returns)

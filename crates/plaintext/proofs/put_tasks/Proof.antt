@@ -25,22 +25,10 @@ loop-holds : tie.Need-loop-holds Inv-loop μ-loop
 unfolding taskTexts
 loop-holds c = (omega arith, refl, omega arith, nothing _ _)
 
-mul-put-task : tie.Need-mul-put-task Inv-loop μ-loop
-mul-put-task c = search needs
-
-element-copy-out-put-task : tie.Need-element-copy-out-put-task Inv-loop μ-loop
-element-copy-out-put-task c = search needs
-
 put-task-requires : tie.Need-put-task-requires Inv-loop μ-loop
 put-task-requires c κs =
     let turn = c .before .before .before in
     omega (arith, turn .before .before .pre .0 .few)
-
-add-i : tie.Need-add-i Inv-loop μ-loop
-add-i c = search needs
-
-loop-less : tie.Need-loop-less Inv-loop μ-loop
-loop-less c = search needs
 
 loop-again : tie.Need-loop-again Inv-loop μ-loop
 loop-again c =
@@ -50,9 +38,6 @@ loop-again c =
     let ranged = start .pre .0 in
     let inside : turn .loop .i < start .args .t3 .count = omega arith in
     (omega arith, omega arith, omega (arith, put .put-task .ensures .place, task-short _ (ranged .each (turn .loop .i) inside)), one-more _ (turn .loop .i) (omega (arith, holds-all _ ranged)) (turn .loop .inv .3) (put .put-task .ensures))
-
-same-length : tie.Need-same-length Inv-loop μ-loop
-same-length c = search needs
 
 returns : tie.Need-returns Inv-loop μ-loop
 returns c =
@@ -65,14 +50,5 @@ pub put-tasks-spec : {M : Type 1} → statement M
 put-tasks-spec =
     tie.close
     (tie.spec
-    Inv-loop
-    μ-loop
-    loop-holds
-    mul-put-task
-    element-copy-out-put-task
-    put-task-requires
-    add-i
-    loop-less
-    loop-again
-    same-length
-    returns)
+    Inv-loop μ-loop loop-holds (λ c. search needs) (λ c. search needs) put-task-requires (λ c. search needs) (λ c. search needs) loop-again
+    (λ c. search needs) returns)

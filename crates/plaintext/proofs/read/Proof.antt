@@ -4,27 +4,6 @@ use Rattle.model.specs.PlainText.{textRead}
 use Rattle.plaintext.proofs.read.Statement.{statement}
 use Rattle.plaintext.proofs.read.Tie as tie
 
-form-of-requires : tie.Need-form-of-requires
-form-of-requires c κs = search needs
-
-enum-told : tie.Need-enum-told
-enum-told c = search needs
-
-enum-told-2 : tie.Need-enum-told-2
-enum-told-2 c = search needs
-
-judge-mixed-requires : tie.Need-judge-mixed-requires
-judge-mixed-requires c κs = search needs
-
-enum-known-why : tie.Need-enum-known-why
-enum-known-why c = search needs
-
-refused-file-requires : tie.Need-refused-file-requires
-refused-file-requires c κs = search needs
-
-enum-told-3 : tie.Need-enum-told-3
-enum-told-3 c = search needs
-
 returns : tie.Need-returns
 unfolding textRead
 returns c = rw (← c .before .before .form-of .ensures, c .enum-told .given .1)
@@ -47,13 +26,5 @@ pub read-spec : {M : Type 1} → statement M
 read-spec =
     tie.close
     (tie.spec
-    form-of-requires
-    enum-told
-    enum-told-2
-    judge-mixed-requires
-    enum-known-why
-    refused-file-requires
-    enum-told-3
-    returns
-    returns-2
-    returns-3)
+    (λ c κs. search needs) (λ c. search needs) (λ c. search needs) (λ c κs. search needs) (λ c. search needs) (λ c κs. search needs)
+    (λ c. search needs) returns returns-2 returns-3)

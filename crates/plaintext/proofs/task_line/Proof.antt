@@ -17,9 +17,6 @@ returns-2 : tie.Need-returns-2
 unfolding taskLine
 returns-2 c = rw (not-false (c .before .before .before .args .given) (c .before .if1 .left), le-leb _ _ (c .if2 .taken))
 
-numbers-due-requires : tie.Need-numbers-due-requires
-numbers-due-requires c κs = search needs
-
 numbers-in-requires : tie.Need-numbers-in-requires
 numbers-in-requires c κs = (omega (arith, c .numbers-due .ensures, due-le (c .before .before .before .before .args .button)), omega arith)
 
@@ -46,13 +43,4 @@ returns-4 c =
     rw (not-false (a .given) (room .before .if1 .left)) (task-good (a .button) (a .count) (omega arith) (read numbers) (tested .if3 .left) (c .task-of .ensures))
 
 pub task-line-spec : {M : Type 1} → statement M
-task-line-spec =
-    tie.close
-    (tie.spec
-    returns
-    returns-2
-    numbers-due-requires
-    numbers-in-requires
-    returns-3
-    task-of-requires
-    returns-4)
+task-line-spec = tie.close (tie.spec returns returns-2 (λ c κs. search needs) numbers-in-requires returns-3 task-of-requires returns-4)

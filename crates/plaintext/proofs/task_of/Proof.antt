@@ -4,20 +4,11 @@ use borrow.Author.Needs.{needs}
 use Rattle.plaintext.proofs.task_of.Statement.{statement}
 use Rattle.plaintext.proofs.task_of.Tie as tie
 
-array-read-t8 : tie.Need-array-read-t8
-array-read-t8 c = search needs
-
 cast-t9 : tie.Need-cast-t9
 cast-t9 c = omega (arith, rw (c .if1 .taken) at (c .before .pre) 0 (omega arith))
 
-array-read-t12 : tie.Need-array-read-t12
-array-read-t12 c = search needs
-
 cast-t13 : tie.Need-cast-t13
 cast-t13 c = omega (arith, rw (c .if1 .taken) at (c .before .pre) 1 (omega arith))
-
-array-read-t16 : tie.Need-array-read-t16
-array-read-t16 c = search needs
 
 cast-t17 : tie.Need-cast-t17
 cast-t17 c = omega (arith, rw (c .if1 .taken) at (c .before .pre) 2 (omega arith))
@@ -25,26 +16,14 @@ cast-t17 c = omega (arith, rw (c .if1 .taken) at (c .before .pre) 2 (omega arith
 returns : tie.Need-returns
 returns c = rw (c .if1 .taken)
 
-array-read-t20 : tie.Need-array-read-t20
-array-read-t20 c = search needs
-
 cast-t21 : tie.Need-cast-t21
 cast-t21 c = omega (arith, rw (c .if1 .left) at (c .before .pre) 0 (omega arith))
-
-array-read-t25 : tie.Need-array-read-t25
-array-read-t25 c = search needs
 
 cast-t26 : tie.Need-cast-t26
 cast-t26 c = omega (arith, rw (c .if1 .left) at (c .before .pre) 1 (omega arith))
 
-array-read-t29 : tie.Need-array-read-t29
-array-read-t29 c = search needs
-
 cast-t30 : tie.Need-cast-t30
 cast-t30 c = omega (arith, rw (c .if1 .left) at (c .before .pre) 2 (omega arith))
-
-array-read-t33 : tie.Need-array-read-t33
-array-read-t33 c = search needs
 
 cast-t34 : tie.Need-cast-t34
 cast-t34 c = omega (arith, rw (c .if1 .left) at (c .before .pre) 3 (omega arith))
@@ -56,19 +35,5 @@ pub task-of-spec : {M : Type 1} → statement M
 task-of-spec =
     tie.close
     (tie.spec
-    array-read-t8
-    cast-t9
-    array-read-t12
-    cast-t13
-    array-read-t16
-    cast-t17
-    returns
-    array-read-t20
-    cast-t21
-    array-read-t25
-    cast-t26
-    array-read-t29
-    cast-t30
-    array-read-t33
-    cast-t34
-    returns-2)
+    (λ c. search needs) cast-t9 (λ c. search needs) cast-t13 (λ c. search needs) cast-t17 returns (λ c. search needs) cast-t21
+    (λ c. search needs) cast-t26 (λ c. search needs) cast-t30 (λ c. search needs) cast-t34 returns-2)

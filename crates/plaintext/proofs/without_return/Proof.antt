@@ -7,15 +7,6 @@ use Rattle.plaintext.specs.Lines.{no-bytes}
 use Rattle.plaintext.proofs.without_return.Statement.{statement}
 use Rattle.plaintext.proofs.without_return.Tie as tie
 
-sub-if2 : tie.Need-sub-if2
-sub-if2 c = search needs
-
-shared-slice-read-if2 : tie.Need-shared-slice-read-if2
-shared-slice-read-if2 c = search needs
-
-sub-result : tie.Need-sub-result
-sub-result c = search needs
-
 returns : tie.Need-returns
 returns c = (omega arith, rw (eq-eqb _ _ (c .if2 .taken)))
 
@@ -26,5 +17,4 @@ returns-3 : tie.Need-returns-3
 returns-3 c = (omega arith, no-bytes (c .before .args .line .now) (omega arith))
 
 pub without-return-spec : {M : Type 1} → statement M
-without-return-spec =
-    tie.close (tie.spec sub-if2 shared-slice-read-if2 sub-result returns returns-2 returns-3)
+without-return-spec = tie.close (tie.spec (λ c. search needs) (λ c. search needs) (λ c. search needs) returns returns-2 returns-3)

@@ -12,34 +12,10 @@ use Rattle.pieces.specs.Pieces.{from-front}
 use Rattle.plaintext.proofs.write_text.Statement.{statement}
 use Rattle.plaintext.proofs.write_text.Tie as tie
 
-no-budget-requires : tie.Need-no-budget-requires
-no-budget-requires c κs = search needs
-
 returns : tie.Need-returns
 returns c =
     let a = c .before .before .before .args in
     nothing (a .budget) (textOf (a .budget) (tasksOf (a .table))) (a .buffer .now) (c .before .if1 .taken) (c .no-budget .ensures)
-
-slice-aggregate-put-text : tie.Need-slice-aggregate-put-text
-slice-aggregate-put-text c = search needs
-
-put-text-requires : tie.Need-put-text-requires
-put-text-requires c κs = search needs
-
-sub-copy-text : tie.Need-sub-copy-text
-sub-copy-text c = search needs
-
-part-copy-text-start : tie.Need-part-copy-text-start
-part-copy-text-start c = search needs
-
-part-copy-text-end : tie.Need-part-copy-text-end
-part-copy-text-end c = search needs
-
-copy-text-requires : tie.Need-copy-text-requires
-copy-text-requires c κs = search needs
-
-same-length : tie.Need-same-length
-same-length c = search needs
 
 returns-2 : tie.Need-returns-2
 returns-2 c =
@@ -55,13 +31,5 @@ pub write-text-spec : {M : Type 1} → statement M
 write-text-spec =
     tie.close
     (tie.spec
-    no-budget-requires
-    returns
-    slice-aggregate-put-text
-    put-text-requires
-    sub-copy-text
-    part-copy-text-start
-    part-copy-text-end
-    copy-text-requires
-    same-length
-    returns-2)
+    (λ c κs. search needs) returns (λ c. search needs) (λ c κs. search needs) (λ c. search needs) (λ c. search needs) (λ c. search needs)
+    (λ c κs. search needs) (λ c. search needs) returns-2)

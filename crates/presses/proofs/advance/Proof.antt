@@ -30,30 +30,6 @@ free-from c = c .before .before .before
 abbrev unpack-from : tie.After-free-set → tie.After-unpack
 unpack-from c = c .before .before .before .before .before .before .before
 
-unpack-requires : tie.Need-unpack-requires
-unpack-requires c κs = search needs
-
-free-set-requires : tie.Need-free-set-requires
-free-set-requires c κs = search needs
-
-only-in-requires : tie.Need-only-in-requires
-only-in-requires c κs = search needs
-
-only-in-requires-2 : tie.Need-only-in-requires-2
-only-in-requires-2 c κs = search needs
-
-after-report-requires : tie.Need-after-report-requires
-after-report-requires c κs = search needs
-
-late-set-requires : tie.Need-late-set-requires
-late-set-requires c κs = search needs
-
-close-all-requires : tie.Need-close-all-requires
-close-all-requires c κs = search needs
-
-put-all-requires : tie.Need-put-all-requires
-put-all-requires c κs = search needs
-
 serve-requires : tie.Need-serve-requires
 serve-requires c κs = unpack-from (free-from (report-from (late-from (closing-from (held-from c))))) .before .pre .ranged .few
 
@@ -73,13 +49,5 @@ pub advance-spec : {M : Type 1} → statement M
 advance-spec =
     tie.close
     (tie.spec
-    unpack-requires
-    free-set-requires
-    only-in-requires
-    only-in-requires-2
-    after-report-requires
-    late-set-requires
-    close-all-requires
-    put-all-requires
-    serve-requires
-    returns)
+    (λ c κs. search needs) (λ c κs. search needs) (λ c κs. search needs) (λ c κs. search needs) (λ c κs. search needs)
+    (λ c κs. search needs) (λ c κs. search needs) (λ c κs. search needs) serve-requires returns)

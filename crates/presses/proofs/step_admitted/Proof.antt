@@ -23,9 +23,6 @@ told c = slots-tell _ _ _ (c .pre .1)
 most : (c : tie.Start) → slotCount (c .args .t) (stateOf (c .args .d)) ≤ slotCountLimit
 most c = fitting _ _ (measure (c .args .t)) (told c .0) .room
 
-handed-back-requires : tie.Need-handed-back-requires
-handed-back-requires c κs = search needs
-
 returns : tie.Need-returns
 returns c = let s = c .before .before in
     rw (told s .0, eq-eqb (slotCount (s .args .t) (stateOf (s .args .d))) slotCountLimit (omega (arith, told s .1, most s, c .before .if1 .taken))) (c .handed-back .ensures)
@@ -38,5 +35,4 @@ returns-2 c = let s = c .before .before in
     rw (told s .0, ne-eqb (slotCount (s .args .t) (stateOf (s .args .d))) slotCountLimit (λ e. absurd (omega (arith, told s .1, c .before .if1 .left)))) (c .step-taken .ensures)
 
 pub step-admitted-spec : {M : Type 1} → statement M
-step-admitted-spec =
-    tie.close (tie.spec handed-back-requires returns step-taken-requires returns-2)
+step-admitted-spec = tie.close (tie.spec (λ c κs. search needs) returns step-taken-requires returns-2)

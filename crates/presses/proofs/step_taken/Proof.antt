@@ -17,9 +17,6 @@ count-given-requires : tie.Need-count-given-requires
 count-given-requires c κs = let a = moved-from c in
     owner-room _ _ _ _ (a .before .before .pre) _ (a .advance .ensures)
 
-turn-of-requires : tie.Need-turn-of-requires
-turn-of-requires c κs = search needs
-
 count-empty-requires : tie.Need-count-empty-requires
 unfolding slotCount
 count-empty-requires c κs = let a = moved-from (c .before .before) in omega (arith, a .before .before .pre .room)
@@ -33,6 +30,4 @@ returns c =
     (counted .count-given .ensures) (c .before .turn-of .ensures) (c .count-empty .ensures)
 
 pub step-taken-spec : {M : Type 1} → statement M
-step-taken-spec =
-    tie.close
-    (tie.spec advance-requires count-given-requires turn-of-requires count-empty-requires returns)
+step-taken-spec = tie.close (tie.spec advance-requires count-given-requires (λ c κs. search needs) count-empty-requires returns)

@@ -15,17 +15,8 @@ slack-requires c κs = (well-mixed _ _ (c .pre .0) .ranged, kept _ (c .pre .0))
 returns : tie.Need-returns
 returns c = let s = c .before .before in (omega arith, beyond-0 _ (s .before .pre .0) (s .before .pre .1) (omega (arith, s .slack .ensures, c .if1 .taken)))
 
-sub-spare : tie.Need-sub-spare
-sub-spare c = search needs
-
 returns-2 : tie.Need-returns-2
 returns-2 c = let s = c .before .before .before .before .before in (omega arith, beyond-round _ (s .pre .0) (s .pre .1) _ (omega arith))
-
-div-smaller : tie.Need-div-smaller
-div-smaller c = search needs
-
-smaller-requires : tie.Need-smaller-requires
-smaller-requires c κs = search needs
 
 returns-3 : tie.Need-returns-3
 returns-3 c =
@@ -36,6 +27,4 @@ returns-3 c =
     (omega arith, beyond-slack _ (s .pre .0) (s .pre .1) (omega (arith, e .if2 .left)) _ is)
 
 pub bound-spec : {M : Type 1} → statement M
-bound-spec =
-    tie.close
-    (tie.spec slack-requires returns sub-spare returns-2 div-smaller smaller-requires returns-3)
+bound-spec = tie.close (tie.spec slack-requires returns (λ c. search needs) returns-2 (λ c. search needs) (λ c κs. search needs) returns-3)

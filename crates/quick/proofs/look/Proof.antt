@@ -31,26 +31,14 @@ periods c =
     let e : c .to-u644 .result * c .before .before .before .due-by .result ≡ task (s .args .t1) (a .loop .i) .period * dueBy (task (s .args .t1) (a .loop .i)) (s .args .u) = cc in
     omega (arith, due-le (task (s .args .t1) (a .loop .i)) (s .pre .0 .each (a .loop .i) (omega arith)) (s .args .u) (s .pre .1))
 
-to-u64-requires : tie.Need-to-u64-requires Inv-loop μ-loop
-to-u64-requires c κs = search needs
-
 add-next : tie.Need-add-next Inv-loop μ-loop
 add-next c = omega arith
 
 loop-holds : tie.Need-loop-holds Inv-loop μ-loop
 loop-holds c = (omega arith, omega arith, sum-none _)
 
-mul-task : tie.Need-mul-task Inv-loop μ-loop
-mul-task c = search needs
-
-element-copy-out-task : tie.Need-element-copy-out-task Inv-loop μ-loop
-element-copy-out-task c = search needs
-
 due-by-requires : tie.Need-due-by-requires Inv-loop μ-loop
 due-by-requires c κs = let a = c .before .before in let s = a .before .before in (s .pre .0 .each (a .loop .i) (omega arith), s .pre .1)
-
-to-u64-requires-2 : tie.Need-to-u64-requires-2 Inv-loop μ-loop
-to-u64-requires-2 c κs = search needs
 
 mul-slots : tie.Need-mul-slots Inv-loop μ-loop
 mul-slots c = omega (arith, product c, fits c)
@@ -58,26 +46,11 @@ mul-slots c = omega (arith, product c, fits c)
 add-slots : tie.Need-add-slots Inv-loop μ-loop
 add-slots c = omega (arith, product c, fits c)
 
-to-u64-requires-3 : tie.Need-to-u64-requires-3 Inv-loop μ-loop
-to-u64-requires-3 c κs = search needs
-
-to-u64-requires-4 : tie.Need-to-u64-requires-4 Inv-loop μ-loop
-to-u64-requires-4 c κs = search needs
-
 mul-smaller : tie.Need-mul-smaller Inv-loop μ-loop
 mul-smaller c = omega (arith, periods c)
 
 add-smaller : tie.Need-add-smaller Inv-loop μ-loop
 add-smaller c = omega (arith, periods c)
-
-smaller-requires : tie.Need-smaller-requires Inv-loop μ-loop
-smaller-requires c κs = search needs
-
-add-i : tie.Need-add-i Inv-loop μ-loop
-add-i c = search needs
-
-loop-less : tie.Need-loop-less Inv-loop μ-loop
-loop-less c = search needs
 
 loop-again : tie.Need-loop-again Inv-loop μ-loop
 loop-again c =
@@ -94,23 +67,6 @@ pub look-spec : {M : Type 1} → statement M
 look-spec =
     tie.close
     (tie.spec
-    Inv-loop
-    μ-loop
-    to-u64-requires
-    add-next
-    loop-holds
-    mul-task
-    element-copy-out-task
-    due-by-requires
-    to-u64-requires-2
-    mul-slots
-    add-slots
-    to-u64-requires-3
-    to-u64-requires-4
-    mul-smaller
-    add-smaller
-    smaller-requires
-    add-i
-    loop-less
-    loop-again
-    returns)
+    Inv-loop μ-loop (λ c κs. search needs) add-next loop-holds (λ c. search needs) (λ c. search needs) due-by-requires
+    (λ c κs. search needs) mul-slots add-slots (λ c κs. search needs) (λ c κs. search needs) mul-smaller add-smaller (λ c κs. search needs)
+    (λ c. search needs) (λ c. search needs) loop-again returns)

@@ -25,23 +25,11 @@ fits c = let a = c .before .before .before in let s = a .before in slack-le _ (s
 loop-holds : tie.Need-loop-holds Inv-loop μ-loop
 loop-holds c = (omega arith, omega arith, sum-none _)
 
-mul-slack-of : tie.Need-mul-slack-of Inv-loop μ-loop
-mul-slack-of c = search needs
-
-element-copy-out-slack-of : tie.Need-element-copy-out-slack-of Inv-loop μ-loop
-element-copy-out-slack-of c = search needs
-
 slack-of-requires : tie.Need-slack-of-requires Inv-loop μ-loop
 slack-of-requires c κs = let a = c .before .before in let s = a .before in (s .pre .0 .each (a .loop .i) (omega arith), s .pre .1 .le)
 
 add-total : tie.Need-add-total Inv-loop μ-loop
 add-total c = omega (arith, part c, fits c)
-
-add-i : tie.Need-add-i Inv-loop μ-loop
-add-i c = search needs
-
-loop-less : tie.Need-loop-less Inv-loop μ-loop
-loop-less c = search needs
 
 loop-again : tie.Need-loop-again Inv-loop μ-loop
 loop-again c = let a = c .before .before .before in (omega arith, omega (arith, part c, fits c), sum-more (slackAt (a .before .args .t1)) (a .loop .i) (a .loop .inv .2) (rw (part c)))
@@ -54,14 +42,5 @@ pub slack-spec : {M : Type 1} → statement M
 slack-spec =
     tie.close
     (tie.spec
-    Inv-loop
-    μ-loop
-    loop-holds
-    mul-slack-of
-    element-copy-out-slack-of
-    slack-of-requires
-    add-total
-    add-i
-    loop-less
-    loop-again
-    returns)
+    Inv-loop μ-loop loop-holds (λ c. search needs) (λ c. search needs) slack-of-requires add-total (λ c. search needs) (λ c. search needs)
+    loop-again returns)

@@ -15,21 +15,6 @@ spared c = cc
 product : (c : tie.After-to-u643) → let p = c .before .before in let s = p .before .args in c .before .to-u642 .result * ((p .to-u64 .result - c .to-u643 .result) * (s .round / p .to-u64 .result)) ≡ slackOf (s .k) (s .round)
 product c = cc
 
-to-u64-requires : tie.Need-to-u64-requires
-to-u64-requires c κs = search needs
-
-to-u64-requires-2 : tie.Need-to-u64-requires-2
-to-u64-requires-2 c κs = search needs
-
-to-u64-requires-3 : tie.Need-to-u64-requires-3
-to-u64-requires-3 c κs = search needs
-
-sub-result : tie.Need-sub-result
-sub-result c = search needs
-
-div-result : tie.Need-div-result
-div-result c = search needs
-
 mul-result : tie.Need-mul-result
 mul-result c = let s = c .before .before .before in omega (arith, spared c, spare-le (s .args .k) (s .pre .0) (s .args .round) (s .pre .1))
 
@@ -43,11 +28,5 @@ pub slack-of-spec : {M : Type 1} → statement M
 slack-of-spec =
     tie.close
     (tie.spec
-    to-u64-requires
-    to-u64-requires-2
-    to-u64-requires-3
-    sub-result
-    div-result
-    mul-result
-    mul-result-2
+    (λ c κs. search needs) (λ c κs. search needs) (λ c κs. search needs) (λ c. search needs) (λ c. search needs) mul-result mul-result-2
     returns)

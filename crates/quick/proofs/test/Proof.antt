@@ -6,15 +6,6 @@ use Rattle.wellformed.specs.WellFormed.{periodic-iff}
 use Rattle.quick.proofs.test.Statement.{statement}
 use Rattle.quick.proofs.test.Tie as tie
 
-judge-requires : tie.Need-judge-requires
-judge-requires c κs = search needs
-
-enum-known-why : tie.Need-enum-known-why
-enum-known-why c = search needs
-
-enum-known-m : tie.Need-enum-known-m
-enum-known-m c = search needs
-
 passes-requires : tie.Need-passes-requires
 passes-requires c κs = periodic-iff _ _ .0 (sym (c .before .before .before .judge .ensures) ∙ c .before .m .given .1) .0
 
@@ -35,13 +26,4 @@ returns-3 c =
     rw (← m .before .before .judge .ensures, m .m .given .1, ← c .before .passes .ensures, c .if1 .left)
 
 pub test-spec : {M : Type 1} → statement M
-test-spec =
-    tie.close
-    (tie.spec
-    judge-requires
-    enum-known-why
-    enum-known-m
-    passes-requires
-    returns
-    returns-2
-    returns-3)
+test-spec = tie.close (tie.spec (λ c κs. search needs) (λ c. search needs) (λ c. search needs) passes-requires returns returns-2 returns-3)

@@ -7,33 +7,6 @@ use Rattle.counting.specs.Put.{Put, nothing, join}
 use Rattle.report.proofs.put_details.Statement.{statement}
 use Rattle.report.proofs.put_details.Tie as tie
 
-enum-told : tie.Need-enum-told
-enum-told c = search needs
-
-put-worst-lines-requires : tie.Need-put-worst-lines-requires
-put-worst-lines-requires c κs = search needs
-
-slice-aggregate-put-line : tie.Need-slice-aggregate-put-line
-slice-aggregate-put-line c = search needs
-
-put-line-requires : tie.Need-put-line-requires
-put-line-requires c κs = search needs
-
-enum-told-2 : tie.Need-enum-told-2
-enum-told-2 c = search needs
-
-enum-known-verdict : tie.Need-enum-known-verdict
-enum-known-verdict c = search needs
-
-put-interval-requires : tie.Need-put-interval-requires
-put-interval-requires c κs = search needs
-
-enum-told-3 : tie.Need-enum-told-3
-enum-told-3 c = search needs
-
-same-length : tie.Need-same-length
-same-length c = search needs
-
 returns : tie.Need-returns
 unfolding text
 returns c =
@@ -44,9 +17,6 @@ returns c =
 
 returns-2 : tie.Need-returns-2
 returns-2 c = rw (c .enum-told2 .given .1) (nothing _ _, omega arith)
-
-same-length-2 : tie.Need-same-length-2
-same-length-2 c = search needs
 
 returns-3 : tie.Need-returns-3
 returns-3 c =
@@ -60,17 +30,5 @@ pub put-details-spec : {M : Type 1} → statement M
 put-details-spec =
     tie.close
     (tie.spec
-    enum-told
-    put-worst-lines-requires
-    slice-aggregate-put-line
-    put-line-requires
-    enum-told-2
-    enum-known-verdict
-    put-interval-requires
-    enum-told-3
-    same-length
-    returns
-    returns-2
-    same-length-2
-    returns-3
-    returns-4)
+    (λ c. search needs) (λ c κs. search needs) (λ c. search needs) (λ c κs. search needs) (λ c. search needs) (λ c. search needs)
+    (λ c κs. search needs) (λ c. search needs) (λ c. search needs) returns returns-2 (λ c. search needs) returns-3 returns-4)

@@ -8,18 +8,6 @@ use Rattle.report.specs.Fits.{worst-short}
 use Rattle.report.proofs.put_worst_line.Statement.{statement}
 use Rattle.report.proofs.put_worst_line.Tie as tie
 
-slice-aggregate-put-pair : tie.Need-slice-aggregate-put-pair
-slice-aggregate-put-pair c = search needs
-
-slice-aggregate-put-pair-2 : tie.Need-slice-aggregate-put-pair-2
-slice-aggregate-put-pair-2 c = search needs
-
-put-pair-requires : tie.Need-put-pair-requires
-put-pair-requires c κs = search needs
-
-same-length : tie.Need-same-length
-same-length c = search needs
-
 returns : tie.Need-returns
 unfolding text
 returns c =
@@ -29,11 +17,4 @@ returns c =
     (told, omega (arith, worst-short (a .task) (a .worst) (omega arith) (omega arith)))
 
 pub put-worst-line-spec : {M : Type 1} → statement M
-put-worst-line-spec =
-    tie.close
-    (tie.spec
-    slice-aggregate-put-pair
-    slice-aggregate-put-pair-2
-    put-pair-requires
-    same-length
-    returns)
+put-worst-line-spec = tie.close (tie.spec (λ c. search needs) (λ c. search needs) (λ c κs. search needs) (λ c. search needs) returns)

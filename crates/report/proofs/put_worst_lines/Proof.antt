@@ -25,29 +25,11 @@ loop-holds : tie.Need-loop-holds Inv-loop μ-loop
 unfolding worstLines
 loop-holds c = (omega arith, refl, omega arith, nothing _ _)
 
-mul-put-worst-line : tie.Need-mul-put-worst-line Inv-loop μ-loop
-mul-put-worst-line c = search needs
-
-array-read-put-worst-line : tie.Need-array-read-put-worst-line Inv-loop μ-loop
-array-read-put-worst-line c = search needs
-
-put-worst-line-requires : tie.Need-put-worst-line-requires Inv-loop μ-loop
-put-worst-line-requires c κs = search needs
-
-add-task : tie.Need-add-task Inv-loop μ-loop
-add-task c = search needs
-
-loop-less : tie.Need-loop-less Inv-loop μ-loop
-loop-less c = search needs
-
 loop-again : tie.Need-loop-again Inv-loop μ-loop
 unfolding worstLines
 loop-again c =
     let l = c .before .before in
     (omega arith, omega arith, omega arith, rw add-one (join (l .before .before .before .loop .inv .3) (l .put-worst-line .ensures .0)))
-
-same-length : tie.Need-same-length Inv-loop μ-loop
-same-length c = search needs
 
 returns : tie.Need-returns Inv-loop μ-loop
 returns c =
@@ -59,14 +41,5 @@ pub put-worst-lines-spec : {M : Type 1} → statement M
 put-worst-lines-spec =
     tie.close
     (tie.spec
-    Inv-loop
-    μ-loop
-    loop-holds
-    mul-put-worst-line
-    array-read-put-worst-line
-    put-worst-line-requires
-    add-task
-    loop-less
-    loop-again
-    same-length
-    returns)
+    Inv-loop μ-loop loop-holds (λ c. search needs) (λ c. search needs) (λ c κs. search needs) (λ c. search needs) (λ c. search needs)
+    loop-again (λ c. search needs) returns)

@@ -8,39 +8,6 @@ use Rattle.report.specs.Put.{at-front}
 use Rattle.report.proofs.write_report.Statement.{statement}
 use Rattle.report.proofs.write_report.Tie as tie
 
-slice-aggregate-put-line : tie.Need-slice-aggregate-put-line
-slice-aggregate-put-line c = search needs
-
-put-line-requires : tie.Need-put-line-requires
-put-line-requires c κs = search needs
-
-slice-aggregate-put-pair : tie.Need-slice-aggregate-put-pair
-slice-aggregate-put-pair c = search needs
-
-slice-aggregate-put-pair-2 : tie.Need-slice-aggregate-put-pair-2
-slice-aggregate-put-pair-2 c = search needs
-
-put-pair-requires : tie.Need-put-pair-requires
-put-pair-requires c κs = search needs
-
-put-quick-requires : tie.Need-put-quick-requires
-put-quick-requires c κs = search needs
-
-slice-aggregate-put-line-2 : tie.Need-slice-aggregate-put-line-2
-slice-aggregate-put-line-2 c = search needs
-
-put-line-requires-2 : tie.Need-put-line-requires-2
-put-line-requires-2 c κs = search needs
-
-put-verdict-requires : tie.Need-put-verdict-requires
-put-verdict-requires c κs = search needs
-
-slice-aggregate-put-line-3 : tie.Need-slice-aggregate-put-line-3
-slice-aggregate-put-line-3 c = search needs
-
-put-line-requires-3 : tie.Need-put-line-requires-3
-put-line-requires-3 c κs = search needs
-
 put-details-requires : tie.Need-put-details-requires
 put-details-requires c κs =
     let s = c .before .before .before in
@@ -84,17 +51,6 @@ pub write-report-spec : {M : Type 1} → statement M
 write-report-spec =
     tie.close
     (tie.spec
-    slice-aggregate-put-line
-    put-line-requires
-    slice-aggregate-put-pair
-    slice-aggregate-put-pair-2
-    put-pair-requires
-    put-quick-requires
-    slice-aggregate-put-line-2
-    put-line-requires-2
-    put-verdict-requires
-    slice-aggregate-put-line-3
-    put-line-requires-3
-    put-details-requires
-    same-length
-    returns)
+    (λ c. search needs) (λ c κs. search needs) (λ c. search needs) (λ c. search needs) (λ c κs. search needs) (λ c κs. search needs)
+    (λ c. search needs) (λ c κs. search needs) (λ c κs. search needs) (λ c. search needs) (λ c κs. search needs) put-details-requires
+    same-length returns)

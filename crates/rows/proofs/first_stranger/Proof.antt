@@ -22,9 +22,6 @@ abbrev μ-loop : tie.MeasureT-loop
 loop-holds : tie.Need-loop-holds Inv-loop μ-loop
 loop-holds c = (omega arith, λ k a b. absurd (omega arith))
 
-is-task-requires : tie.Need-is-task-requires Inv-loop μ-loop
-is-task-requires c κs = search needs
-
 returns : tie.Need-returns Inv-loop μ-loop
 unfolding firstStranger
 returns c =
@@ -32,12 +29,6 @@ returns c =
     let turn = asked .before .before in
     let words = turn .before .before .args .words .now in
     sym (first-is (stranger words) 0 (rows words) (turn .loop .i) (omega arith) (omega arith) (rw (← asked .is-task .ensures, c .if1 .taken) tt) (turn .loop .inv .1))
-
-add-i : tie.Need-add-i Inv-loop μ-loop
-add-i c = search needs
-
-loop-less : tie.Need-loop-less Inv-loop μ-loop
-loop-less c = search needs
 
 loop-again : tie.Need-loop-again Inv-loop μ-loop
 loop-again c =
@@ -57,12 +48,4 @@ pub first-stranger-spec : {M : Type 1} → statement M
 first-stranger-spec =
     tie.close
     (tie.spec
-    Inv-loop
-    μ-loop
-    loop-holds
-    is-task-requires
-    returns
-    add-i
-    loop-less
-    loop-again
-    returns-2)
+    Inv-loop μ-loop loop-holds (λ c κs. search needs) returns (λ c. search needs) (λ c. search needs) loop-again returns-2)

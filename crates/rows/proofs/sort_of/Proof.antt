@@ -9,6 +9,4 @@ returns-2 : tie.Need-returns-2
 returns-2 c = rw (ne-eqb _ _ (c .if1 .left))
 
 pub sort-of-spec : {M : Type 1} → statement M
-sort-of-spec =
-    tie.close
-    (tie.spec returns returns-2)
+sort-of-spec = tie.close (tie.spec returns returns-2)

@@ -19,29 +19,8 @@ Inv-loop words count tasks₀ i₀ i-end tasks i =
 abbrev μ-loop : tie.MeasureT-loop
 μ-loop words count tasks₀ i₀ i-end tasks i = i-end - i
 
-no-task-requires : tie.Need-no-task-requires Inv-loop μ-loop
-no-task-requires c κs = search needs
-
-held-requires : tie.Need-held-requires Inv-loop μ-loop
-held-requires c κs = search needs
-
 loop-holds : tie.Need-loop-holds Inv-loop μ-loop
 loop-holds c = (c .held .ensures, omega arith, rw (c .before .no-task .ensures) (fill-none _ _))
-
-row-task-requires : tie.Need-row-task-requires Inv-loop μ-loop
-row-task-requires c κs = search needs
-
-mul-tasks : tie.Need-mul-tasks Inv-loop μ-loop
-mul-tasks c = search needs
-
-array-set-from-tasks : tie.Need-array-set-from-tasks Inv-loop μ-loop
-array-set-from-tasks c = search needs
-
-add-i : tie.Need-add-i Inv-loop μ-loop
-add-i c = search needs
-
-loop-less : tie.Need-loop-less Inv-loop μ-loop
-loop-less c = search needs
 
 loop-again : tie.Need-loop-again Inv-loop μ-loop
 loop-again c = let turn = c .before .before in (omega arith, omega arith, fill-put _ _ _ (turn .loop .inv .2) (c .row-task .ensures))
@@ -58,15 +37,5 @@ pub table-in-spec : {M : Type 1} → statement M
 table-in-spec =
     tie.close
     (tie.spec
-    Inv-loop
-    μ-loop
-    no-task-requires
-    held-requires
-    loop-holds
-    row-task-requires
-    mul-tasks
-    array-set-from-tasks
-    add-i
-    loop-less
-    loop-again
-    returns)
+    Inv-loop μ-loop (λ c κs. search needs) (λ c κs. search needs) loop-holds (λ c κs. search needs) (λ c. search needs) (λ c. search needs)
+    (λ c. search needs) (λ c. search needs) loop-again returns)

@@ -5,12 +5,6 @@ use Rattle.slots.specs.Slot.{closed}
 use Rattle.slots.proofs.close.Statement.{statement}
 use Rattle.slots.proofs.close.Tie as tie
 
-mul-left : tie.Need-mul-left
-mul-left c = search needs
-
-element-write-left : tie.Need-element-write-left
-element-write-left c = search needs
-
 returns : tie.Need-returns
 unfolding closed
 returns c = simp (lt-ltb _ _ (c .if1 .taken))
@@ -20,4 +14,4 @@ unfolding closed
 returns-2 c = simp (le-ltb _ _ (c .if1 .left))
 
 pub close-spec : {M : Type 1} → statement M
-close-spec = tie.close (tie.spec mul-left element-write-left returns returns-2)
+close-spec = tie.close (tie.spec (λ c. search needs) (λ c. search needs) returns returns-2)

@@ -23,29 +23,8 @@ abbrev μ-loop : tie.MeasureT-loop
 loop-holds : tie.Need-loop-holds Inv-loop μ-loop
 loop-holds c = (omega arith, bits-none _)
 
-mul-may-be-pressed : tie.Need-mul-may-be-pressed Inv-loop μ-loop
-mul-may-be-pressed c = search needs
-
-element-copy-out-may-be-pressed : tie.Need-element-copy-out-may-be-pressed Inv-loop μ-loop
-element-copy-out-may-be-pressed c = search needs
-
-mul-may-be-pressed-2 : tie.Need-mul-may-be-pressed-2 Inv-loop μ-loop
-mul-may-be-pressed-2 c = search needs
-
-array-read-may-be-pressed : tie.Need-array-read-may-be-pressed Inv-loop μ-loop
-array-read-may-be-pressed c = search needs
-
-may-be-pressed-requires : tie.Need-may-be-pressed-requires Inv-loop μ-loop
-may-be-pressed-requires c κs = search needs
-
 joined-requires : tie.Need-joined-requires Inv-loop μ-loop
 joined-requires c κs = (omega arith, rw (c .before .before .before .loop .inv .1) (bits-lt _ _))
-
-add-i : tie.Need-add-i Inv-loop μ-loop
-add-i c = search needs
-
-loop-less : tie.Need-loop-less Inv-loop μ-loop
-loop-less c = search needs
 
 loop-again : tie.Need-loop-again Inv-loop μ-loop
 loop-again c = let a = c .before .before .before .before in
@@ -62,16 +41,5 @@ pub free-set-spec : {M : Type 1} → statement M
 free-set-spec =
     tie.close
     (tie.spec
-    Inv-loop
-    μ-loop
-    loop-holds
-    mul-may-be-pressed
-    element-copy-out-may-be-pressed
-    mul-may-be-pressed-2
-    array-read-may-be-pressed
-    may-be-pressed-requires
-    joined-requires
-    add-i
-    loop-less
-    loop-again
-    returns)
+    Inv-loop μ-loop loop-holds (λ c. search needs) (λ c. search needs) (λ c. search needs) (λ c. search needs) (λ c κs. search needs)
+    joined-requires (λ c. search needs) (λ c. search needs) loop-again returns)

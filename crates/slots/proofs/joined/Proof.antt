@@ -5,12 +5,6 @@ use Rattle.counting.specs.Bits.{set-bit}
 use Rattle.slots.proofs.joined.Statement.{statement}
 use Rattle.slots.proofs.joined.Tie as tie
 
-cast-result : tie.Need-cast-result
-cast-result c = search needs
-
-shl-result : tie.Need-shl-result
-shl-result c = search needs
-
 returns : tie.Need-returns
 returns c = simp (c .if1 .taken) (omega (arith, set-bit _ _ (omega arith) (c .before .pre .1)))
 
@@ -18,4 +12,4 @@ returns-2 : tie.Need-returns-2
 returns-2 c = simp (c .if1 .left) (omega arith)
 
 pub joined-spec : {M : Type 1} → statement M
-joined-spec = tie.close (tie.spec cast-result shl-result returns returns-2)
+joined-spec = tie.close (tie.spec (λ c. search needs) (λ c. search needs) returns returns-2)

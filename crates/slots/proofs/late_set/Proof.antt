@@ -23,35 +23,8 @@ abbrev μ-loop : tie.MeasureT-loop
 loop-holds : tie.Need-loop-holds Inv-loop μ-loop
 loop-holds c = (omega arith, bits-none _)
 
-mul-at-deadline : tie.Need-mul-at-deadline Inv-loop μ-loop
-mul-at-deadline c = search needs
-
-element-copy-out-at-deadline : tie.Need-element-copy-out-at-deadline Inv-loop μ-loop
-element-copy-out-at-deadline c = search needs
-
-mul-at-deadline-2 : tie.Need-mul-at-deadline-2 Inv-loop μ-loop
-mul-at-deadline-2 c = search needs
-
-element-copy-out-at-deadline-2 : tie.Need-element-copy-out-at-deadline-2 Inv-loop μ-loop
-element-copy-out-at-deadline-2 c = search needs
-
-mul-at-deadline-3 : tie.Need-mul-at-deadline-3 Inv-loop μ-loop
-mul-at-deadline-3 c = search needs
-
-element-copy-out-at-deadline-3 : tie.Need-element-copy-out-at-deadline-3 Inv-loop μ-loop
-element-copy-out-at-deadline-3 c = search needs
-
-at-deadline-requires : tie.Need-at-deadline-requires Inv-loop μ-loop
-at-deadline-requires c κs = search needs
-
 joined-requires : tie.Need-joined-requires Inv-loop μ-loop
 joined-requires c κs = (omega arith, rw (c .before .before .before .before .before .loop .inv .1) (bits-lt _ _))
-
-add-i : tie.Need-add-i Inv-loop μ-loop
-add-i c = search needs
-
-loop-less : tie.Need-loop-less Inv-loop μ-loop
-loop-less c = search needs
 
 loop-again : tie.Need-loop-again Inv-loop μ-loop
 loop-again c = let a = c .before .before .before .before .before .before in
@@ -68,18 +41,5 @@ pub late-set-spec : {M : Type 1} → statement M
 late-set-spec =
     tie.close
     (tie.spec
-    Inv-loop
-    μ-loop
-    loop-holds
-    mul-at-deadline
-    element-copy-out-at-deadline
-    mul-at-deadline-2
-    element-copy-out-at-deadline-2
-    mul-at-deadline-3
-    element-copy-out-at-deadline-3
-    at-deadline-requires
-    joined-requires
-    add-i
-    loop-less
-    loop-again
-    returns)
+    Inv-loop μ-loop loop-holds (λ c. search needs) (λ c. search needs) (λ c. search needs) (λ c. search needs) (λ c. search needs)
+    (λ c. search needs) (λ c κs. search needs) joined-requires (λ c. search needs) (λ c. search needs) loop-again returns)

@@ -19,27 +19,6 @@ abbrev μ-loop : tie.MeasureT-loop
 loop-holds : tie.Need-loop-holds Inv-loop μ-loop
 loop-holds c = (omega arith, fill-none _ _)
 
-mul-offset-of : tie.Need-mul-offset-of Inv-loop μ-loop
-mul-offset-of c = search needs
-
-element-copy-out-offset-of : tie.Need-element-copy-out-offset-of Inv-loop μ-loop
-element-copy-out-offset-of c = search needs
-
-offset-of-requires : tie.Need-offset-of-requires Inv-loop μ-loop
-offset-of-requires c κs = search needs
-
-mul-wait : tie.Need-mul-wait Inv-loop μ-loop
-mul-wait c = search needs
-
-array-write-wait : tie.Need-array-write-wait Inv-loop μ-loop
-array-write-wait c = search needs
-
-add-i : tie.Need-add-i Inv-loop μ-loop
-add-i c = search needs
-
-loop-less : tie.Need-loop-less Inv-loop μ-loop
-loop-less c = search needs
-
 loop-again : tie.Need-loop-again Inv-loop μ-loop
 loop-again c = (omega arith, fill-put _ _ _ (c .before .before .before .loop .inv .1) (c .offset-of .ensures))
 
@@ -51,15 +30,5 @@ pub offsets-spec : {M : Type 1} → statement M
 offsets-spec =
     tie.close
     (tie.spec
-    Inv-loop
-    μ-loop
-    loop-holds
-    mul-offset-of
-    element-copy-out-offset-of
-    offset-of-requires
-    mul-wait
-    array-write-wait
-    add-i
-    loop-less
-    loop-again
-    returns)
+    Inv-loop μ-loop loop-holds (λ c. search needs) (λ c. search needs) (λ c κs. search needs) (λ c. search needs) (λ c. search needs)
+    (λ c. search needs) (λ c. search needs) loop-again returns)

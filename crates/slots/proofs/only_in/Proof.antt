@@ -20,17 +20,8 @@ abbrev μ-loop : tie.MeasureT-loop
 loop-holds : tie.Need-loop-holds Inv-loop μ-loop
 loop-holds c = (omega arith, bits-none _)
 
-is-only-in-requires : tie.Need-is-only-in-requires Inv-loop μ-loop
-is-only-in-requires c κs = search needs
-
 joined-requires : tie.Need-joined-requires Inv-loop μ-loop
 joined-requires c κs = (omega arith, rw (c .before .before .loop .inv .1) (bits-lt _ _))
-
-add-i : tie.Need-add-i Inv-loop μ-loop
-add-i c = search needs
-
-loop-less : tie.Need-loop-less Inv-loop μ-loop
-loop-less c = search needs
 
 loop-again : tie.Need-loop-again Inv-loop μ-loop
 loop-again c = let a = c .before .before .before in
@@ -44,12 +35,4 @@ pub only-in-spec : {M : Type 1} → statement M
 only-in-spec =
     tie.close
     (tie.spec
-    Inv-loop
-    μ-loop
-    loop-holds
-    is-only-in-requires
-    joined-requires
-    add-i
-    loop-less
-    loop-again
-    returns)
+    Inv-loop μ-loop loop-holds (λ c κs. search needs) joined-requires (λ c. search needs) (λ c. search needs) loop-again returns)

@@ -22,63 +22,12 @@ abbrev μ-loop : tie.MeasureT-loop
 loop-holds : tie.Need-loop-holds Inv-loop μ-loop
 loop-holds c = (omega arith, serving-start _ _ _ _ _ _ _ _)
 
-mul-if1 : tie.Need-mul-if1 Inv-loop μ-loop
-mul-if1 c = search needs
-
-element-copy-out-if1 : tie.Need-element-copy-out-if1 Inv-loop μ-loop
-element-copy-out-if1 c = search needs
-
-mul-if2 : tie.Need-mul-if2 Inv-loop μ-loop
-mul-if2 c = search needs
-
-element-copy-out-if2 : tie.Need-element-copy-out-if2 Inv-loop μ-loop
-element-copy-out-if2 c = search needs
-
-mul-if2-2 : tie.Need-mul-if2-2 Inv-loop μ-loop
-mul-if2-2 c = search needs
-
-element-copy-out-if2-2 : tie.Need-element-copy-out-if2-2 Inv-loop μ-loop
-element-copy-out-if2-2 c = search needs
-
 returns : tie.Need-returns Inv-loop μ-loop
 returns c =
     let a = c .before .before .before .before .before .before in
     let v = a .loop .inv .1 in
     let s = a .before .args in
     served-late _ _ _ _ _ _ _ (a .loop .i) (omega arith) (late-here (s .wait .now) (s .left .now) (s .period .now) (s .cost .now) (s .slack .now) (s .rank .now) (s .n) (a .loop .i) (omega arith) (rw (fill-read _ _ _ 0 (v .lefts)) at (c .before .before .before .if1 .taken)) (sym (fill-read _ _ _ 0 (v .waits)) ∙ c .if2 .taken))
-
-renew-requires : tie.Need-renew-requires Inv-loop μ-loop
-renew-requires c κs = search needs
-
-mul-less : tie.Need-mul-less Inv-loop μ-loop
-mul-less c = search needs
-
-element-copy-out-less : tie.Need-element-copy-out-less Inv-loop μ-loop
-element-copy-out-less c = search needs
-
-less-requires : tie.Need-less-requires Inv-loop μ-loop
-less-requires c κs = search needs
-
-mul-key-of : tie.Need-mul-key-of Inv-loop μ-loop
-mul-key-of c = search needs
-
-element-copy-out-key-of : tie.Need-element-copy-out-key-of Inv-loop μ-loop
-element-copy-out-key-of c = search needs
-
-key-of-requires : tie.Need-key-of-requires Inv-loop μ-loop
-key-of-requires c κs = search needs
-
-cast-owner : tie.Need-cast-owner Inv-loop μ-loop
-cast-owner c = search needs
-
-sub-rest : tie.Need-sub-rest Inv-loop μ-loop
-sub-rest c = search needs
-
-add-i : tie.Need-add-i Inv-loop μ-loop
-add-i c = search needs
-
-loop-less : tie.Need-loop-less Inv-loop μ-loop
-loop-less c = search needs
 
 loop-again : tie.Need-loop-again Inv-loop μ-loop
 loop-again c =
@@ -103,15 +52,6 @@ loop-again c =
       ],
     )
 
-cast-i : tie.Need-cast-i Inv-loop μ-loop
-cast-i c = search needs
-
-mul-left : tie.Need-mul-left Inv-loop μ-loop
-mul-left c = search needs
-
-element-write-left : tie.Need-element-write-left Inv-loop μ-loop
-element-write-left c = search needs
-
 returns-2 : tie.Need-returns-2 Inv-loop μ-loop
 returns-2 c = let a = c .before .before in served-quiet _ _ _ _ _ _ _ (a .before .pre) (omega arith) (a .loop .inv .1) (rw (lt-ltb _ _ (c .if5 .taken)))
 
@@ -122,30 +62,7 @@ pub serve-spec : {M : Type 1} → statement M
 serve-spec =
     tie.close
     (tie.spec
-    Inv-loop
-    μ-loop
-    loop-holds
-    mul-if1
-    element-copy-out-if1
-    mul-if2
-    element-copy-out-if2
-    mul-if2-2
-    element-copy-out-if2-2
-    returns
-    renew-requires
-    mul-less
-    element-copy-out-less
-    less-requires
-    mul-key-of
-    element-copy-out-key-of
-    key-of-requires
-    cast-owner
-    sub-rest
-    add-i
-    loop-less
-    loop-again
-    cast-i
-    mul-left
-    element-write-left
-    returns-2
-    returns-3)
+    Inv-loop μ-loop loop-holds (λ c. search needs) (λ c. search needs) (λ c. search needs) (λ c. search needs) (λ c. search needs)
+    (λ c. search needs) returns (λ c κs. search needs) (λ c. search needs) (λ c. search needs) (λ c κs. search needs) (λ c. search needs)
+    (λ c. search needs) (λ c κs. search needs) (λ c. search needs) (λ c. search needs) (λ c. search needs) (λ c. search needs) loop-again
+    (λ c. search needs) (λ c. search needs) (λ c. search needs) returns-2 returns-3)

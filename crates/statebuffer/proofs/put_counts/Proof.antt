@@ -24,30 +24,12 @@ loop-holds : tie.Need-loop-holds Inv-loop μ-loop
 unfolding bytesOf halves
 loop-holds c = (omega arith, refl, omega arith, nothing _ _)
 
-mul-put-long : tie.Need-mul-put-long Inv-loop μ-loop
-mul-put-long c = search needs
-
-array-read-put-long : tie.Need-array-read-put-long Inv-loop μ-loop
-array-read-put-long c = search needs
-
-put-long-requires : tie.Need-put-long-requires Inv-loop μ-loop
-put-long-requires c κs = search needs
-
-add-i : tie.Need-add-i Inv-loop μ-loop
-add-i c = search needs
-
-loop-less : tie.Need-loop-less Inv-loop μ-loop
-loop-less c = search needs
-
 loop-again : tie.Need-loop-again Inv-loop μ-loop
 loop-again c =
     let put = c .before .before in
     let turn = put .before .before .before in
     let size : length (turn .before .before .args .t3) ≡ taskLimit = search needs in
     (omega arith, omega arith, omega arith, one-count _ (turn .loop .i) (omega arith) (turn .loop .inv .3) (put .put-long .ensures .0))
-
-same-length : tie.Need-same-length Inv-loop μ-loop
-same-length c = search needs
 
 returns : tie.Need-returns Inv-loop μ-loop
 returns c =
@@ -61,14 +43,5 @@ pub put-counts-spec : {M : Type 1} → statement M
 put-counts-spec =
     tie.close
     (tie.spec
-    Inv-loop
-    μ-loop
-    loop-holds
-    mul-put-long
-    array-read-put-long
-    put-long-requires
-    add-i
-    loop-less
-    loop-again
-    same-length
-    returns)
+    Inv-loop μ-loop loop-holds (λ c. search needs) (λ c. search needs) (λ c κs. search needs) (λ c. search needs) (λ c. search needs)
+    loop-again (λ c. search needs) returns)

@@ -32,27 +32,6 @@ left-from c = c .before .before .before .before
 abbrev wait-from : tie.After-put-words2 → tie.After-put-words
 wait-from c = c .before .before .before .before
 
-put-words-requires : tie.Need-put-words-requires
-put-words-requires c κs = search needs
-
-put-words-requires-2 : tie.Need-put-words-requires-2
-put-words-requires-2 c κs = search needs
-
-put-word-requires : tie.Need-put-word-requires
-put-word-requires c κs = search needs
-
-put-word-requires-2 : tie.Need-put-word-requires-2
-put-word-requires-2 c κs = search needs
-
-put-word-requires-3 : tie.Need-put-word-requires-3
-put-word-requires-3 c κs = search needs
-
-put-word-requires-4 : tie.Need-put-word-requires-4
-put-word-requires-4 c κs = search needs
-
-put-counts-requires : tie.Need-put-counts-requires
-put-counts-requires c κs = search needs
-
 put-long-requires : tie.Need-put-long-requires
 put-long-requires c κs =
     let given = c .before .before .before in
@@ -63,9 +42,6 @@ put-long-requires c κs =
     let left = left-from last in
     let wait = wait-from left in
     omega (arith, given .put-counts .ensures .1, lowest .put-word4 .ensures .1, closed .put-word3 .ensures .1, late .put-word2 .ensures .1, last .put-word .ensures .1, left .put-words2 .ensures .1, wait .put-words .ensures .1, wait .before .before .before .before .before .before .pre)
-
-same-length : tie.Need-same-length
-same-length c = search needs
 
 returns : tie.Need-returns
 returns c =
@@ -88,13 +64,5 @@ pub put-state-spec : {M : Type 1} → statement M
 put-state-spec =
     tie.close
     (tie.spec
-    put-words-requires
-    put-words-requires-2
-    put-word-requires
-    put-word-requires-2
-    put-word-requires-3
-    put-word-requires-4
-    put-counts-requires
-    put-long-requires
-    same-length
-    returns)
+    (λ c κs. search needs) (λ c κs. search needs) (λ c κs. search needs) (λ c κs. search needs) (λ c κs. search needs)
+    (λ c κs. search needs) (λ c κs. search needs) put-long-requires (λ c. search needs) returns)

@@ -12,12 +12,6 @@ use Rattle.statebuffer.proofs.write_state.Tie as tie
 sizes : (c : tie.Start) → (length (c .args .d .wait) ≡ taskLimit) × (length (c .args .d .left) ≡ taskLimit) × (length (c .args .d .given) ≡ taskLimit)
 sizes c = (search needs, search needs, search needs)
 
-put-state-requires : tie.Need-put-state-requires
-put-state-requires c κs = search needs
-
-same-length : tie.Need-same-length
-same-length c = search needs
-
 returns : tie.Need-returns
 returns c =
     let put = c .before .before in
@@ -25,4 +19,4 @@ returns c =
     whole (put .put-state .ensures .0) (start .pre ∙ sym (buffer-length (stateOf (start .args .d)) (start .args .turn) (sizes start .0) (sizes start .1) (sizes start .2)))
 
 pub write-state-spec : {M : Type 1} → statement M
-write-state-spec = tie.close (tie.spec put-state-requires same-length returns)
+write-state-spec = tie.close (tie.spec (λ c κs. search needs) (λ c. search needs) returns)

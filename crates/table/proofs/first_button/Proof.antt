@@ -22,27 +22,12 @@ abbrev μ-loop : tie.MeasureT-loop
 loop-holds : tie.Need-loop-holds Inv-loop μ-loop
 loop-holds c = (omega arith, λ k a b. absurd (omega arith))
 
-mul-is-button : tie.Need-mul-is-button Inv-loop μ-loop
-mul-is-button c = search needs
-
-element-copy-out-is-button : tie.Need-element-copy-out-is-button Inv-loop μ-loop
-element-copy-out-is-button c = search needs
-
-is-button-requires : tie.Need-is-button-requires Inv-loop μ-loop
-is-button-requires c κs = search needs
-
 returns : tie.Need-returns Inv-loop μ-loop
 unfolding firstButton
 returns c =
     let a = c .before .before .before .before in
     let t = a .before .args .t1 in
     sym (first-is (button t) 0 (t .count) (a .loop .i) (omega arith) (omega arith) (rw (← c .before .is-button .ensures, c .if1 .taken) tt) (a .loop .inv .1))
-
-add-i : tie.Need-add-i Inv-loop μ-loop
-add-i c = search needs
-
-loop-less : tie.Need-loop-less Inv-loop μ-loop
-loop-less c = search needs
 
 loop-again : tie.Need-loop-again Inv-loop μ-loop
 loop-again c =
@@ -60,14 +45,5 @@ pub first-button-spec : {M : Type 1} → statement M
 first-button-spec =
     tie.close
     (tie.spec
-    Inv-loop
-    μ-loop
-    loop-holds
-    mul-is-button
-    element-copy-out-is-button
-    is-button-requires
-    returns
-    add-i
-    loop-less
-    loop-again
-    returns-2)
+    Inv-loop μ-loop loop-holds (λ c. search needs) (λ c. search needs) (λ c κs. search needs) returns (λ c. search needs)
+    (λ c. search needs) loop-again returns-2)

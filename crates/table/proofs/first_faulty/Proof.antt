@@ -18,15 +18,6 @@ abbrev μ-loop : tie.MeasureT-loop
 loop-holds : tie.Need-loop-holds Inv-loop μ-loop
 loop-holds c = (omega arith, λ k a b. absurd (omega arith))
 
-mul-task-fault : tie.Need-mul-task-fault Inv-loop μ-loop
-mul-task-fault c = search needs
-
-element-copy-out-task-fault : tie.Need-element-copy-out-task-fault Inv-loop μ-loop
-element-copy-out-task-fault c = search needs
-
-task-fault-requires : tie.Need-task-fault-requires Inv-loop μ-loop
-task-fault-requires c κs = search needs
-
 returns : tie.Need-returns Inv-loop μ-loop
 unfolding firstFaulty
 returns c =
@@ -34,12 +25,6 @@ returns c =
     let t = a .before .args .t1 in
     let found = rw (c .before .task-fault .ensures) at (marked (c .before .task-fault .result) (c .if1 .taken)) in
     sym (first-is (faulty t) 0 (t .count) (a .loop .i) (omega arith) (omega arith) found (a .loop .inv .1))
-
-add-i : tie.Need-add-i Inv-loop μ-loop
-add-i c = search needs
-
-loop-less : tie.Need-loop-less Inv-loop μ-loop
-loop-less c = search needs
 
 loop-again : tie.Need-loop-again Inv-loop μ-loop
 loop-again c =
@@ -57,14 +42,5 @@ pub first-faulty-spec : {M : Type 1} → statement M
 first-faulty-spec =
     tie.close
     (tie.spec
-    Inv-loop
-    μ-loop
-    loop-holds
-    mul-task-fault
-    element-copy-out-task-fault
-    task-fault-requires
-    returns
-    add-i
-    loop-less
-    loop-again
-    returns-2)
+    Inv-loop μ-loop loop-holds (λ c. search needs) (λ c. search needs) (λ c κs. search needs) returns (λ c. search needs)
+    (λ c. search needs) loop-again returns-2)

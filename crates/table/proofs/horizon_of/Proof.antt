@@ -27,23 +27,8 @@ offset-le c = c .before .before .pre .0 .each (c .before .loop .i) (omega arith)
 loop-holds : tie.Need-loop-holds Inv-loop μ-loop
 loop-holds c = (omega arith, omega arith, largest-none (start (c .args .t1)))
 
-mul-offset-of : tie.Need-mul-offset-of Inv-loop μ-loop
-mul-offset-of c = search needs
-
-element-copy-out-offset-of : tie.Need-element-copy-out-offset-of Inv-loop μ-loop
-element-copy-out-offset-of c = search needs
-
-offset-of-requires : tie.Need-offset-of-requires Inv-loop μ-loop
-offset-of-requires c κs = search needs
-
 cast-offset : tie.Need-cast-offset Inv-loop μ-loop
 cast-offset c = omega (arith, offset-le (c .before .before), c .offset-of .ensures)
-
-add-i : tie.Need-add-i Inv-loop μ-loop
-add-i c = search needs
-
-loop-less : tie.Need-loop-less Inv-loop μ-loop
-loop-less c = search needs
 
 loop-again : tie.Need-loop-again Inv-loop μ-loop
 loop-again c =
@@ -52,12 +37,6 @@ loop-again c =
     let f = start (a .before .args .t1) in
     let later : c .if1 .latest ≡ max (a .loop .latest) (f (a .loop .i)) = ⊎-elim (λ w. omega (arith, o .offset-of .ensures)) (λ w. omega (arith, o .offset-of .ensures)) (c .if1 .came) in
     (omega arith, omega (arith, offset-le (o .before .before)), largest-more f (a .loop .i) (a .loop .inv .2) later)
-
-mul-result : tie.Need-mul-result Inv-loop μ-loop
-mul-result c = search needs
-
-add-result : tie.Need-add-result Inv-loop μ-loop
-add-result c = search needs
 
 returns : tie.Need-returns Inv-loop μ-loop
 unfolding horizon
@@ -70,16 +49,5 @@ pub horizon-of-spec : {M : Type 1} → statement M
 horizon-of-spec =
     tie.close
     (tie.spec
-    Inv-loop
-    μ-loop
-    loop-holds
-    mul-offset-of
-    element-copy-out-offset-of
-    offset-of-requires
-    cast-offset
-    add-i
-    loop-less
-    loop-again
-    mul-result
-    add-result
-    returns)
+    Inv-loop μ-loop loop-holds (λ c. search needs) (λ c. search needs) (λ c κs. search needs) cast-offset (λ c. search needs)
+    (λ c. search needs) loop-again (λ c. search needs) (λ c. search needs) returns)

@@ -16,23 +16,11 @@ few c =
     let j = m .before .before in
     mixed-iff (j .before .args .t) _ .0 (sym (j .judge-mixed .ensures) ∙ m .measure .given .1) .0 .few
 
-judge-mixed-requires : tie.Need-judge-mixed-requires
-judge-mixed-requires c κs = search needs
-
-enum-known-why : tie.Need-enum-known-why
-enum-known-why c = search needs
-
-enum-known-measure : tie.Need-enum-known-measure
-enum-known-measure c = search needs
-
 first-button-requires : tie.Need-first-button-requires
 first-button-requires c κs = few c
 
 cast-refuse : tie.Need-cast-refuse
 cast-refuse c = omega (arith, few (c .before .before .before))
-
-refuse-requires : tie.Need-refuse-requires
-refuse-requires c κs = search needs
 
 returns : tie.Need-returns
 unfolding judged
@@ -61,12 +49,5 @@ pub judge-spec : {M : Type 1} → statement M
 judge-spec =
     tie.close
     (tie.spec
-    judge-mixed-requires
-    enum-known-why
-    enum-known-measure
-    first-button-requires
-    cast-refuse
-    refuse-requires
-    returns
-    returns-2
-    returns-3)
+    (λ c κs. search needs) (λ c. search needs) (λ c. search needs) first-button-requires cast-refuse (λ c κs. search needs) returns
+    returns-2 returns-3)

@@ -17,40 +17,13 @@ in-ranges c = ranged (c .before .before .before .before .args .t1) (omega arith)
 round-kept : (c : tie.Else4) → RoundKept (c .before .before .before .before .before .before .args .t1) (c .before .round-of .result)
 round-kept c = record { is = c .before .round-of .ensures .exact (omega arith); le = omega arith }
 
-refuse-requires : tie.Need-refuse-requires
-refuse-requires c κs = search needs
-
 returns : tie.Need-returns
 unfolding judgedMixed
 returns c = rw (eq-eqb _ _ (c .before .if1 .taken)) (c .refuse .ensures)
 
-cast-refuse : tie.Need-cast-refuse
-cast-refuse c = search needs
-
-refuse-requires-2 : tie.Need-refuse-requires-2
-refuse-requires-2 c κs = search needs
-
 returns-2 : tie.Need-returns-2
 unfolding judgedMixed
 returns-2 c = rw (ne-eqb _ _ (c .before .before .if1 .left), lt-ltb taskLimit (c .before .before .before .args .t1 .count) (omega arith)) (c .refuse2 .ensures)
-
-first-faulty-requires : tie.Need-first-faulty-requires
-first-faulty-requires c κs = search needs
-
-mul-task-fault : tie.Need-mul-task-fault
-mul-task-fault c = search needs
-
-element-copy-out-task-fault : tie.Need-element-copy-out-task-fault
-element-copy-out-task-fault c = search needs
-
-task-fault-requires : tie.Need-task-fault-requires
-task-fault-requires c κs = search needs
-
-cast-refuse-2 : tie.Need-cast-refuse-2
-cast-refuse-2 c = search needs
-
-refuse-requires-3 : tie.Need-refuse-requires-3
-refuse-requires-3 c κs = search needs
 
 returns-3 : tie.Need-returns-3
 unfolding judgedMixed
@@ -61,9 +34,6 @@ returns-3 c =
 
 round-of-requires : tie.Need-round-of-requires
 round-of-requires c κs = in-ranges c
-
-refuse-requires-4 : tie.Need-refuse-requires-4
-refuse-requires-4 c κs = search needs
 
 returns-4 : tie.Need-returns-4
 returns-4 c =
@@ -86,21 +56,6 @@ pub judge-mixed-spec : {M : Type 1} → statement M
 judge-mixed-spec =
     tie.close
     (tie.spec
-    refuse-requires
-    returns
-    cast-refuse
-    refuse-requires-2
-    returns-2
-    first-faulty-requires
-    mul-task-fault
-    element-copy-out-task-fault
-    task-fault-requires
-    cast-refuse-2
-    refuse-requires-3
-    returns-3
-    round-of-requires
-    refuse-requires-4
-    returns-4
-    load-of-requires
-    horizon-of-requires
-    returns-5)
+    (λ c κs. search needs) returns (λ c. search needs) (λ c κs. search needs) returns-2 (λ c κs. search needs) (λ c. search needs)
+    (λ c. search needs) (λ c κs. search needs) (λ c. search needs) (λ c κs. search needs) returns-3 round-of-requires (λ c κs. search needs)
+    returns-4 load-of-requires horizon-of-requires returns-5)

@@ -23,18 +23,6 @@ share-fits c = let s = c .before .before in omega (arith, share-le (s .args .t1)
 loop-holds : tie.Need-loop-holds Inv-loop μ-loop
 loop-holds c = (omega arith, omega arith, sum-none (share (c .args .t1) (c .args .round)))
 
-mul-task : tie.Need-mul-task Inv-loop μ-loop
-mul-task c = search needs
-
-element-copy-out-task : tie.Need-element-copy-out-task Inv-loop μ-loop
-element-copy-out-task c = search needs
-
-cast-load : tie.Need-cast-load Inv-loop μ-loop
-cast-load c = search needs
-
-cast-load-2 : tie.Need-cast-load-2 Inv-loop μ-loop
-cast-load-2 c = search needs
-
 div-load : tie.Need-div-load Inv-loop μ-loop
 div-load c =
     let a = c .before .before .before .before in
@@ -46,12 +34,6 @@ mul-load c = omega (arith, share-fits (c .before .before .before))
 
 add-load : tie.Need-add-load Inv-loop μ-loop
 add-load c = omega (arith, share-fits (c .before .before .before))
-
-add-i : tie.Need-add-i Inv-loop μ-loop
-add-i c = search needs
-
-loop-less : tie.Need-loop-less Inv-loop μ-loop
-loop-less c = search needs
 
 loop-again : tie.Need-loop-again Inv-loop μ-loop
 loop-again c =
@@ -71,17 +53,5 @@ pub load-of-spec : {M : Type 1} → statement M
 load-of-spec =
     tie.close
     (tie.spec
-    Inv-loop
-    μ-loop
-    loop-holds
-    mul-task
-    element-copy-out-task
-    cast-load
-    cast-load-2
-    div-load
-    mul-load
-    add-load
-    add-i
-    loop-less
-    loop-again
-    returns)
+    Inv-loop μ-loop loop-holds (λ c. search needs) (λ c. search needs) (λ c. search needs) (λ c. search needs) div-load mul-load add-load
+    (λ c. search needs) (λ c. search needs) loop-again returns)

@@ -26,17 +26,8 @@ next-multiple c = let a = c .before .before in lcmAll-more (period (a .before .a
 loop-holds : tie.Need-loop-holds Inv-loop μ-loop
 loop-holds c = (omega arith, omega arith, lcmAll-none (period (c .args .t1)))
 
-mul-period : tie.Need-mul-period Inv-loop μ-loop
-mul-period c = search needs
-
-element-copy-out-period : tie.Need-element-copy-out-period Inv-loop μ-loop
-element-copy-out-period c = search needs
-
 cast-period : tie.Need-cast-period Inv-loop μ-loop
 cast-period c = omega (arith, in-range c .period-le)
-
-divisor-requires : tie.Need-divisor-requires Inv-loop μ-loop
-divisor-requires c κs = search needs
 
 div-multiple : tie.Need-div-multiple Inv-loop μ-loop
 div-multiple c = gcd-pos (c .divisor .ensures) (in-range (c .before) .period-pos)
@@ -51,12 +42,6 @@ returns c =
     let s = c .before .before .before .before in
     told-above (s .args .t1) (s .pre) (c .before .before .before .loop .i + 1) (omega arith) (next-multiple (c .before)) (omega arith)
 
-add-i : tie.Need-add-i Inv-loop μ-loop
-add-i c = search needs
-
-loop-less : tie.Need-loop-less Inv-loop μ-loop
-loop-less c = search needs
-
 loop-again : tie.Need-loop-again Inv-loop μ-loop
 loop-again c = (omega arith, omega arith, next-multiple (c .before))
 
@@ -70,17 +55,5 @@ pub round-of-spec : {M : Type 1} → statement M
 round-of-spec =
     tie.close
     (tie.spec
-    Inv-loop
-    μ-loop
-    loop-holds
-    mul-period
-    element-copy-out-period
-    cast-period
-    divisor-requires
-    div-multiple
-    mul-multiple
-    returns
-    add-i
-    loop-less
-    loop-again
-    returns-2)
+    Inv-loop μ-loop loop-holds (λ c. search needs) (λ c. search needs) cast-period (λ c κs. search needs) div-multiple mul-multiple returns
+    (λ c. search needs) (λ c. search needs) loop-again returns-2)

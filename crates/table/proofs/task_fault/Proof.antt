@@ -4,15 +4,9 @@ use Rattle.model.specs.Tasks.{taskFault}
 use Rattle.table.proofs.task_fault.Statement.{statement}
 use Rattle.table.proofs.task_fault.Tie as tie
 
-within-requires : tie.Need-within-requires
-within-requires c κs = search needs
-
 returns : tie.Need-returns
 unfolding taskFault
 returns c = rw (rw (c .before .within .ensures) at (c .if1 .taken))
-
-within-requires-2 : tie.Need-within-requires-2
-within-requires-2 c κs = search needs
 
 returns-2 : tie.Need-returns-2
 unfolding taskFault
@@ -20,21 +14,12 @@ returns-2 c =
     let a = c .before .before in
     rw (rw (a .before .within .ensures) at (a .if1 .left), rw (c .before .within2 .ensures) at (c .if2 .taken))
 
-within-requires-3 : tie.Need-within-requires-3
-within-requires-3 c κs = search needs
-
 returns-3 : tie.Need-returns-3
 unfolding taskFault
 returns-3 c =
     let b = c .before .before in
     let a = b .before .before in
     rw (rw (a .before .within .ensures) at (a .if1 .left), rw (b .before .within2 .ensures) at (b .if2 .left), rw (c .before .within3 .ensures) at (c .if3 .taken))
-
-offset-of-requires : tie.Need-offset-of-requires
-offset-of-requires c κs = search needs
-
-within-requires-4 : tie.Need-within-requires-4
-within-requires-4 c κs = search needs
 
 returns-4 : tie.Need-returns-4
 unfolding taskFault
@@ -68,13 +53,5 @@ pub task-fault-spec : {M : Type 1} → statement M
 task-fault-spec =
     tie.close
     (tie.spec
-    within-requires
-    returns
-    within-requires-2
-    returns-2
-    within-requires-3
-    returns-3
-    offset-of-requires
-    within-requires-4
-    returns-4
-    returns-5)
+    (λ c κs. search needs) returns (λ c κs. search needs) returns-2 (λ c κs. search needs) returns-3 (λ c κs. search needs)
+    (λ c κs. search needs) returns-4 returns-5)

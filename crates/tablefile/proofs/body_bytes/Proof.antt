@@ -8,6 +8,4 @@ returns-2 : tie.Need-returns-2
 returns-2 c = rw (c .if1 .left)
 
 pub body-bytes-spec : {M : Type 1} → statement M
-body-bytes-spec =
-    tie.close
-    (tie.spec returns returns-2)
+body-bytes-spec = tie.close (tie.spec returns returns-2)

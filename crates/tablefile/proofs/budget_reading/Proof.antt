@@ -4,23 +4,11 @@ use borrow.Author.Tests.{eq-eqb, ne-eqb, lt-ltb, le-ltb}
 use Rattle.tablefile.proofs.budget_reading.Statement.{statement}
 use Rattle.tablefile.proofs.budget_reading.Tie as tie
 
-refusal-requires : tie.Need-refusal-requires
-refusal-requires c κs = search needs
-
 returns : tie.Need-returns
 returns c = simp (lt-ltb _ _ (c .before .if1 .taken)) (c .refusal .ensures)
 
-refusal-requires-2 : tie.Need-refusal-requires-2
-refusal-requires-2 c κs = search needs
-
 returns-2 : tie.Need-returns-2
 returns-2 c = simp (le-ltb _ _ (c .before .before .if1 .left), lt-ltb _ _ (c .before .if2 .taken)) (c .refusal2 .ensures)
-
-long-at-requires : tie.Need-long-at-requires
-long-at-requires c κs = search needs
-
-refusal-requires-3 : tie.Need-refusal-requires-3
-refusal-requires-3 c κs = search needs
 
 returns-3 : tie.Need-returns-3
 returns-3 c =
@@ -39,4 +27,5 @@ returns-4 c =
 pub budget-reading-spec : {M : Type 1} → statement M
 budget-reading-spec =
     tie.close
-    (tie.spec refusal-requires returns refusal-requires-2 returns-2 long-at-requires refusal-requires-3 returns-3 returns-4)
+    (tie.spec
+    (λ c κs. search needs) returns (λ c κs. search needs) returns-2 (λ c κs. search needs) (λ c κs. search needs) returns-3 returns-4)

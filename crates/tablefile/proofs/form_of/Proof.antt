@@ -21,32 +21,17 @@ Inv-loop file budget₀ table₀ at₀ budget table at = ReadSoFar file budget t
 abbrev μ-loop : tie.MeasureT-loop
 μ-loop file budget₀ table₀ at₀ budget table at = length file - at
 
-no-tasks-requires : tie.Need-no-tasks-requires Inv-loop μ-loop
-no-tasks-requires c κs = search needs
-
 loop-holds : tie.Need-loop-holds Inv-loop μ-loop
 loop-holds c = start _ (c .no-tasks .ensures)
 
 reading-at-requires : tie.Need-reading-at-requires Inv-loop μ-loop
 reading-at-requires c κs = within (c .loop .inv) .1
 
-enum-known-why : tie.Need-enum-known-why Inv-loop μ-loop
-enum-known-why c = search needs
-
-refused-file-requires : tie.Need-refused-file-requires Inv-loop μ-loop
-refused-file-requires c κs = search needs
-
 returns : tie.Need-returns Inv-loop μ-loop
 returns c =
     c .refused-file .ensures
     ∙ follows (c .before .before .before .before .before .loop .inv)
     (sym (c .before .before .why .given .1) ∙ c .before .before .before .before .reading-at .ensures)
-
-enum-known-record : tie.Need-enum-known-record Inv-loop μ-loop
-enum-known-record c = search needs
-
-enum-known-record-2 : tie.Need-enum-known-record-2 Inv-loop μ-loop
-enum-known-record-2 c = search needs
 
 abbrev file-of : tie.At-loop Inv-loop μ-loop → List ℕ
 file-of t = t .before .before .before .args .file .now
@@ -68,9 +53,6 @@ loop-less c = omega (arith, within (budget-read c))
 
 loop-again : tie.Need-loop-again Inv-loop μ-loop
 loop-again c = budget-read c
-
-enum-known-record-3 : tie.Need-enum-known-record-3 Inv-loop μ-loop
-enum-known-record-3 c = search needs
 
 task-found : (c : tie.After-known-told4 Inv-loop μ-loop)
     → let t = c .before .before .before .before .before .before .before in
@@ -98,9 +80,6 @@ element-set-from-task c = task-has-room c
 add-table : tie.Need-add-table Inv-loop μ-loop
 add-table c = omega (arith, task-has-room c)
 
-record-bytes-requires : tie.Need-record-bytes-requires Inv-loop μ-loop
-record-bytes-requires c κs = search needs
-
 add-at-2 : tie.Need-add-at-2 Inv-loop μ-loop
 add-at-2 c = omega (arith, within (task-read (c .before)), c .record-bytes .ensures)
 
@@ -109,9 +88,6 @@ loop-less-2 c = omega (arith, within (task-read (c .before)), c .record-bytes .e
 
 loop-again-2 : tie.Need-loop-again-2 Inv-loop μ-loop
 loop-again-2 c = rw (c .record-bytes .ensures) (task-read (c .before))
-
-enum-told : tie.Need-enum-told Inv-loop μ-loop
-enum-told c = search needs
 
 returns-2 : tie.Need-returns-2 Inv-loop μ-loop
 returns-2 c =
@@ -124,26 +100,6 @@ pub form-of-spec : {M : Type 1} → statement M
 form-of-spec =
     tie.close
     (tie.spec
-    Inv-loop
-    μ-loop
-    no-tasks-requires
-    loop-holds
-    reading-at-requires
-    enum-known-why
-    refused-file-requires
-    returns
-    enum-known-record
-    enum-known-record-2
-    add-at
-    loop-less
-    loop-again
-    enum-known-record-3
-    mul-task
-    element-set-from-task
-    add-table
-    record-bytes-requires
-    add-at-2
-    loop-less-2
-    loop-again-2
-    enum-told
-    returns-2)
+    Inv-loop μ-loop (λ c κs. search needs) loop-holds reading-at-requires (λ c. search needs) (λ c κs. search needs) returns
+    (λ c. search needs) (λ c. search needs) add-at loop-less loop-again (λ c. search needs) mul-task element-set-from-task add-table
+    (λ c κs. search needs) add-at-2 loop-less-2 loop-again-2 (λ c. search needs) returns-2)

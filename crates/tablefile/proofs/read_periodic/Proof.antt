@@ -6,27 +6,6 @@ use Rattle.tablefile.specs.Periodic.{periodic-same, periodic-told}
 use Rattle.tablefile.proofs.read_periodic.Statement.{statement}
 use Rattle.tablefile.proofs.read_periodic.Tie as tie
 
-read-requires : tie.Need-read-requires
-read-requires c κs = search needs
-
-enum-told : tie.Need-enum-told
-enum-told c = search needs
-
-enum-told-2 : tie.Need-enum-told-2
-enum-told-2 c = search needs
-
-judge-requires : tie.Need-judge-requires
-judge-requires c κs = search needs
-
-enum-known-button : tie.Need-enum-known-button
-enum-known-button c = search needs
-
-refused-file-requires : tie.Need-refused-file-requires
-refused-file-requires c κs = search needs
-
-enum-told-3 : tie.Need-enum-told-3
-enum-told-3 c = search needs
-
 returns : tie.Need-returns
 returns c =
     let l = c .before .before .read .ensures in
@@ -50,13 +29,5 @@ pub read-periodic-spec : {M : Type 1} → statement M
 read-periodic-spec =
     tie.close
     (tie.spec
-    read-requires
-    enum-told
-    enum-told-2
-    judge-requires
-    enum-known-button
-    refused-file-requires
-    enum-told-3
-    returns
-    returns-2
-    returns-3)
+    (λ c κs. search needs) (λ c. search needs) (λ c. search needs) (λ c κs. search needs) (λ c. search needs) (λ c κs. search needs)
+    (λ c. search needs) returns returns-2 returns-3)

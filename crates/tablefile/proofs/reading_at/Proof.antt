@@ -5,49 +5,13 @@ use Rattle.tablefile.specs.Reading.{readingAt}
 use Rattle.tablefile.proofs.reading_at.Statement.{statement}
 use Rattle.tablefile.proofs.reading_at.Tie as tie
 
-refusal-requires : tie.Need-refusal-requires
-refusal-requires c κs = search needs
-
 returns : tie.Need-returns
 unfolding readingAt
 returns c = simp (le-leb _ _ (c .before .before .if1 .taken), eq-eqb _ _ (c .before .if2 .taken)) (c .refusal .ensures)
 
-refusal-requires-2 : tie.Need-refusal-requires-2
-refusal-requires-2 c κs = search needs
-
 returns-2 : tie.Need-returns-2
 unfolding readingAt
 returns-2 c = simp (le-leb _ _ (c .before .before .if1 .taken), ne-eqb _ _ (c .before .if2 .left)) (c .refusal2 .ensures)
-
-add-from : tie.Need-add-from
-add-from c = search needs
-
-sub-rest : tie.Need-sub-rest
-sub-rest c = search needs
-
-part-rest-start : tie.Need-part-rest-start
-part-rest-start c = search needs
-
-part-rest-end : tie.Need-part-rest-end
-part-rest-end c = search needs
-
-shared-slice-read-match : tie.Need-shared-slice-read-match
-shared-slice-read-match c = search needs
-
-budget-reading-requires : tie.Need-budget-reading-requires
-budget-reading-requires c κs = search needs
-
-task-reading-requires : tie.Need-task-reading-requires
-task-reading-requires c κs = search needs
-
-task-reading-requires-2 : tie.Need-task-reading-requires-2
-task-reading-requires-2 c κs = search needs
-
-end-reading-requires : tie.Need-end-reading-requires
-end-reading-requires c κs = search needs
-
-refusal-requires-3 : tie.Need-refusal-requires-3
-refusal-requires-3 c κs = search needs
 
 returns-3 : tie.Need-returns-3
 unfolding readingAt
@@ -90,22 +54,6 @@ pub reading-at-spec : {M : Type 1} → statement M
 reading-at-spec =
     tie.close
     (tie.spec
-    refusal-requires
-    returns
-    refusal-requires-2
-    returns-2
-    add-from
-    sub-rest
-    part-rest-start
-    part-rest-end
-    shared-slice-read-match
-    budget-reading-requires
-    task-reading-requires
-    task-reading-requires-2
-    end-reading-requires
-    refusal-requires-3
-    returns-3
-    returns-4
-    returns-5
-    returns-6
-    returns-7)
+    (λ c κs. search needs) returns (λ c κs. search needs) returns-2 (λ c. search needs) (λ c. search needs) (λ c. search needs)
+    (λ c. search needs) (λ c. search needs) (λ c κs. search needs) (λ c κs. search needs) (λ c κs. search needs) (λ c κs. search needs)
+    (λ c κs. search needs) returns-3 returns-4 returns-5 returns-6 returns-7)

@@ -4,12 +4,6 @@ use Rattle.tablefile.specs.Reading.{record-size}
 use Rattle.tablefile.proofs.record_bytes.Statement.{statement}
 use Rattle.tablefile.proofs.record_bytes.Tie as tie
 
-is-button-requires : tie.Need-is-button-requires
-is-button-requires c κs = search needs
-
-body-bytes-requires : tie.Need-body-bytes-requires
-body-bytes-requires c κs = search needs
-
 add-result : tie.Need-add-result
 add-result c = omega (arith, c .body-bytes .ensures, record-size (c .before .is-button .result))
 
@@ -17,4 +11,4 @@ returns : tie.Need-returns
 returns c = rw (← c .before .is-button .ensures) (omega (arith, c .body-bytes .ensures, record-size (c .before .is-button .result)))
 
 pub record-bytes-spec : {M : Type 1} → statement M
-record-bytes-spec = tie.close (tie.spec is-button-requires body-bytes-requires add-result returns)
+record-bytes-spec = tie.close (tie.spec (λ c κs. search needs) (λ c κs. search needs) add-result returns)

@@ -33,12 +33,5 @@ pub task-in-spec : {M : Type 1} → statement M
 task-in-spec =
     tie.close
     (tie.spec
-    word-at-requires
-    word-at-requires-2
-    word-at-requires-3
-    returns
-    word-at-requires-4
-    word-at-requires-5
-    word-at-requires-6
-    word-at-requires-7
-    returns-2)
+    word-at-requires word-at-requires-2 word-at-requires-3 returns word-at-requires-4 word-at-requires-5 word-at-requires-6
+    word-at-requires-7 returns-2)

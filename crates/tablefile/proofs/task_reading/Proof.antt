@@ -8,23 +8,11 @@ use Rattle.tablefile.specs.declared.Reading.{Reading}
 use Rattle.tablefile.proofs.task_reading.Statement.{statement}
 use Rattle.tablefile.proofs.task_reading.Tie as tie
 
-refusal-requires : tie.Need-refusal-requires
-refusal-requires c κs = search needs
-
 returns : tie.Need-returns
 returns c = simp (eq-eqb _ _ (c .before .if1 .taken)) (c .refusal .ensures)
 
-refusal-requires-2 : tie.Need-refusal-requires-2
-refusal-requires-2 c κs = search needs
-
 returns-2 : tie.Need-returns-2
 returns-2 c = simp (ne-eqb _ _ (c .before .before .if1 .left), le-leb _ _ (c .before .if2 .taken)) (c .refusal2 .ensures)
-
-body-bytes-requires : tie.Need-body-bytes-requires
-body-bytes-requires c κs = search needs
-
-refusal-requires-3 : tie.Need-refusal-requires-3
-refusal-requires-3 c κs = search needs
 
 returns-3 : tie.Need-returns-3
 returns-3 c =
@@ -47,12 +35,5 @@ pub task-reading-spec : {M : Type 1} → statement M
 task-reading-spec =
     tie.close
     (tie.spec
-    refusal-requires
-    returns
-    refusal-requires-2
-    returns-2
-    body-bytes-requires
-    refusal-requires-3
-    returns-3
-    task-in-requires
+    (λ c κs. search needs) returns (λ c κs. search needs) returns-2 (λ c κs. search needs) (λ c κs. search needs) returns-3 task-in-requires
     returns-4)

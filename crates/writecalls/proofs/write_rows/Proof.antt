@@ -5,25 +5,10 @@ use borrow.Author.Tests.{lt-ltb, le-ltb}
 use Rattle.writecalls.proofs.write_rows.Statement.{statement}
 use Rattle.writecalls.proofs.write_rows.Tie as tie
 
-broken-requires : tie.Need-broken-requires
-broken-requires c κs = search needs
-
-refused-at-requires : tie.Need-refused-at-requires
-refused-at-requires c κs = search needs
-
 returns : tie.Need-returns
 returns c =
     let tested = c .before in
     rw (sym (tested .before .broken .ensures) ∙ tested .if1 .taken, c .refused-at .ensures)
-
-first-stranger-requires : tie.Need-first-stranger-requires
-first-stranger-requires c κs = search needs
-
-count-requires : tie.Need-count-requires
-count-requires c κs = search needs
-
-refused-at-requires-2 : tie.Need-refused-at-requires-2
-refused-at-requires-2 c κs = search needs
 
 returns-2 : tie.Need-returns-2
 returns-2 c =
@@ -31,18 +16,6 @@ returns-2 c =
     let counted = tested .before in
     let whole = counted .before .before in
     rw (sym (whole .before .broken .ensures) ∙ whole .if1 .left, ← counted .before .first-stranger .ensures, ← counted .count .ensures, lt-ltb _ _ (tested .if2 .taken), c .refused-at2 .ensures)
-
-table-in-requires : tie.Need-table-in-requires
-table-in-requires c κs = search needs
-
-write-requires : tie.Need-write-requires
-write-requires c κs = search needs
-
-told-requires : tie.Need-told-requires
-told-requires c κs = search needs
-
-same-length : tie.Need-same-length
-same-length c = search needs
 
 returns-3 : tie.Need-returns-3
 returns-3 c =
@@ -57,15 +30,5 @@ pub write-rows-spec : {M : Type 1} → statement M
 write-rows-spec =
     tie.close
     (tie.spec
-    broken-requires
-    refused-at-requires
-    returns
-    first-stranger-requires
-    count-requires
-    refused-at-requires-2
-    returns-2
-    table-in-requires
-    write-requires
-    told-requires
-    same-length
-    returns-3)
+    (λ c κs. search needs) (λ c κs. search needs) returns (λ c κs. search needs) (λ c κs. search needs) (λ c κs. search needs) returns-2
+    (λ c κs. search needs) (λ c κs. search needs) (λ c κs. search needs) (λ c. search needs) returns-3)

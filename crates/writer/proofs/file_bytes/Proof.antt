@@ -20,21 +20,9 @@ Inv-loop table count bytes₀ i₀ bytes i = (i ≤ table .count) × (bytes ≡ 
 abbrev μ-loop : tie.MeasureT-loop
 μ-loop table count bytes₀ i₀ bytes i = table .count - i
 
-add-bytes : tie.Need-add-bytes Inv-loop μ-loop
-add-bytes c = search needs
-
 loop-holds : tie.Need-loop-holds Inv-loop μ-loop
 unfolding taskRecords
 loop-holds c = (omega arith, omega arith)
-
-mul-record-bytes : tie.Need-mul-record-bytes Inv-loop μ-loop
-mul-record-bytes c = search needs
-
-element-copy-out-record-bytes : tie.Need-element-copy-out-record-bytes Inv-loop μ-loop
-element-copy-out-record-bytes c = search needs
-
-record-bytes-requires : tie.Need-record-bytes-requires Inv-loop μ-loop
-record-bytes-requires c κs = search needs
 
 add-bytes-2 : tie.Need-add-bytes-2 Inv-loop μ-loop
 add-bytes-2 c =
@@ -42,12 +30,6 @@ add-bytes-2 c =
     let t = turn .before .args .t1 in
     let i = turn .loop .i in
     omega (arith, c .record-bytes .ensures, record-size (isButton (task t i)), records-le (take i (t .tasks)), length-take-le i (t .tasks) (omega arith))
-
-add-i : tie.Need-add-i Inv-loop μ-loop
-add-i c = search needs
-
-loop-less : tie.Need-loop-less Inv-loop μ-loop
-loop-less c = search needs
 
 loop-again : tie.Need-loop-again Inv-loop μ-loop
 loop-again c =
@@ -64,15 +46,5 @@ pub file-bytes-spec : {M : Type 1} → statement M
 file-bytes-spec =
     tie.close
     (tie.spec
-    Inv-loop
-    μ-loop
-    add-bytes
-    loop-holds
-    mul-record-bytes
-    element-copy-out-record-bytes
-    record-bytes-requires
-    add-bytes-2
-    add-i
-    loop-less
-    loop-again
-    returns)
+    Inv-loop μ-loop (λ c. search needs) loop-holds (λ c. search needs) (λ c. search needs) (λ c κs. search needs) add-bytes-2
+    (λ c. search needs) (λ c. search needs) loop-again returns)

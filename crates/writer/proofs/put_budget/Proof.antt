@@ -5,15 +5,6 @@ use Rattle.counting.specs.Put.{join}
 use Rattle.writer.proofs.put_budget.Statement.{statement}
 use Rattle.writer.proofs.put_budget.Tie as tie
 
-put-kind-requires : tie.Need-put-kind-requires
-put-kind-requires c κs = search needs
-
-put-long-requires : tie.Need-put-long-requires
-put-long-requires c κs = search needs
-
-same-length : tie.Need-same-length
-same-length c = search needs
-
 returns : tie.Need-returns
 returns c =
     let number = c .before .before in
@@ -21,4 +12,4 @@ returns c =
     (join (kind .put-kind .ensures .0) (number .put-long .ensures .0), omega arith)
 
 pub put-budget-spec : {M : Type 1} → statement M
-put-budget-spec = tie.close (tie.spec put-kind-requires put-long-requires same-length returns)
+put-budget-spec = tie.close (tie.spec (λ c κs. search needs) (λ c κs. search needs) (λ c. search needs) returns)

@@ -4,18 +4,6 @@ use Rattle.counting.specs.Put.{join}
 use Rattle.writer.proofs.put_file.Statement.{statement}
 use Rattle.writer.proofs.put_file.Tie as tie
 
-put-budget-requires : tie.Need-put-budget-requires
-put-budget-requires c κs = search needs
-
-put-tasks-requires : tie.Need-put-tasks-requires
-put-tasks-requires c κs = search needs
-
-put-kind-requires : tie.Need-put-kind-requires
-put-kind-requires c κs = search needs
-
-same-length : tie.Need-same-length
-same-length c = search needs
-
 returns : tie.Need-returns
 returns c =
     let end = c .before .before in
@@ -24,6 +12,4 @@ returns c =
     join (budget .put-budget .ensures .0) (join (tasks .put-tasks .ensures .0) (end .put-kind .ensures .0))
 
 pub put-file-spec : {M : Type 1} → statement M
-put-file-spec =
-    tie.close
-    (tie.spec put-budget-requires put-tasks-requires put-kind-requires same-length returns)
+put-file-spec = tie.close (tie.spec (λ c κs. search needs) (λ c κs. search needs) (λ c κs. search needs) (λ c. search needs) returns)

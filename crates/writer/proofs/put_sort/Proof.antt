@@ -5,9 +5,6 @@ use Rattle.counting.specs.Put.{join}
 use Rattle.writer.proofs.put_sort.Statement.{statement}
 use Rattle.writer.proofs.put_sort.Tie as tie
 
-enum-known-sort : tie.Need-enum-known-sort
-enum-known-sort c = search needs
-
 put-kind-requires : tie.Need-put-kind-requires
 put-kind-requires c κs =
     let q = c .before .before in
@@ -19,16 +16,10 @@ put-word-requires c κs =
     let q = k .before .before .before in
     omega (arith, rw (q .sort .given .1) at (q .before .before .before .pre), k .put-kind .ensures .1)
 
-enum-told : tie.Need-enum-told
-enum-told c = search needs
-
 put-kind-requires-2 : tie.Need-put-kind-requires-2
 put-kind-requires-2 c κs =
     let q = c .before in
     omega (arith, rw (q .enum-told .given .1) at (q .before .before .before .pre))
-
-same-length : tie.Need-same-length
-same-length c = search needs
 
 returns : tie.Need-returns
 returns c =
@@ -36,9 +27,6 @@ returns c =
     let kind = offset .before .before .before .before in
     let q = kind .before .before .before in
     rw (q .sort .given .1) (join (kind .put-kind .ensures .0) (offset .put-word .ensures .0))
-
-same-length-2 : tie.Need-same-length-2
-same-length-2 c = search needs
 
 returns-2 : tie.Need-returns-2
 returns-2 c =
@@ -49,12 +37,5 @@ pub put-sort-spec : {M : Type 1} → statement M
 put-sort-spec =
     tie.close
     (tie.spec
-    enum-known-sort
-    put-kind-requires
-    put-word-requires
-    enum-told
-    put-kind-requires-2
-    same-length
-    returns
-    same-length-2
-    returns-2)
+    (λ c. search needs) put-kind-requires put-word-requires (λ c. search needs) put-kind-requires-2 (λ c. search needs) returns
+    (λ c. search needs) returns-2)

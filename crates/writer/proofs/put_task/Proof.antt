@@ -38,9 +38,6 @@ put-word-requires-3 c κs =
     let start = sort .before .before .before in
     omega (arith, size start, start .pre, sort .put-sort .ensures .place)
 
-same-length : tie.Need-same-length
-same-length c = search needs
-
 returns : tie.Need-returns
 unfolding bytesOf
 returns c =
@@ -53,12 +50,4 @@ returns c =
     (join (sort .put-sort .ensures) words, omega (arith, size start, sort .put-sort .ensures .place))
 
 pub put-task-spec : {M : Type 1} → statement M
-put-task-spec =
-    tie.close
-    (tie.spec
-    put-sort-requires
-    put-word-requires
-    put-word-requires-2
-    put-word-requires-3
-    same-length
-    returns)
+put-task-spec = tie.close (tie.spec put-sort-requires put-word-requires put-word-requires-2 put-word-requires-3 (λ c. search needs) returns)

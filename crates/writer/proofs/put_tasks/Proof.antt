@@ -24,12 +24,6 @@ loop-holds : tie.Need-loop-holds Inv-loop μ-loop
 unfolding taskRecords
 loop-holds c = (omega arith, refl, omega arith, nothing _ _)
 
-mul-put-task : tie.Need-mul-put-task Inv-loop μ-loop
-mul-put-task c = search needs
-
-element-copy-out-put-task : tie.Need-element-copy-out-put-task Inv-loop μ-loop
-element-copy-out-put-task c = search needs
-
 put-task-requires : tie.Need-put-task-requires Inv-loop μ-loop
 put-task-requires c κs =
     let turn = c .before .before .before in
@@ -37,21 +31,12 @@ put-task-requires c κs =
     let i = turn .loop .i in
     omega (arith, records-step (t .tasks) i (omega arith), records-more (t .tasks) (i + 1) (t .count) (omega arith), turn .loop .inv .2)
 
-add-i : tie.Need-add-i Inv-loop μ-loop
-add-i c = search needs
-
-loop-less : tie.Need-loop-less Inv-loop μ-loop
-loop-less c = search needs
-
 loop-again : tie.Need-loop-again Inv-loop μ-loop
 loop-again c =
     let put = c .before .before in
     let turn = put .before .before .before .before in
     let more = one-more _ (turn .loop .i) (omega arith) (turn .loop .inv .3) (put .put-task .ensures .0) in
     (omega arith, omega arith, more .place, more)
-
-same-length : tie.Need-same-length Inv-loop μ-loop
-same-length c = search needs
 
 returns : tie.Need-returns Inv-loop μ-loop
 returns c =
@@ -63,14 +48,5 @@ pub put-tasks-spec : {M : Type 1} → statement M
 put-tasks-spec =
     tie.close
     (tie.spec
-    Inv-loop
-    μ-loop
-    loop-holds
-    mul-put-task
-    element-copy-out-put-task
-    put-task-requires
-    add-i
-    loop-less
-    loop-again
-    same-length
-    returns)
+    Inv-loop μ-loop loop-holds (λ c. search needs) (λ c. search needs) put-task-requires (λ c. search needs) (λ c. search needs) loop-again
+    (λ c. search needs) returns)

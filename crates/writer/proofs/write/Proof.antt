@@ -7,15 +7,6 @@ use Rattle.wellformed.specs.WellFormed.{well-mixed}
 use Rattle.writer.proofs.write.Statement.{statement}
 use Rattle.writer.proofs.write.Tie as tie
 
-judge-mixed-requires : tie.Need-judge-mixed-requires
-judge-mixed-requires c κs = search needs
-
-enum-known-why : tie.Need-enum-known-why
-enum-known-why c = search needs
-
-enum-told : tie.Need-enum-told
-enum-told c = search needs
-
 write-file-requires : tie.Need-write-file-requires
 write-file-requires c κs =
     let told = c .before in
@@ -29,9 +20,6 @@ returns c =
     let why = c .before in
     rw (← why .before .before .judge-mixed .ensures, why .why .given .1)
 
-same-length : tie.Need-same-length
-same-length c = search needs
-
 returns-2 : tie.Need-returns-2
 unfolding fileWritten
 returns-2 c =
@@ -43,10 +31,4 @@ pub write-spec : {M : Type 1} → statement M
 write-spec =
     tie.close
     (tie.spec
-    judge-mixed-requires
-    enum-known-why
-    enum-told
-    write-file-requires
-    returns
-    same-length
-    returns-2)
+    (λ c κs. search needs) (λ c. search needs) (λ c. search needs) write-file-requires returns (λ c. search needs) returns-2)

@@ -15,16 +15,10 @@ use Rattle.writer.proofs.write_file.Tie as tie
 size : (c : tie.Start) → length (fileOf (c .args .budget) (tasksOf (c .args .table))) ≡ fileBytes (c .args .table)
 size c = file-length (c .args .budget) (tasksOf (c .args .table))
 
-no-budget-requires : tie.Need-no-budget-requires
-no-budget-requires c κs = search needs
-
 returns : tie.Need-returns
 returns c =
     let a = c .before .before .before .args in
     nothing (a .budget) (fileOf (a .budget) (tasksOf (a .table))) (a .buffer .now) (c .before .if1 .taken) (c .no-budget .ensures)
-
-file-bytes-requires : tie.Need-file-bytes-requires
-file-bytes-requires c κs = search needs
 
 short-buffer-requires : tie.Need-short-buffer-requires
 short-buffer-requires c κs =
@@ -41,12 +35,6 @@ returns-2 c =
     something (a .budget) file (a .buffer .now) (some .if1 .left)
     (short file (a .buffer .now) (omega (arith, size start)) (c .short-buffer .ensures))
 
-put-file-requires : tie.Need-put-file-requires
-put-file-requires c κs = search needs
-
-same-length : tie.Need-same-length
-same-length c = search needs
-
 returns-3 : tie.Need-returns-3
 returns-3 c =
     let put = c .before .before in
@@ -60,11 +48,5 @@ pub write-file-spec : {M : Type 1} → statement M
 write-file-spec =
     tie.close
     (tie.spec
-    no-budget-requires
-    returns
-    file-bytes-requires
-    short-buffer-requires
-    returns-2
-    put-file-requires
-    same-length
+    (λ c κs. search needs) returns (λ c κs. search needs) short-buffer-requires returns-2 (λ c κs. search needs) (λ c. search needs)
     returns-3)

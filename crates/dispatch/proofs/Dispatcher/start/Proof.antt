@@ -6,15 +6,6 @@ use Rattle.wellformed.specs.WellFormed.{well-formed}
 use Rattle.dispatch.proofs.Dispatcher.start.Statement.{statement}
 use Rattle.dispatch.proofs.Dispatcher.start.Tie as tie
 
-judge-requires : tie.Need-judge-requires
-judge-requires c κs = search needs
-
-enum-known-refusal : tie.Need-enum-known-refusal
-enum-known-refusal c = search needs
-
-enum-told : tie.Need-enum-told
-enum-told c = search needs
-
 offsets-requires : tie.Need-offsets-requires
 offsets-requires c κs = well-formed _ _ (sym (c .before .before .judge .ensures) ∙ c .enum-told .given .1) .ranged .few
 
@@ -27,6 +18,4 @@ unfolding started startOf
 returns-2 c = rw (← c .before .before .before .judge .ensures, c .before .enum-told .given .1, c .offsets .ensures)
 
 pub start-spec : {M : Type 1} → statement M
-start-spec =
-    tie.close
-    (tie.spec judge-requires enum-known-refusal enum-told offsets-requires returns returns-2)
+start-spec = tie.close (tie.spec (λ c κs. search needs) (λ c. search needs) (λ c. search needs) offsets-requires returns returns-2)

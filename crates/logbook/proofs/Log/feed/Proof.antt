@@ -6,15 +6,6 @@ use borrow.Author.Needs.{needs}
 use Rattle.logbook.proofs.Log.feed.Statement.{statement}
 use Rattle.logbook.proofs.Log.feed.Tie as tie
 
-admission-requires : tie.Need-admission-requires
-admission-requires c κs = search needs
-
-enum-known-why : tie.Need-enum-known-why
-enum-known-why c = search needs
-
-enum-told : tie.Need-enum-told
-enum-told c = search needs
-
 read-all-requires : tie.Need-read-all-requires
 read-all-requires c κs = sym (c .before .before .admission .ensures) ∙ c .enum-told .given .1
 
@@ -27,6 +18,4 @@ unfolding fed
 returns-2 c = rw (← c .before .before .before .admission .ensures, c .before .enum-told .given .1) (ap (λ (l : Log). record { admission = Admission.Admitted; log = l }) (c .read-all .ensures))
 
 pub feed-spec : {M : Type 1} → statement M
-feed-spec =
-    tie.close
-    (tie.spec admission-requires enum-known-why enum-told read-all-requires returns returns-2)
+feed-spec = tie.close (tie.spec (λ c κs. search needs) (λ c. search needs) (λ c. search needs) read-all-requires returns returns-2)

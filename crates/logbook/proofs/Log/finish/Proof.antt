@@ -14,15 +14,6 @@ use Rattle.logbook.proofs.Log.finish.Tie as tie
 sizes : (c : tie.Start) → Sized (stateOf (c .args .self .dispatcher))
 sizes c = record { waits = search needs; lefts = search needs; gives = search needs }
 
-admission-requires : tie.Need-admission-requires
-admission-requires c κs = search needs
-
-enum-known-why : tie.Need-enum-known-why
-enum-known-why c = search needs
-
-enum-told : tie.Need-enum-told
-enum-told c = search needs
-
 close-requires : tie.Need-close-requires
 close-requires c κs =
     let a = c .before .before in
@@ -37,6 +28,4 @@ unfolding logFinished
 returns-2 c = rw (← c .before .before .before .admission .ensures, c .before .enum-told .given .1) (ap (λ (l : Log). record { admission = Admission.Admitted; log = l }) (c .close .ensures))
 
 pub finish-spec : {M : Type 1} → statement M
-finish-spec =
-    tie.close
-    (tie.spec admission-requires enum-known-why enum-told close-requires returns returns-2)
+finish-spec = tie.close (tie.spec (λ c κs. search needs) (λ c. search needs) (λ c. search needs) close-requires returns returns-2)

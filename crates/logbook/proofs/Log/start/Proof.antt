@@ -6,12 +6,9 @@ use borrow.Author.Needs.{needs}
 use Rattle.logbook.proofs.Log.start.Statement.{statement}
 use Rattle.logbook.proofs.Log.start.Tie as tie
 
-start-requires : tie.Need-start-requires
-start-requires c κs = search needs
-
 returns : tie.Need-returns
 unfolding logStarted
 returns c = ap (λ (x : Started). record { admission = x .admission; log = unread (x .state) }) (c .before .start .ensures)
 
 pub start-spec : {M : Type 1} → statement M
-start-spec = tie.close (tie.spec start-requires returns)
+start-spec = tie.close (tie.spec (λ c κs. search needs) returns)

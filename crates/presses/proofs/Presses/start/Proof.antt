@@ -7,15 +7,6 @@ use Rattle.wellformed.specs.WellFormed.{well-mixed}
 use Rattle.presses.proofs.Presses.start.Statement.{statement}
 use Rattle.presses.proofs.Presses.start.Tie as tie
 
-judge-mixed-requires : tie.Need-judge-mixed-requires
-judge-mixed-requires c κs = search needs
-
-enum-known-refusal : tie.Need-enum-known-refusal
-enum-known-refusal c = search needs
-
-enum-told : tie.Need-enum-told
-enum-told c = search needs
-
 offsets-requires : tie.Need-offsets-requires
 offsets-requires c κs = well-mixed _ _ (sym (c .before .before .judge-mixed .ensures) ∙ c .enum-told .given .1) .ranged .few
 
@@ -28,6 +19,4 @@ unfolding startedMixed startOf
 returns-2 c = rw (← c .before .before .before .judge-mixed .ensures, c .before .enum-told .given .1, c .offsets .ensures)
 
 pub start-spec : {M : Type 1} → statement M
-start-spec =
-    tie.close
-    (tie.spec judge-mixed-requires enum-known-refusal enum-told offsets-requires returns returns-2)
+start-spec = tie.close (tie.spec (λ c κs. search needs) (λ c. search needs) (λ c. search needs) offsets-requires returns returns-2)

@@ -6,18 +6,6 @@ use Rattle.wellformed.specs.WellFormed.{well-mixed}
 use Rattle.presses.proofs.Presses.step.Statement.{statement}
 use Rattle.presses.proofs.Presses.step.Tie as tie
 
-judge-mixed-requires : tie.Need-judge-mixed-requires
-judge-mixed-requires c κs = search needs
-
-enum-known-why : tie.Need-enum-known-why
-enum-known-why c = search needs
-
-handed-back-requires : tie.Need-handed-back-requires
-handed-back-requires c κs = search needs
-
-enum-told : tie.Need-enum-told
-enum-told c = search needs
-
 step-well-formed-requires : tie.Need-step-well-formed-requires
 step-well-formed-requires c κs = well-mixed _ _ (sym (c .before .before .judge-mixed .ensures) ∙ c .enum-told .given .1) .ranged
 
@@ -33,10 +21,4 @@ pub step-spec : {M : Type 1} → statement M
 step-spec =
     tie.close
     (tie.spec
-    judge-mixed-requires
-    enum-known-why
-    handed-back-requires
-    enum-told
-    step-well-formed-requires
-    returns
-    returns-2)
+    (λ c κs. search needs) (λ c. search needs) (λ c κs. search needs) (λ c. search needs) step-well-formed-requires returns returns-2)
