@@ -4,13 +4,19 @@ use mathlib.Core.Bool.{Bool}
 use mathlib.Core.List.{List}
 use Prim.Native.Nat.{ℕ}
 use Rattle.values.specs.declared.Admission.{Admission}
+use Rattle.values.specs.declared.Table.{Table}
+use Rattle.values.specs.declared.Judgement.{Judgement}
 use Rattle.values.specs.declared.Answer.{Answer}
 use Rattle.values.specs.declared.Contents.{Contents}
 use Rattle.values.specs.declared.Outcome.{Outcome}
 use Rattle.model.specs.Report.{Exported, refused, written, outcomeTold, FileTold}
+use Rattle.tablefile.specs.Told.{TableTold}
 
 abbrev pub FileExported : List ℕ → Contents → Exported → Admission → Type 0
 FileExported buffer = FileTold (λ r. refused r buffer) (λ report. written report buffer)
+
+abbrev pub TableExported : List ℕ → Table → ℕ → Exported → Judgement → Type 0
+TableExported buffer = TableTold (λ r. refused r buffer) (λ report. written report buffer)
 
 abbrev pub exportOf : ℕ → Bool → Answer → List ℕ → Outcome → Exported
 exportOf n quick a buffer = outcomeTold (λ r. refused r buffer) (λ report. written report buffer) n quick a

@@ -3,14 +3,15 @@ ghost use mathlib.Core.Path.{_≡_};
 ghost use Prim.Native.Nat.{_≤_};
 ghost use lib.ListN.{length};
 ghost use Rattle.model.specs.Limits.{taskLimit, reportBytes};
-ghost use Rattle.model.specs.Verdict.{Permitted};
+ghost use Rattle.model.specs.Tasks.{judged};
 ghost use Rattle.model.specs.TableFile.{fileRead};
 ghost use Rattle.model.specs.Report.{Checked};
 ghost use Rattle.model.specs.ReportRead.{passesExported};
 ghost use Rattle.report.specs.Put.{exported};
-ghost use Rattle.checkcalls.specs.Outcomes.{FileExported, exportOf};
+ghost use Rattle.checkcalls.specs.Outcomes.{FileExported, TableExported, exportOf};
 use values::Admission;
 use values::Answer;
+use values::Judgement;
 use values::Outcome;
 use values::REPORT_BYTES;
 use values::Table;
@@ -31,14 +32,18 @@ fn export_answer(answer: Answer, tasks: usize, quick: bool, buffer: &mut [u8]) -
     }
 }
 
-// The permitted answer, by leaps or slot by slot.
-fn tested(t: Table, budget: u64, plainly: bool) -> Answer
-    ensures { λ r. ⌜ Permitted t budget r ⌝ }
+// The table is judged once, for the test and for the quick test.
+fn check_table(t: Table, budget: u64, buffer: &mut [u8], plainly: bool) -> u64
+    requires { ⌜ reportBytes ≤ length (now buffer) ⌝ }
+    ensures { λ r. ⌜ TableExported (now (buffer .entry)) t budget (exported r (now (buffer .exit))) (judged t) ⌝ }
 {
-    if plainly {
-        exact::test(t, budget)
-    } else {
-        jump::test(t, budget)
+    match table::judge(t) {
+        Judgement::Refused(why) => numbers::refusal_number(why),
+        Judgement::WellFormed(m) => {
+            let answer = exact::tested(t, m, budget, plainly);
+            let quick = quick::passes(t, m);
+            export_answer(answer, t.count, quick, buffer)
+        }
     }
 }
 
@@ -46,15 +51,13 @@ fn check_file(file: &[u8], buffer: &mut [u8], plainly: bool) -> u64
     requires { ⌜ reportBytes ≤ length (now buffer) ⌝ }
     ensures { λ r. ⌜ FileExported (now (buffer .entry)) (fileRead (now (file .entry))) (exported r (now (buffer .exit))) (fileRead (now (file .entry)) .admission) ⌝ }
 {
-    let contents = tablefile::read(file);
-    let admission = contents.admission;
+    let form = tablefile::form_of(file);
+    let admission = form.admission;
     match admission {
         Admission::Refused(why) => numbers::refusal_number(why),
         Admission::Admitted => {
-            let table = contents.table;
-            let answer = tested(table, contents.budget, plainly);
-            let quick = quick::is_pass(quick::test(table));
-            export_answer(answer, table.count, quick, buffer)
+            let table = form.table;
+            check_table(table, form.budget, buffer, plainly)
         }
     }
 }

@@ -15,21 +15,15 @@ fn less(x: u64, y: u64) -> u64
     if x < y { 0 } else { x - y }
 }
 
-fn to_u64(x: u32) -> u64
-    ensures { λ r. ⌜ (r ≡ x) × (x < 4294967296) ⌝ }
-{
-    x as u64
-}
-
 // The jobs of a task inside an interval: those due by its end, less those released before its start.
 pub fn jobs_in(k: Task, from: u64, to: u64) -> u64
     requires { ⌜ InRange k ⌝ }
     requires { ⌜ (from ≤ to) × (to ≤ horizonLimit) ⌝ }
     ensures { λ r. ⌜ r ≡ jobsIn k from to ⌝ }
 {
-    let period = to_u64(k.period);
+    let period = words::to_u64(k.period);
     let offset = sorts::wide_offset_of(k);
-    let due = less(to + period, offset + to_u64(k.deadline)) / period;
+    let due = less(to + period, offset + words::to_u64(k.deadline)) / period;
     let released = (less(from, offset) + (period - 1)) / period;
     less(due, released)
 }
@@ -44,7 +38,7 @@ pub fn demand(t: Table, from: u64, to: u64) -> u64
     let mut asked: u64 = 0;
     for i in 0..n {
         let task = t.tasks[i];
-        asked = asked + to_u64(task.cost) * jobs_in(task, from, to);
+        asked = asked + words::to_u64(task.cost) * jobs_in(task, from, to);
     }
     asked
 }
@@ -58,7 +52,7 @@ fn release_before(k: Task, from: u64) -> u64
     if from <= offset {
         return 0;
     }
-    let period = to_u64(k.period);
+    let period = words::to_u64(k.period);
     offset + (from - offset - 1) / period * period
 }
 
@@ -72,7 +66,7 @@ pub fn start_before(t: Table, from: u64, spare: u64) -> u64
     let mut start: u64 = 0;
     for i in 0..n {
         let task = t.tasks[i];
-        if spare < n as u64 * to_u64(task.cost) {
+        if spare < n as u64 * words::to_u64(task.cost) {
             let release = release_before(task, from);
             if start < release {
                 start = release;

@@ -6,13 +6,16 @@ ghost use Rattle.io.specs.Counts.{Counts};
 ghost use Rattle.model.specs.Limits.{taskLimit, reportBytes, longestFile};
 ghost use Rattle.model.specs.Report.{written, outcomeTold, refusalLine, Printed};
 ghost use Rattle.report.specs.Put.{exported};
+ghost use Rattle.judge.specs.Front.{TablePrinted};
 use libc::STDIN_FILENO;
 use libc::STDOUT_FILENO;
 use values::Admission;
 use values::Answer;
+use values::Judgement;
 use values::LONGEST_FILE;
 use values::Outcome;
 use values::REPORT_BYTES;
+use values::Table;
 
 // One byte more than the longest legal file has.
 const INPUT_BYTES: usize = LONGEST_FILE + 1;
@@ -35,21 +38,33 @@ fn write_outcome(
     }
 }
 
+fn judge_table(t: Table, budget: u64, output: &mut [u8]) -> usize
+    requires { ⌜ reportBytes ≤ length (now output) ⌝ }
+    ensures { λ r. ⌜ TablePrinted (now (output .entry)) t budget (exported r (now (output .exit))) ⌝ }
+{
+    match table::judge(t) {
+        Judgement::Refused(why) => report::write_refusal(output, why),
+        Judgement::WellFormed(m) => {
+            let answer = exact::tested(t, m, budget, false);
+            let outcome = answer.outcome;
+            let quick = quick::passes(t, m);
+            write_outcome(output, t.count, quick, answer, outcome)
+        }
+    }
+}
+
 fn judge(input: &[u8], output: &mut [u8]) -> usize
     requires { ⌜ reportBytes ≤ length (now output) ⌝ }
     ensures { λ r. ⌜ Printed (now (input .entry)) (take r (now (output .exit))) ⌝ }
     ensures { λ r. ⌜ Counts r (now (output .exit)) ⌝ }
 {
-    let contents = tablefile::read(input);
-    let admission = contents.admission;
+    let form = tablefile::form_of(input);
+    let admission = form.admission;
     match admission {
         Admission::Refused(why) => report::write_refusal(output, why),
         Admission::Admitted => {
-            let table = contents.table;
-            let answer = jump::test(table, contents.budget);
-            let outcome = answer.outcome;
-            let quick = quick::is_pass(quick::test(table));
-            write_outcome(output, table.count, quick, answer, outcome)
+            let table = form.table;
+            judge_table(table, form.budget, output)
         }
     }
 }

@@ -36,7 +36,7 @@ fn verdict_on(t: Table, budget: u64) -> Verdict
     requires { ⌜ Well t ⌝ }
     ensures { λ r. ⌜ r ≡ verdict t budget ⌝ }
 {
-    let answer = jump::test(t, budget);
+    let answer = exact::test(t, budget, false);
     let outcome = answer.outcome;
     match outcome {
         Outcome::Refused(_) => Verdict::Undecided,

@@ -34,12 +34,6 @@ const SPAN: u64 = 0x20_0000;
 
 const PLACES: u64 = 32;
 
-pub fn to_u64(x: u32) -> u64
-    ensures { λ r. ⌜ (r ≡ x) × (x < 2 ^ 32) ⌝ }
-{
-    x as u64
-}
-
 pub fn entry(time: u64, mark: u64) -> u64
     requires { ⌜ (time < timeLimit) × (mark < span) ⌝ }
     ensures { λ r. ⌜ r ≡ time * span + mark ⌝ }
@@ -96,9 +90,9 @@ pub fn unpack(t: Table) -> Columns
     for i in 0..n {
         let task = t.tasks[i];
         let own = slots::rank_of(task) as u64 * PLACES + i as u64;
-        period[i] = entry(to_u64(task.period), own);
-        cost[i] = to_u64(task.cost);
-        deadline[i] = entry(to_u64(task.deadline), own);
+        period[i] = entry(words::to_u64(task.period), own);
+        cost[i] = words::to_u64(task.cost);
+        deadline[i] = entry(words::to_u64(task.deadline), own);
         mark[i] = own;
     }
     Columns {

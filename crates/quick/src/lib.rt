@@ -28,26 +28,14 @@ struct Seen {
     next: u64,
 }
 
-fn to_u64(x: u32) -> u64
-    ensures { λ r. ⌜ (r ≡ x) × (x < 4294967296) ⌝ }
-{
-    x as u64
-}
-
-fn smaller(x: u64, y: u64) -> u64
-    ensures { λ r. ⌜ r ≡ min x y ⌝ }
-{
-    if x < y { x } else { y }
-}
-
 // The jobs of a task that are due by `u`, all released from 0 on.
 fn due_by(k: Task, u: u64) -> u64
     requires { ⌜ InRange k ⌝ }
     requires { ⌜ u ≤ roundLimit ⌝ }
     ensures { λ r. ⌜ r ≡ dueBy k u ⌝ }
 {
-    let period = to_u64(k.period);
-    (u + period - to_u64(k.deadline)) / period
+    let period = words::to_u64(k.period);
+    (u + period - words::to_u64(k.deadline)) / period
 }
 
 fn look(t: Table, u: u64) -> Seen
@@ -57,12 +45,15 @@ fn look(t: Table, u: u64) -> Seen
 {
     let n = t.count;
     let mut slots: u64 = 0;
-    let mut next = u + to_u64(SLOT_LIMIT);
+    let mut next = u + words::to_u64(SLOT_LIMIT);
     for i in 0..n {
         let task = t.tasks[i];
         let jobs = due_by(task, u);
-        slots = slots + to_u64(task.cost) * jobs;
-        next = smaller(next, to_u64(task.deadline) + to_u64(task.period) * jobs);
+        slots = slots + words::to_u64(task.cost) * jobs;
+        next = words::smaller(
+            next,
+            words::to_u64(task.deadline) + words::to_u64(task.period) * jobs,
+        );
     }
     Seen { asked: slots, next }
 }
@@ -80,8 +71,8 @@ fn all_enough(t: Table, bound: u64) -> bool
         if high < above.asked {
             return false;
         }
-        high = smaller(above.asked, high - 1);
-        if low < smaller(EARLY, high) {
+        high = words::smaller(above.asked, high - 1);
+        if low < words::smaller(EARLY, high) {
             let below = look(t, low);
             if low < below.asked {
                 return false;
@@ -98,8 +89,8 @@ fn slack_of(k: Task, round: u64) -> u64
     requires { ⌜ round ≤ roundLimit ⌝ }
     ensures { λ r. ⌜ r ≡ slackOf k round ⌝ }
 {
-    let period = to_u64(k.period);
-    to_u64(k.cost) * ((period - to_u64(k.deadline)) * (round / period))
+    let period = words::to_u64(k.period);
+    words::to_u64(k.cost) * ((period - words::to_u64(k.deadline)) * (round / period))
 }
 
 fn slack(t: Table, round: u64) -> u64
@@ -129,7 +120,7 @@ fn bound(t: Table, m: Measure) -> u64
     if spare == 0 {
         return m.round;
     }
-    smaller((slack - m.round) / spare, m.round)
+    words::smaller((slack - m.round) / spare, m.round)
 }
 
 // No overload, and enough up to the bound. Of buttons too: what comes as it likes is worst if all comes at once.

@@ -6,6 +6,7 @@ pub mod Built
 pub mod Steps
 pub mod ReadSoFar
 pub mod Admitted
+pub mod Told
 pub mod Longer
 pub mod Refused
 pub mod Periodic

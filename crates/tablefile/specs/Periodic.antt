@@ -10,10 +10,10 @@ use Rattle.values.specs.declared.Admission.{Admission}
 use Rattle.values.specs.declared.Contents.{Contents}
 use Rattle.model.specs.Limits.{taskLimit}
 use Rattle.model.specs.Tasks.{judgedMixed, judged}
-use Rattle.model.specs.TableFile.{judgedTable, judgedForm, formOf, fileRead, periodicFrom}
+use Rattle.model.specs.TableFile.{judgedForm, formOf, fileRead, periodicFrom}
 use Rattle.wellformed.specs.WellFormed.{periodic-iff, refused-both}
 use Rattle.wellformed.specs.Refused.{judged-tellable}
-use Rattle.tablefile.specs.Admitted.{admitted, few-tasks, refused-for, periodic-admitted, periodic-for}
+use Rattle.tablefile.specs.Admitted.{few-tasks, periodic-admitted, periodic-for}
 use Rattle.tablefile.specs.Refused.{AdmissionTellable, form-tellable}
 
 -- A file of good form and a well-formed table is read as its form has it.
@@ -44,19 +44,6 @@ periodic-refused file r h = elim (periodic-for file r h) [ inl f ↦ inl (ap (λ
         let same : w ≡ r = cc in
         inl (rw (good, e, same))
     table (Judgement.WellFormed m) e good j = inr (rw (good, e) (refl, j))
-
--- A file that is refused at all is refused so here.
-pub periodic-same : (file : List ℕ) (r : Refusal) → fileRead file .admission ≡ Admission.Refused r → fileRead file ≡ periodicFrom file
-unfolding fileRead periodicFrom
-periodic-same file r h = elim (refused-for file r h) [ inl f ↦ rw f | inr (f, j) ↦ rw (f, j, refused-both (formOf file .table) r j) ]
-
--- Any other by what its table is judged to be.
-pub periodic-told : (file : List ℕ) → fileRead file .admission ≡ Admission.Admitted → judgedTable (fileRead file) (judged (fileRead file .table)) ≡ periodicFrom file
-unfolding periodicFrom
-periodic-told file h =
-    let (same, well) = admitted file h in
-    let good : formOf file .admission ≡ Admission.Admitted = ap (λ (l : Contents). l .admission) (sym same) ∙ h in
-    rw (same, good)
 
 pub few-periodic : (file : List ℕ) {l : Contents} → l ≡ periodicFrom file → l .admission ≡ Admission.Admitted → l .table .count ≤ taskLimit
 few-periodic file same h = let (read, e, well) = periodic-read file (rw (← same) h) in rw (same, e) (few-tasks file {l = fileRead file} refl read)

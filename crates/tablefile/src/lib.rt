@@ -12,7 +12,7 @@ ghost use mathlib.Core.List.{[]};
 ghost use Prim.Native.Nat.{_+_, _<_, _≤_};
 ghost use lib.ListN.{length};
 ghost use Rattle.model.specs.Limits.{longestFile};
-ghost use Rattle.model.specs.TableFile.{tableOf, refuseFile, formOf, fileRead, periodicFrom};
+ghost use Rattle.model.specs.TableFile.{tableOf, refuseFile, judgedTable, formOf, fileRead, periodicFrom};
 ghost use Rattle.tablefile.specs.Reading.{bodyBytes, recordBytes, bodyIn, refused, budgetReading, taskReading, endReading, readingAt};
 
 pub const BUDGET: u8 = 1;
@@ -239,6 +239,15 @@ pub fn form_of(file: &[u8]) -> Contents
     }
 }
 
+fn judged_by(form: Contents, judgement: Judgement) -> Contents
+    ensures { λ r. ⌜ r ≡ judgedTable form judgement ⌝ }
+{
+    match judgement {
+        Judgement::Refused(why) => refused_file(why),
+        Judgement::WellFormed(_) => form,
+    }
+}
+
 pub fn read(file: &[u8]) -> Contents
     ensures { λ r. ⌜ r ≡ fileRead (now (file .entry)) ⌝ }
 {
@@ -246,10 +255,7 @@ pub fn read(file: &[u8]) -> Contents
     let admission = form.admission;
     match admission {
         Admission::Refused(_) => form,
-        Admission::Admitted => match table::judge_mixed(form.table) {
-            Judgement::Refused(why) => refused_file(why),
-            Judgement::WellFormed(_) => form,
-        },
+        Admission::Admitted => judged_by(form, table::judge_mixed(form.table)),
     }
 }
 
@@ -257,13 +263,10 @@ pub fn read(file: &[u8]) -> Contents
 pub fn read_periodic(file: &[u8]) -> Contents
     ensures { λ r. ⌜ r ≡ periodicFrom (now (file .entry)) ⌝ }
 {
-    let contents = read(file);
-    let admission = contents.admission;
+    let form = form_of(file);
+    let admission = form.admission;
     match admission {
-        Admission::Refused(_) => contents,
-        Admission::Admitted => match table::judge(contents.table) {
-            Judgement::Refused(button) => refused_file(button),
-            Judgement::WellFormed(_) => contents,
-        },
+        Admission::Refused(_) => form,
+        Admission::Admitted => judged_by(form, table::judge(form.table)),
     }
 }

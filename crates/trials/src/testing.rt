@@ -42,7 +42,7 @@ fn test(vector: &[u8], t: Table, budget: u64) {
     say::words(b", budget ");
     say::number(budget);
     say::words(b": ");
-    say_answer(exact::test(t, budget));
+    say_answer(exact::test(t, budget, true));
     say::words(b"\n");
 }
 

@@ -2,3 +2,4 @@
 pub mod Walked
 pub mod Caught
 pub mod Tally
+pub mod Course

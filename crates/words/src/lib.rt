@@ -1,6 +1,8 @@
 // Numbers of four bytes and of eight, the lowest byte first, read and written where they lie.
 ghost use mathlib.Core.Path.{_≡_};
-ghost use Prim.Native.Nat.{_+_, _/_, _%_, _<_, _≤_};
+ghost use mathlib.Core.Bool.{not};
+ghost use Prim.Native.Nat.{_+_, _/_, _%_, _^_, _<_, _≤_, min};
+ghost use lib.Dec.{eqb};
 ghost use lib.ListN.{length};
 ghost use Rattle.model.specs.Limits.{wordLimit};
 ghost use Rattle.model.specs.TableFile.{four, eight, wordBytes, twoWords, bytesOf};
@@ -41,10 +43,23 @@ fn low_byte(word: u32) -> u8
     (word % 256) as u8
 }
 
-fn to_u64(x: u32) -> u64
-    ensures { λ r. ⌜ (r ≡ x) × (x < wordLimit) ⌝ }
+pub fn to_u64(x: u32) -> u64
+    ensures { λ r. ⌜ (r ≡ x) × (x < 2 ^ 32) ⌝ }
 {
     x as u64
+}
+
+pub fn smaller(x: u64, y: u64) -> u64
+    ensures { λ r. ⌜ r ≡ min x y ⌝ }
+{
+    if x < y { x } else { y }
+}
+
+// Any word but 0 is yes.
+pub fn is_set(word: u32) -> bool
+    ensures { λ r. ⌜ r ≡ not (eqb word 0) ⌝ }
+{
+    word != 0
 }
 
 pub fn long_at(s: &[u8], at: usize) -> u64

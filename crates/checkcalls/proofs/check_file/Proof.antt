@@ -1,35 +1,27 @@
--- Each return rewrites with what the file turned out to be.
-use mathlib.Core.Path.{_∙_}
+-- Each return goes by what the form turned out to be.
+use mathlib.Core.Path.{sym, ap, _∙_}
 use borrow.Author.Needs.{needs}
-use Rattle.tablefile.specs.Admitted.{few-tasks}
-use Rattle.quick.specs.Answers.{told-either}
+use Rattle.values.specs.declared.Contents.{Contents}
+use Rattle.tablefile.specs.Told.{form-refused, table-told}
 use Rattle.checkcalls.proofs.check_file.Statement.{statement}
 use Rattle.checkcalls.proofs.check_file.Tie as tie
-
-export-answer-requires : tie.Need-export-answer-requires
-export-answer-requires c κs =
-    let told = c .before .before .before .before .before in
-    (few-tasks _ (told .before .before .read .ensures) (told .enum-told .given .1), search needs)
 
 returns : tie.Need-returns
 returns c =
     let known = c .before .before in
-    rw (← known .before .before .read .ensures, known .admission .given .1, c .refusal-number .ensures)
+    let form = known .before .before .form-of .ensures in
+    rw (c .refusal-number .ensures) (form-refused _ _ _ _ (ap (λ (l : Contents). l .admission) (sym form) ∙ known .admission .given .1))
 
 returns-2 : tie.Need-returns-2
 returns-2 c =
-    let e = c .before .before in
-    let p = e .before .before in
-    let t = p .before .before in
-    let told = t .before .before in
-    let contents = told .before .before .read .ensures in
-    let table = told .before .before .read .result .table in
-    let passed = told-either _ _ (table .count) table _ (t .tested .result) (t .tested .ensures) (p .before .test .ensures) (p .is-pass .ensures) in
-    rw (← contents, told .enum-told .given .1) (_, t .tested .ensures, e .export-answer .ensures ∙ passed)
+    let checked = c .before .before in
+    let told = checked .before .before .before in
+    let form = told .before .before .form-of .ensures in
+    table-told _ _ _ _ (ap (λ (l : Contents). l .admission) (sym form) ∙ told .enum-told .given .1) (rw form at (checked .check-table .ensures))
 
 pub check-file-spec : {M : Type 1} → statement M
 check-file-spec =
     tie.close
     (tie.spec
-    (λ c κs. search needs) (λ c. search needs) (λ c κs. search needs) (λ c. search needs) (λ c κs. search needs) (λ c κs. search needs)
-    (λ c κs. search needs) export-answer-requires returns (λ c. search needs) returns-2)
+    (λ c κs. search needs) (λ c. search needs) (λ c κs. search needs) (λ c. search needs) (λ c κs. search needs) returns (λ c. search needs)
+    returns-2)
