@@ -91,6 +91,7 @@ void check_table(const struct table *table, int plainly, struct report *report);
 uint64_t report_number(const struct report *report, const char *words);
 int report_passes(const struct report *report);
 int report_verdict(const struct report *report, const char *verdict);
+uint64_t report_quick(const struct report *report);
 uint64_t horizon_of(const struct table *table);
 unsigned long usual_slots(const struct table *table, unsigned long most);
 

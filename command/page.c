@@ -114,8 +114,8 @@ static void put_short(const struct table *table, const struct report *report, ui
 {
     int told = !report_verdict(report, "undecided");
     printf("<section><h2>In short</h2>\n");
-    put_words(quick_words(strstr(report->text, "\nquick pass\n") != NULL), "");
-    put_words(distance_words(table, distance), distance > 0 ? "" : told ? ": the verdict tells" : ": judge tells");
+    put_words(quick_words(report_quick(report)), "");
+    put_words(distance_words(table, distance), distance != YOLIZADWA_DISTANCE_NONE ? "" : told ? ": the verdict tells" : ": judge tells");
     printf("</section>\n");
 }
 
@@ -206,7 +206,7 @@ static int page_with_buttons(const char *name, const struct table *table)
 static uint64_t take_distance(const struct table *table, int status, struct sentence *verdict)
 {
     uint64_t answer = ask_distance(table);
-    if (status == UNDECIDED && answer == 1 && verdict->more[0] == '\0') {
+    if (status == UNDECIDED && answer == YOLIZADWA_DISTANCE_PASS && verdict->more[0] == '\0') {
         foretell(verdict, "distance pass");
     }
     return answer;

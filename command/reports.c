@@ -33,6 +33,11 @@ int report_verdict(const struct report *report, const char *verdict)
     return found != NULL && strncmp(found + sizeof words - 1, verdict, length) == 0 && found[sizeof words - 1 + length] == '\n';
 }
 
+uint64_t report_quick(const struct report *report)
+{
+    return strstr(report->text, "\nquick pass\n") != NULL ? YOLIZADWA_QUICK_PASS : YOLIZADWA_QUICK_NONE;
+}
+
 int report_excess(const struct report *report, struct excess *excess)
 {
     unsigned long long start = 0, end = 0, demand = 0;
@@ -80,7 +85,7 @@ static void word_undecided(const struct table *table, const struct report *repor
     snprintf(sentence->text, sizeof sentence->text,
              "undecided: the budget, %llu, ended before the answer was known; the horizon, %llu, is always enough",
              (unsigned long long)budget_of(table), (unsigned long long)report_number(report, "\nhorizon "));
-    if (strstr(report->text, "\nquick pass\n") != NULL) {
+    if (report_quick(report) == YOLIZADWA_QUICK_PASS) {
         foretell(sentence, "quick pass");
     }
 }

@@ -9,11 +9,14 @@
 
 #include "yolizadwa.h"
 
-_Static_assert(YOLIZADWA_LONGEST_FILE == 554 && YOLIZADWA_LONGEST_TEXT == 956 && YOLIZADWA_ROW_WORDS == 5, "as the specification and the tests have it");
-_Static_assert(YOLIZADWA_KIND_BUTTON == 4 && YOLIZADWA_HAS_BUTTON == 11, "as the specification has it");
-_Static_assert(YOLIZADWA_NO_SUCH_TASK == 12 && YOLIZADWA_LARGEST_OVERLOAD == 60001 && YOLIZADWA_LARGEST_UNDECIDED == 60002 && YOLIZADWA_LARGEST_LATE == 60003, "as the tests have it");
+_Static_assert(YOLIZADWA_LONGEST_FILE == 554 && YOLIZADWA_LONGEST_TEXT == 956 && YOLIZADWA_ROW_WORDS == 5, "as the tests have it");
+_Static_assert(YOLIZADWA_KIND_BUTTON == 4 && YOLIZADWA_HAS_BUTTON == 11 && YOLIZADWA_NO_SUCH_TASK == 12, "as the tests have it");
+_Static_assert(YOLIZADWA_FILE_CUT_SHORT == 20 && YOLIZADWA_FILE_ZERO_BUDGET == 27, "as the tests have it");
+_Static_assert(YOLIZADWA_TEXT_UNKNOWN_WORD == 60 && YOLIZADWA_TEXT_TOO_MANY_TASKS == 66, "as the tests have it");
+_Static_assert(YOLIZADWA_QUICK_NONE == 0 && YOLIZADWA_QUICK_PASS == 1, "as the tests have it");
+_Static_assert(YOLIZADWA_DISTANCE_NONE == 0 && YOLIZADWA_DISTANCE_PASS == 1 && YOLIZADWA_DISTANCE_OVERLOAD == 2, "as the tests have it");
+_Static_assert(YOLIZADWA_LARGEST_OVERLOAD == 60001 && YOLIZADWA_LARGEST_UNDECIDED == 60002 && YOLIZADWA_LARGEST_LATE == 60003, "as the tests have it");
 _Static_assert(sizeof(struct yolizadwa_state) == YOLIZADWA_STATE_BYTES && offsetof(struct yolizadwa_state, given) == 272, "as the library lays a state out");
-
 _Static_assert(sizeof(struct yolizadwa_log) == YOLIZADWA_LOG_BYTES && offsetof(struct yolizadwa_log, opened) == YOLIZADWA_STATE_BYTES && offsetof(struct yolizadwa_log, slots) == 552, "as the library lays a log out");
 
 enum { ROOM = 1 << 18, MOST_WORDS = 400000 };
