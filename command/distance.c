@@ -15,7 +15,7 @@ static const char *pass_words(int buttons)
                    : "distance pass\n\npass: every job is in time";
 }
 
-/* Buttons alone may come all at once, so of these it is known what becomes of them. */
+/* Buttons alone may all come at once, so for these alone none means late. */
 static const char *none_words(int buttons, int tasks)
 {
     if (!buttons) {
@@ -64,6 +64,7 @@ int distance(const struct request *request)
         return status;
     }
     uint64_t answer = ask_distance(&table);
-    printf("%s%s\n", distance_words(&table, answer), answer == YOLIZADWA_DISTANCE_NONE && button_count(&table) == 0 ? ": judge tells" : "");
+    int judge_tells = answer == YOLIZADWA_DISTANCE_NONE && button_count(&table) == 0;
+    printf("%s%s\n", distance_words(&table, answer), judge_tells ? ": judge tells" : "");
     return distance_status(answer);
 }

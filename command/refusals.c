@@ -5,7 +5,7 @@
 
 enum { CHARACTERS_SHOWN = 100, LAST_LINE_TOLD = 65535 };
 
-/* What a number says; the place, or for a text's own faults the line, stands between the two parts. */
+/* What a number means. The place, or the line for a text's own faults, stands between the two parts. */
 struct meaning {
     uint32_t number;
     const char *before, *after;
@@ -46,7 +46,7 @@ static const struct meaning *meaning_of(uint32_t number)
     return &none;
 }
 
-/* Without its line feed, behind which the next line begins, be it empty. */
+/* The line feed is no part of the line. */
 static size_t line_end(const struct input *text, size_t at)
 {
     const uint8_t *feed = memchr(text->bytes + at, '\n', text->len - at);
@@ -62,10 +62,7 @@ static int same_up_to(const struct input *text, size_t end, uint64_t result)
     return (yolizadwa_refused(read) ? read : yolizadwa_start(file, (size_t)read, (uint8_t *)&state, sizeof state)) == result;
 }
 
-/*
- * Where the line begins that the refusal is about. The lines up to it are refused in the same way and fewer are not, so the
- * library itself finds it, by halves.
- */
+/* Tells where the refused line begins: the lines up to it are refused alike and fewer are not, so the library finds it by halving. */
 static size_t refused_line(const struct input *text, uint64_t result)
 {
     size_t low = 0, high = text->len;
@@ -117,7 +114,7 @@ static void say(FILE *to, uint64_t result, unsigned long meant)
     }
 }
 
-/* A fault of one task or of one line; the others are of the whole table. So far down every line is refused for want of a budget. */
+/* Some faults have no line: those of the whole table, and a missing budget so far down that the place ends before its line. */
 static int has_a_line(uint64_t result)
 {
     uint32_t number = yolizadwa_number(result);
@@ -128,7 +125,7 @@ static int has_a_line(uint64_t result)
            number >= YOLIZADWA_TEXT_UNKNOWN_WORD;
 }
 
-/* Some editors put one in front: a text of theirs cannot be read, and nothing is to be seen. */
+/* Some editors put a byte order mark in front, which nobody sees and the library does not read. */
 static void hint_at_mark(FILE *to, const struct input *text)
 {
     if (text->len > 0 && (text->bytes[0] == 0xEF || text->bytes[0] >= 0xFE)) {
@@ -153,7 +150,7 @@ int say_refusal(FILE *to, const struct input *input, uint64_t result)
     return REFUSED;
 }
 
-/* What is asked for is for tables without buttons; the line of the first one, and which test is for it. */
+/* Shows the line of the first button, and which test takes it. */
 int say_button(FILE *to, const struct input *input, const char *what, uint64_t result)
 {
     unsigned number = (unsigned)yolizadwa_place(result);
@@ -167,7 +164,7 @@ int say_button(FILE *to, const struct input *input, const char *what, uint64_t r
     return REFUSED;
 }
 
-/* A fault of the question and of no line; the number as it was asked for, since a place ends at 65,535. */
+/* Says the number as it was asked for, since a place ends at 65,535. No line of the table is wrong. */
 int say_no_task(FILE *to, const struct table *table, uint32_t task, uint64_t result)
 {
     unsigned tasks = task_count(table);
