@@ -14,6 +14,7 @@ pub struct Task {
     pub period: u32,
 }
 
+// Rust cannot read tests/calls.h, so the calls are declared here once more.
 extern "C" {
     fn clock_gettime(clock: i32, time: *mut [i64; 2]) -> i32;
     fn yolizadwa_check(file: *const u8, file_len: usize, report: *mut u8, report_len: usize) -> u64;

@@ -3,7 +3,7 @@
 #define COMMAND_H
 
 #include <stddef.h>
-#include <stdint.h>
+#include <inttypes.h>
 #include <stdio.h>
 
 #include "yolizadwa.h"
@@ -21,14 +21,14 @@ enum { MOST_INPUT = 1 << 24, MOST_SLOTS = 1000000, LEAST_USUAL = 35, JOBS_SHOWN 
 /* What one call of the command asks for; its word says which of these count. */
 struct request {
     const char *files[2];
-    const char *log; /* of a run: where its log goes, or NULL */
+    const char *log; /* where the log of a run goes, or NULL */
     int all;
     int early;
     int plainly;
-    unsigned long slots; /* 0: as many as is usual */
-    int from_told;       /* else, without to, a window of the command's own choice */
+    unsigned long slots; /* 0: the usual number */
+    int from_told;
     unsigned long from, to; /* to 0: not told */
-    int one_task;        /* else of every task */
+    int one_task;           /* 0: every task */
     uint32_t task;
 };
 
@@ -47,20 +47,20 @@ struct table {
     int was_text;
 };
 
-/* Of a button the period is its least spacing, and the offset 0, since it has none. */
+/* A button has its least spacing for a period, and no offset, which is 0 here. */
 struct task {
     int button;
     uint64_t offset, cost, deadline, period;
 };
 
 struct report {
-    uint64_t length;                       /* as the check returned it, or its refusal: then the text is empty */
+    uint64_t length;                       /* as the check returned it; if that is a refusal, the text is empty */
     char text[YOLIZADWA_REPORT_BYTES + 1]; /* ended by a zero byte, which the library does not write */
 };
 
 /* Files: each says what went wrong on standard error and then tells TROUBLE. */
 void keep_standard_files_apart(void);
-int trouble(const char *format, ...);
+int trouble(const char *format, ...) __attribute__((format(printf, 1, 2)));
 const char *shown_name(const char *name);
 int read_input(const char *name, struct input *input);
 int write_output(const char *name, const uint8_t *bytes, size_t len);
@@ -91,16 +91,17 @@ void check_table(const struct table *table, int plainly, struct report *report);
 uint64_t report_number(const struct report *report, const char *words);
 int report_passes(const struct report *report);
 int report_verdict(const struct report *report, const char *verdict);
+uint64_t report_quick(const struct report *report);
 uint64_t horizon_of(const struct table *table);
 unsigned long usual_slots(const struct table *table, unsigned long most);
 
-/* Of a late verdict the interval that asks for more slots than it has; tells whether there is one. */
+/* The interval of a late verdict asks for more slots than it has; report_excess tells whether there is one. */
 struct excess {
     uint64_t start, end, demand;
 };
 int report_excess(const struct report *report, struct excess *excess);
 
-/* What a verdict means, and the status that goes with it. More is empty, or what an undecided one will be. */
+/* What a verdict means, and its status. More is empty, or foretells an undecided verdict. */
 struct sentence {
     char text[256], more[64];
 };
@@ -108,7 +109,7 @@ void word_verdict(const struct table *table, const struct report *report, struct
 void foretell(struct sentence *sentence, const char *answer);
 int verdict_status(const struct report *report);
 
-/* A row of jobs, under a heading whose last column is what the caller makes it; times need so many columns. */
+/* A row of a list of jobs. The caller names the last column; times are that many columns wide. */
 struct job {
     unsigned task;
     uint64_t number, release, due, amount;
@@ -117,17 +118,17 @@ int columns_for(uint64_t largest);
 void print_jobs_heading(const char *amount, int columns);
 void print_job(const struct job *job, int columns);
 
-/* The jobs of a late interval; nothing of another verdict. Hint is said behind how many are not listed. */
+/* Lists the jobs of a late interval, and nothing for another verdict. The hint follows the number of jobs not listed. */
 void list_excess(const struct table *table, const struct report *report, int all, const char *hint);
 
-/* Answers, which may take long, and what they mean: the answer itself, an empty line, and the meaning. */
+/* Asking may take long. The words are the answer itself, an empty line, and what it means. */
 const char *quick_words(uint64_t answer);
 uint64_t ask_distance(const struct table *table);
-const char *distance_words(const struct table *table, uint64_t answer); /* of none, without buttons, the caller adds who tells */
+const char *distance_words(const struct table *table, uint64_t answer); /* the caller adds to none, without buttons, who tells */
 int distance_status(uint64_t answer);
 uint64_t ask_largest(const struct table *table, uint32_t first, unsigned rows, uint64_t *told);
 
-/* A run, slot by slot: so many slots taken, and the states before and after the last of them. */
+/* A run, slot by slot: how many slots were taken, and the states before and after the last of them. */
 struct course {
     const struct table *table;
     unsigned tasks;
@@ -154,11 +155,8 @@ int judge_log(const struct request *request);
 int draw(const struct request *request);
 int page(const struct request *request);
 
-/* Around what may take long: so many checks by the table's budget, and so many walks to an idle instant. The quick test is not foretold. */
+/* Call these around what may take long: that many checks by the table's budget, and walks to an idle instant. */
 void begin_progress(const struct table *table, unsigned checks, unsigned walks, int plainly);
 void end_progress(void);
-
-/* Pages: NULL names the page of the command itself. 0 if there is no such page. */
-int print_page(FILE *to, const char *word);
 
 #endif

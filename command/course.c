@@ -14,7 +14,7 @@ void begin_course(struct course *course, const struct table *table, int early)
     yolizadwa_start(table->file, table->len, (uint8_t *)&course->state, sizeof course->state);
 }
 
-/* With --early a job says done after half its cost. */
+/* With --early a job says done after half its cost, rounded up. */
 static uint32_t says_done(const struct course *course, uint64_t owner)
 {
     if (!course->early || owner >= course->tasks) {
@@ -34,7 +34,7 @@ uint64_t take_slot(struct course *course)
     return owner;
 }
 
-/* Before the next step, once it has heard of the slot before, no job is open: each is finished, or was closed late before. */
+/* No job is open before the next step, counting the done report that it will be told. */
 int is_idle(const struct course *course)
 {
     unsigned open = 0;

@@ -15,7 +15,7 @@ static const char *pass_words(int buttons)
                    : "distance pass\n\npass: every job is in time";
 }
 
-/* Buttons alone may come all at once, so of these it is known what becomes of them. */
+/* Buttons alone may all come at once, so for these alone none means late. */
 static const char *none_words(int buttons, int tasks)
 {
     if (!buttons) {
@@ -40,12 +40,20 @@ uint64_t ask_distance(const struct table *table)
 const char *distance_words(const struct table *table, uint64_t answer)
 {
     unsigned buttons = button_count(table), tasks = task_count(table) - buttons;
-    return answer == 2 ? overload_words(buttons > 0) : answer == 1 ? pass_words(buttons > 0) : none_words(buttons > 0, tasks > 0);
+    switch (answer) {
+    case YOLIZADWA_DISTANCE_OVERLOAD: return overload_words(buttons > 0);
+    case YOLIZADWA_DISTANCE_PASS: return pass_words(buttons > 0);
+    default: return none_words(buttons > 0, tasks > 0);
+    }
 }
 
 int distance_status(uint64_t answer)
 {
-    return answer == 2 ? LATE : answer == 1 ? DONE : UNDECIDED;
+    switch (answer) {
+    case YOLIZADWA_DISTANCE_OVERLOAD: return LATE;
+    case YOLIZADWA_DISTANCE_PASS: return DONE;
+    default: return UNDECIDED;
+    }
 }
 
 int distance(const struct request *request)
@@ -56,6 +64,7 @@ int distance(const struct request *request)
         return status;
     }
     uint64_t answer = ask_distance(&table);
-    printf("%s%s\n", distance_words(&table, answer), answer == 0 && button_count(&table) == 0 ? ": judge tells" : "");
+    int judge_tells = answer == YOLIZADWA_DISTANCE_NONE && button_count(&table) == 0;
+    printf("%s%s\n", distance_words(&table, answer), judge_tells ? ": judge tells" : "");
     return distance_status(answer);
 }

@@ -6,13 +6,13 @@
 /* The numbers of a task in the order in which they are looked at; ALIKE: none stands in the way. */
 enum { PERIOD, OFFSET, COST, DEADLINE, ALIKE };
 
-/* What has become of a number, behind so many others. */
+/* Tells how many changes have been said, with those before. */
 static int say_change(const char *name, uint64_t was, uint64_t is, int others)
 {
     if (was == is) {
         return others;
     }
-    printf("%s %s %llu -> %llu", others > 0 ? "," : "", name, (unsigned long long)was, (unsigned long long)is);
+    printf("%s %s %" PRIu64 " -> %" PRIu64, others > 0 ? "," : "", name, was, is);
     return others + 1;
 }
 
@@ -24,7 +24,7 @@ static void say_kept(unsigned now, const struct task *is, unsigned then, const s
     puts(changes == 0 ? " unchanged" : "");
 }
 
-/* How many costs of an easing are lower, if it changed nothing else. */
+/* Tells how many costs are lower, or 0 if something else changed too. */
 static unsigned lowered_alone(const struct table *before, const struct table *after)
 {
     unsigned lower = 0;
@@ -59,7 +59,7 @@ static int say_eased(const struct table *before, const struct table *after, uint
     return DONE;
 }
 
-/* What the tasks before this one were found to be: the library tells that of a table of these alone. */
+/* Tells which old tasks the new tasks before this one were: the library says that of a table of these alone. */
 static uint64_t kept_before(const struct table *before, const struct table *after, unsigned task)
 {
     struct table first = *after;
@@ -84,68 +84,69 @@ static int in_the_way(const struct task *was, const struct task *is)
     return was->deadline > is->deadline ? DEADLINE : ALIKE;
 }
 
-/* Of the old tasks from one up to another that are not taken the one that comes nearest, the first of several; or the second. */
-static unsigned nearest(const struct table *before, unsigned from, unsigned to, uint64_t taken, const struct task *is)
+/* An old task that the new one may be, and what stands in the way; way -1: there is none. */
+struct candidate {
+    unsigned number;
+    struct task was;
+    int way;
+};
+
+/* Of the old tasks that are not taken yet finds the one in which the most numbers fit, the first of several. */
+static struct candidate nearest(const struct table *before, unsigned from, unsigned to, uint64_t taken, const struct task *is)
 {
-    unsigned found = to;
-    int last = -1;
-    for (unsigned task = from; task < to; task++) {
-        struct task was = task_at(before, task);
-        if (!(taken >> task & 1) && in_the_way(&was, is) > last) {
-            last = in_the_way(&was, is);
-            found = task;
+    struct candidate found = {.way = -1};
+    for (unsigned number = from; number < to; number++) {
+        struct task was = task_at(before, number);
+        int way = in_the_way(&was, is);
+        if (!(taken >> number & 1) && way > found.way) {
+            found = (struct candidate){number, was, way};
         }
     }
     return found;
 }
 
-static void say_number(unsigned number, const struct task *was, const struct task *is)
+static void say_number(const struct candidate *old, const struct task *is)
 {
     static const char *const names[] = {"period", "offset", "cost", "deadline"};
     static const char *const rules[] = {"a period has to stay", "an offset has to stay", "a cost may only be lowered",
                                         "a deadline may only be lengthened"};
-    const uint64_t then[] = {was->period, was->offset, was->cost, was->deadline};
+    const uint64_t then[] = {old->was.period, old->was.offset, old->was.cost, old->was.deadline};
     const uint64_t now[] = {is->period, is->offset, is->cost, is->deadline};
-    int which = in_the_way(was, is);
-    printf("the nearest is old task %u: %s %llu -> %llu, but %s\n", number, names[which], (unsigned long long)then[which],
-           (unsigned long long)now[which], rules[which]);
+    printf("the nearest is old task %u: %s %" PRIu64 " -> %" PRIu64 ", but %s\n", old->number, names[old->way], then[old->way],
+           now[old->way], rules[old->way]);
 }
 
-/* The nearest old task stands before the one that the new task before this one was. */
-static void say_too_early(unsigned number, const struct task *was, const struct task *is, unsigned task, unsigned last)
+/* The nearest old task comes too early: a new task before this one was a later old task. */
+static void say_too_early(const struct candidate *old, const struct task *is, unsigned task, unsigned last)
 {
-    if (in_the_way(was, is) == ALIKE) {
-        printf("it could be old task %u, but task %u was old task %u, and tasks have to keep their order\n", number, task - 1, last);
+    if (old->way == ALIKE) {
+        printf("it could be old task %u, but task %u was old task %u, and tasks have to keep their order\n", old->number, task - 1, last);
     } else {
-        say_number(number, was, is);
+        say_number(old, is);
         printf("and task %u was old task %u already: tasks have to keep their order\n", task - 1, last);
     }
 }
 
+static unsigned after_last(uint64_t set)
+{
+    unsigned after = 0;
+    while (set >> after != 0) {
+        after++;
+    }
+    return after;
+}
+
 static int say_not_eased(const struct table *before, const struct table *after, unsigned task)
 {
-    struct task is = task_at(after, task), was;
+    struct task is = task_at(after, task);
     uint64_t kept = kept_before(before, after, task);
-    unsigned from = 0, count = task_count(before);
-    while (kept >> from != 0) {
-        from++;
-    }
-    unsigned earlier = nearest(before, 0, from, kept, &is), later = nearest(before, from, count, kept, &is);
-    int way = -1;
+    unsigned from = after_last(kept);
+    struct candidate earlier = nearest(before, 0, from, kept, &is), later = nearest(before, from, task_count(before), kept, &is);
     printf("eased no\n\nno: task %u is no old task made easier, so the new table needs a test: judge tells\n", task);
-    if (later < count) {
-        was = task_at(before, later);
-        way = in_the_way(&was, &is);
-    }
-    if (earlier < from) {
-        struct task early = task_at(before, earlier);
-        if (in_the_way(&early, &is) > way) {
-            say_too_early(earlier, &early, &is, task, from - 1);
-            return UNDECIDED;
-        }
-    }
-    if (later < count) {
-        say_number(later, &was, &is);
+    if (earlier.way > later.way) {
+        say_too_early(&earlier, &is, task, from - 1);
+    } else if (later.way >= 0) {
+        say_number(&later, &is);
     } else {
         printf("no task of the old table is left for it\n");
     }

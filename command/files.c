@@ -88,7 +88,7 @@ static int is_terminal(const char *name)
     return trouble("%s is a terminal, and what is written is no text; name a file instead", name);
 }
 
-/* That it cannot be written is said at the end of the command. */
+/* main says at the end whether standard output could be written. */
 static int write_standard(const uint8_t *bytes, size_t len)
 {
     if (isatty(STDOUT_FILENO)) {
@@ -98,7 +98,7 @@ static int write_standard(const uint8_t *bytes, size_t len)
     return DONE;
 }
 
-/* Whether something stands there that does not begin so, and is of worth. A pipe without a writer must not keep us waiting. */
+/* Tells whether a file is there that begins otherwise. A pipe without a writer must not make us wait. */
 static int begins_otherwise(const char *name, uint8_t low, uint8_t high)
 {
     uint8_t first;
@@ -110,11 +110,21 @@ static int begins_otherwise(const char *name, uint8_t low, uint8_t high)
     return found;
 }
 
+/* A signal that comes before the first byte is written is no failure. */
+static ssize_t write_some(int number, const uint8_t *bytes, size_t len)
+{
+    ssize_t wrote;
+    do {
+        wrote = write(number, bytes, len);
+    } while (wrote < 0 && errno == EINTR);
+    return wrote;
+}
+
 /* Tells whether all of it could be written. A long log may go out in several parts. */
 static int write_all(int number, const uint8_t *bytes, size_t len)
 {
     while (len > 0) {
-        ssize_t wrote = write(number, bytes, len);
+        ssize_t wrote = write_some(number, bytes, len);
         if (wrote <= 0) {
             return 0;
         }
@@ -124,7 +134,7 @@ static int write_all(int number, const uint8_t *bytes, size_t len)
     return 1;
 }
 
-/* In place, so that links, modes and devices stay what they are. */
+/* Writes in place, so that links, modes and devices stay what they are. */
 static int write_over(int number, const char *name, const uint8_t *bytes, size_t len)
 {
     if (isatty(number)) {
@@ -140,7 +150,7 @@ static int write_over(int number, const char *name, const uint8_t *bytes, size_t
     return DONE;
 }
 
-/* What is made here and cannot be written is taken away again. */
+/* Takes a new file away again if it cannot be written. */
 static int write_new(int number, const char *name, const uint8_t *bytes, size_t len)
 {
     int status = write_over(number, name, bytes, len);

@@ -12,11 +12,11 @@ static void print_heading(void)
 static void print_row(const struct table *table, unsigned number, uint64_t largest)
 {
     struct task task = task_at(table, number);
-    printf("  %4u  %5llu  %7llu  %5llu  %8llu\n", number, (unsigned long long)task.cost, (unsigned long long)largest,
-           (unsigned long long)(largest - task.cost), (unsigned long long)task.deadline);
+    printf("  %4u  %5" PRIu64 "  %7" PRIu64 "  %5" PRIu64 "  %8" PRIu64 "\n", number, task.cost, largest, largest - task.cost,
+           task.deadline);
 }
 
-/* One call a task. An answer that is no cost is the same for every task of the table, so the first such one is enough. */
+/* An answer that is no cost is the same for every task of the table, so the first one is enough. */
 uint64_t ask_largest(const struct table *table, uint32_t first, unsigned rows, uint64_t *told)
 {
     uint64_t answer = 0;
@@ -32,9 +32,9 @@ uint64_t ask_largest(const struct table *table, uint32_t first, unsigned rows, u
 static int say_none(const struct table *table, uint64_t answer)
 {
     if (answer == YOLIZADWA_LARGEST_UNDECIDED) {
-        printf("largest undecided\n\nundecided: the budget, %llu, ended before it was known whether the table passes; the horizon, %llu, is\n"
+        printf("largest undecided\n\nundecided: the budget, %" PRIu64 ", ended before it was known whether the table passes; the horizon, %" PRIu64 ", is\n"
                "always enough\n",
-               (unsigned long long)budget_of(table), (unsigned long long)horizon_of(table));
+               budget_of(table), horizon_of(table));
         return UNDECIDED;
     }
     if (answer == YOLIZADWA_LARGEST_OVERLOAD) {

@@ -14,7 +14,7 @@ struct judging {
     uint8_t byte;
 };
 
-/* Whether more input would not change what is found. */
+/* Good may still become a fault; any other answer stays. */
 static int is_final(uint64_t result)
 {
     return yolizadwa_log_answered(result) && yolizadwa_log_number(result) != YOLIZADWA_LOG_GOOD;
@@ -30,7 +30,7 @@ static void feed(struct judging *judging, const uint8_t *piece, size_t len)
     }
 }
 
-/* In pieces, so that a log of any length needs no more memory than one of them. */
+/* Pieces let a log of any length need no more memory than one of them. */
 static int feed_all(FILE *in, const char *name, struct judging *judging)
 {
     static uint8_t piece[PIECE_BYTES];
@@ -63,23 +63,22 @@ static const char *ending(uint64_t count)
 
 static int say_good(const struct yolizadwa_log *log)
 {
-    printf("log good\n\ngood: every slot went as the table has it, %llu slot%s in %llu byte%s; if the table passes, as judge tells,\n"
-           "every job whose worst response ends by instant %llu was in time\n",
-           (unsigned long long)log->slots, ending(log->slots), (unsigned long long)log->bytes, ending(log->bytes),
-           (unsigned long long)log->slots);
+    printf("log good\n\ngood: every slot went as the table has it, %" PRIu64 " slot%s in %" PRIu64 " byte%s; if the table passes, as judge tells,\n"
+           "every job whose worst response ends by instant %" PRIu64 " was in time\n",
+           log->slots, ending(log->slots), log->bytes, ending(log->bytes), log->slots);
     return DONE;
 }
 
 static void say_owner(uint64_t owner, unsigned tasks)
 {
     if (owner < tasks) {
-        printf("task %llu", (unsigned long long)owner);
+        printf("task %" PRIu64, owner);
     } else {
         printf("no task");
     }
 }
 
-/* What the camera did stands in the log, and what the table wanted a step of the dispatcher tells. */
+/* The log says what the camera did, and a step of the dispatcher what the table wanted. */
 static int say_difference(struct judging *judging)
 {
     struct yolizadwa_log *log = &judging->log;

@@ -1,7 +1,7 @@
 /* The word page: all that the library says of a table, on one page of HTML to hand over. */
 #include <string.h>
 
-#include "picture.h"
+#include "drawing/picture.h"
 
 enum { BAR = 160, BYTES_OF_A_ROW = 32, LONG_REPORT = 12 };
 
@@ -31,19 +31,19 @@ static const char head[] =
 
 static void put_number(uint64_t number)
 {
-    printf("<td>%llu</td>", (unsigned long long)number);
+    printf("<td>%" PRIu64 "</td>", number);
 }
 
 /* The whole width is the deadline. */
 static void put_bar(uint64_t worst, uint64_t deadline)
 {
-    printf("<td><svg xmlns=\"http://www.w3.org/2000/svg\" width=\"%d\" height=\"14\" viewBox=\"0 0 %d 14\"><title>%llu of %llu</title>"
+    printf("<td><svg xmlns=\"http://www.w3.org/2000/svg\" width=\"%d\" height=\"14\" viewBox=\"0 0 %d 14\"><title>%" PRIu64 " of %" PRIu64 "</title>"
            "<rect x=\".5\" y=\".5\" width=\"%d\" height=\"13\" fill=\"#fff\" stroke=\"#000\"/>"
            "<rect x=\"1\" y=\"3\" width=\"%u\" height=\"8\" fill=\"#1c3f5e\"/></svg></td>",
-           BAR, BAR, (unsigned long long)worst, (unsigned long long)deadline, BAR - 1, (unsigned)((BAR - 2) * worst / deadline));
+           BAR, BAR, worst, deadline, BAR - 1, (unsigned)((BAR - 2) * worst / deadline));
 }
 
-/* What is known of a table that passes: the worst response, which is told with it, and how far the cost may grow. */
+/* Only a table that passes has a worst response and room for a larger cost. */
 static void put_room(const struct report *report, unsigned number, const struct task *task, uint64_t largest)
 {
     char words[24];
@@ -72,7 +72,7 @@ static void put_task(const struct table *table, const struct report *report, uns
     printf("</tr>\n");
 }
 
-/* Largest is NULL where no worst response and no largest cost is known. */
+/* Largest is NULL if the table does not pass. */
 static void put_table(const struct table *table, const struct report *report, const uint64_t *largest)
 {
     printf("<section><h2>The table</h2>\n<div class=\"wide\"><table>\n<thead><tr><th>task</th><th>offset</th><th>cost</th>"
@@ -82,7 +82,7 @@ static void put_table(const struct table *table, const struct report *report, co
     for (unsigned number = 0; number < task_count(table); number++) {
         put_task(table, report, number, largest);
     }
-    printf("</tbody></table></div>\n<p>All numbers are slots. The budget is %llu.", (unsigned long long)budget_of(table));
+    printf("</tbody></table></div>\n<p>All numbers are slots. The budget is %" PRIu64 ".", budget_of(table));
     if (largest != NULL) {
         printf(" No job of a task ends later than its worst response after its release. A task may take so many slots more, all\n"
                "others as they are; raise one cost, and ask again before the next.");
@@ -90,7 +90,7 @@ static void put_table(const struct table *table, const struct report *report, co
     printf("</p></section>\n");
 }
 
-/* What an answer means stands behind an empty line. */
+/* An empty line parts an answer from what it means. */
 static const char *meaning_of(const char *words)
 {
     return strchr(words, '\n') + 2;
@@ -114,8 +114,8 @@ static void put_short(const struct table *table, const struct report *report, ui
 {
     int told = !report_verdict(report, "undecided");
     printf("<section><h2>In short</h2>\n");
-    put_words(quick_words(strstr(report->text, "\nquick pass\n") != NULL), "");
-    put_words(distance_words(table, distance), distance > 0 ? "" : told ? ": the verdict tells" : ": judge tells");
+    put_words(quick_words(report_quick(report)), "");
+    put_words(distance_words(table, distance), distance != YOLIZADWA_DISTANCE_NONE ? "" : told ? ": the verdict tells" : ": judge tells");
     printf("</section>\n");
 }
 
@@ -186,7 +186,7 @@ static void put_report(const struct table *table, const struct report *report)
     }
 }
 
-/* No dispatcher gives slots to buttons and no report is made of them: the distance test is what there is. */
+/* The distance test is all there is for buttons: no dispatcher gives them slots, and no report is made. */
 static int page_with_buttons(const char *name, const struct table *table)
 {
     uint64_t answer = ask_distance(table);
@@ -202,11 +202,11 @@ static int page_with_buttons(const char *name, const struct table *table)
     return distance_status(answer);
 }
 
-/* The distance answer, and what is to come of an undecided verdict by it, if the quick answer does not say that already. */
+/* A distance pass foretells an undecided verdict, unless the quick answer has done so already. */
 static uint64_t take_distance(const struct table *table, int status, struct sentence *verdict)
 {
     uint64_t answer = ask_distance(table);
-    if (status == UNDECIDED && answer == 1 && verdict->more[0] == '\0') {
+    if (status == UNDECIDED && answer == YOLIZADWA_DISTANCE_PASS && verdict->more[0] == '\0') {
         foretell(verdict, "distance pass");
     }
     return answer;

@@ -1,13 +1,14 @@
 /* A call that takes long says on a terminal how long it has taken and about how long it may take. */
 #define _POSIX_C_SOURCE 200809L
 
+#include <errno.h>
 #include <signal.h>
 #include <time.h>
 #include <unistd.h>
 
 #include "command.h"
 
-/* Few enough that they take no time to speak of, under the emulator too. */
+/* The probe takes no time to speak of, under the emulator too. */
 enum { PROBE_SLOTS = 200000, DIGITS = 20 };
 
 static const char begins[] = "\rjudging: ";
@@ -15,7 +16,7 @@ static volatile sig_atomic_t seconds, over = 1;
 static char outlook[64];
 static size_t outlook_length;
 
-/* From the last digit backwards; tells where the number begins. */
+/* Writes from the last digit backwards; tells where the number begins. */
 static char *digits_before(char *end, unsigned long number)
 {
     do {
@@ -25,22 +26,27 @@ static char *digits_before(char *end, unsigned long number)
     return end;
 }
 
-/* In a signal handler only write may be called: printf may not. */
+static int tell_seconds(void)
+{
+    char room[DIGITS], *number = digits_before(room + DIGITS, (unsigned long)seconds);
+    return write(STDERR_FILENO, begins, sizeof begins - 1) >= 0 &&
+           write(STDERR_FILENO, number, (size_t)(room + DIGITS - number)) >= 0 &&
+           write(STDERR_FILENO, outlook, outlook_length) >= 0;
+}
+
+/* A signal handler may call write but not printf, and must leave errno to what it interrupts. */
 static void tell(int which)
 {
-    char room[DIGITS], *number;
+    int kept = errno;
+    (void)which;
     if (over) {
         return;
     }
     seconds++;
-    number = digits_before(room + DIGITS, (unsigned long)seconds);
-    if (write(STDERR_FILENO, begins, sizeof begins - 1) < 0 ||
-        write(STDERR_FILENO, number, (size_t)(room + DIGITS - number)) < 0 ||
-        write(STDERR_FILENO, outlook, outlook_length) < 0) {
-        return;
+    if (tell_seconds()) {
+        alarm(1);
     }
-    signal(which, tell);
-    alarm(1);
+    errno = kept;
 }
 
 static double now(void)
@@ -52,10 +58,7 @@ static double now(void)
 
 static const double longest_round = 1e12;
 
-/*
- * A walk to an idle instant ends by then, whatever the offsets: what comes in at once, and what comes in while that is done, and
- * so on; or after a round.
- */
+/* A walk to an idle instant ends by then, whatever the offsets: all costs at once, and what comes in while those are worked off. */
 static double walk_slots(const struct table *table, double round)
 {
     double costs = 0, load = 0;
@@ -85,10 +88,7 @@ static double check_slots(const struct table *table, double horizon, double roun
     return budget < end ? budget : end;
 }
 
-/*
- * From a check of the first slots with costs of 1: what a slot took, times the slots that are looked at if no deadline is late
- * before, and those of the walks to an idle instant. Where even that check would take long, nothing is foretold.
- */
+/* Takes the time of a slot from a check of the first slots with costs of 1, and foretells nothing if even that would take long. */
 static void estimate(const struct table *table, unsigned checks, unsigned walks, int plainly)
 {
     struct table probe = *table;
@@ -113,14 +113,15 @@ static void estimate(const struct table *table, unsigned checks, unsigned walks,
     outlook_length = (size_t)snprintf(outlook, sizeof outlook, " s; it may take about %.0f s", expected < 1 ? 1 : expected);
 }
 
-/* The outlook is made before the handler may read it. */
+/* The outlook must be made before the handler reads it. */
 void begin_progress(const struct table *table, unsigned checks, unsigned walks, int plainly)
 {
+    struct sigaction telling = {.sa_handler = tell, .sa_flags = SA_RESTART};
     if (isatty(STDERR_FILENO)) {
         estimate(table, checks, walks, plainly);
         seconds = 0;
         over = 0;
-        signal(SIGALRM, tell);
+        sigaction(SIGALRM, &telling, NULL);
         alarm(1);
     }
 }

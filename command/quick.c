@@ -3,9 +3,11 @@
 
 const char *quick_words(uint64_t answer)
 {
-    return answer == 1 ? "quick pass\n\npass: every job is in time, with these offsets and with any others\n"
-                       : "quick none\n\nno answer: with all offsets 0 a job is late, or more slots are asked for than there are; judge looks "
-                         "at the\noffsets too\n";
+    if (answer == YOLIZADWA_QUICK_PASS) {
+        return "quick pass\n\npass: every job is in time, with these offsets and with any others\n";
+    }
+    return "quick none\n\nno answer: with all offsets 0 a job is late, or more slots are asked for than there are; judge looks at the\n"
+           "offsets too\n";
 }
 
 int quick(const struct request *request)
@@ -19,5 +21,5 @@ int quick(const struct request *request)
     uint64_t answer = yolizadwa_quick(table.file, table.len);
     end_progress();
     fputs(quick_words(answer), stdout);
-    return answer == 1 ? DONE : UNDECIDED;
+    return answer == YOLIZADWA_QUICK_PASS ? DONE : UNDECIDED;
 }

@@ -5,7 +5,7 @@
 
 enum { CHARACTERS_SHOWN = 100, LAST_LINE_TOLD = 65535 };
 
-/* What a number says; the place, or for a text's own faults the line, stands between the two parts. */
+/* What a number means. The place, or the line for a text's own faults, stands between the two parts. */
 struct meaning {
     uint32_t number;
     const char *before, *after;
@@ -18,21 +18,21 @@ static const struct meaning meanings[] = {
     {YOLIZADWA_BAD_COST, "the cost of task ", " is not between 1 and its deadline"},
     {YOLIZADWA_BAD_OFFSET, "the offset of task ", " is above 60,000"},
     {YOLIZADWA_LONG_ROUND, "the least common multiple of the periods and spacings is above 1,000,000,000,000", NULL},
-    {YOLIZADWA_CUT_SHORT, "the file ends inside the record that begins at byte ", ""},
-    {YOLIZADWA_UNKNOWN_KIND, "the record that begins at byte ", " is of no known kind"},
-    {YOLIZADWA_NO_BUDGET_FIRST, "the file does not begin with a budget", NULL},
-    {YOLIZADWA_SECOND_BUDGET, "a second budget begins at byte ", ""},
-    {YOLIZADWA_BYTES_AFTER_END, "the file goes on at byte ", ", after its end"},
-    {YOLIZADWA_EXTRA_TASK, "a thirty-third task or button begins at byte ", ""},
-    {YOLIZADWA_NO_END, "the file stops at byte ", " without an end"},
-    {YOLIZADWA_ZERO_BUDGET, "a budget of 0 tests nothing; the least is 1", NULL},
-    {YOLIZADWA_UNKNOWN_WORD, "line ", " begins with a word that is none of budget, task and button"},
-    {YOLIZADWA_NO_NUMBER, "line ", " has a word that is no decimal number"},
-    {YOLIZADWA_LARGE_NUMBER, "line ", " has a number that is too large to be read"},
-    {YOLIZADWA_NUMBERS_DUE, "line ", " has too few numbers or too many: budget slots, task offset cost deadline period, button cost deadline spacing"},
-    {YOLIZADWA_NO_BUDGET, "up to line ", " there is no budget, which comes first, as in: budget 1000"},
-    {YOLIZADWA_BUDGET_AGAIN, "line ", " is a second budget"},
-    {YOLIZADWA_TASK_TOO_MANY, "line ", " is a thirty-third task or button, and 32 is the most"},
+    {YOLIZADWA_FILE_CUT_SHORT, "the file ends inside the record that begins at byte ", ""},
+    {YOLIZADWA_FILE_UNKNOWN_KIND, "the record that begins at byte ", " is of no known kind"},
+    {YOLIZADWA_FILE_NO_BUDGET, "the file does not begin with a budget", NULL},
+    {YOLIZADWA_FILE_SECOND_BUDGET, "a second budget begins at byte ", ""},
+    {YOLIZADWA_FILE_AFTER_END, "the file goes on at byte ", ", after its end"},
+    {YOLIZADWA_FILE_TOO_MANY_TASKS, "a thirty-third task or button begins at byte ", ""},
+    {YOLIZADWA_FILE_NO_END, "the file stops at byte ", " without an end"},
+    {YOLIZADWA_FILE_ZERO_BUDGET, "a budget of 0 tests nothing; the least is 1", NULL},
+    {YOLIZADWA_TEXT_UNKNOWN_WORD, "line ", " begins with a word that is none of budget, task and button"},
+    {YOLIZADWA_TEXT_NOT_A_NUMBER, "line ", " has a word that is no decimal number"},
+    {YOLIZADWA_TEXT_LARGE_NUMBER, "line ", " has a number that is too large to be read"},
+    {YOLIZADWA_TEXT_WRONG_COUNT, "line ", " has too few numbers or too many: budget slots, task offset cost deadline period, button cost deadline spacing"},
+    {YOLIZADWA_TEXT_NO_BUDGET, "up to line ", " there is no budget, which comes first, as in: budget 1000"},
+    {YOLIZADWA_TEXT_SECOND_BUDGET, "line ", " is a second budget"},
+    {YOLIZADWA_TEXT_TOO_MANY_TASKS, "line ", " is a thirty-third task or button, and 32 is the most"},
 };
 
 static const struct meaning *meaning_of(uint32_t number)
@@ -46,7 +46,7 @@ static const struct meaning *meaning_of(uint32_t number)
     return &none;
 }
 
-/* Without its line feed, behind which the next line begins, be it empty. */
+/* The line feed is no part of the line. */
 static size_t line_end(const struct input *text, size_t at)
 {
     const uint8_t *feed = memchr(text->bytes + at, '\n', text->len - at);
@@ -62,10 +62,7 @@ static int same_up_to(const struct input *text, size_t end, uint64_t result)
     return (yolizadwa_refused(read) ? read : yolizadwa_start(file, (size_t)read, (uint8_t *)&state, sizeof state)) == result;
 }
 
-/*
- * Where the line begins that the refusal is about. The lines up to it are refused in the same way and fewer are not, so the
- * library itself finds it, by halves.
- */
+/* Tells where the refused line begins: the lines up to it are refused alike and fewer are not, so the library finds it by halving. */
 static size_t refused_line(const struct input *text, uint64_t result)
 {
     size_t low = 0, high = text->len;
@@ -117,18 +114,18 @@ static void say(FILE *to, uint64_t result, unsigned long meant)
     }
 }
 
-/* A fault of one task or of one line; the others are of the whole table. So far down every line is refused for want of a budget. */
+/* Some faults have no line: those of the whole table, and a missing budget so far down that the place ends before its line. */
 static int has_a_line(uint64_t result)
 {
     uint32_t number = yolizadwa_number(result);
-    if (number == YOLIZADWA_NO_BUDGET && yolizadwa_place(result) == LAST_LINE_TOLD) {
+    if (number == YOLIZADWA_TEXT_NO_BUDGET && yolizadwa_place(result) == LAST_LINE_TOLD) {
         return 0;
     }
-    return (number >= YOLIZADWA_BAD_PERIOD && number <= YOLIZADWA_BAD_OFFSET) || number == YOLIZADWA_ZERO_BUDGET ||
-           number >= YOLIZADWA_UNKNOWN_WORD;
+    return (number >= YOLIZADWA_BAD_PERIOD && number <= YOLIZADWA_BAD_OFFSET) || number == YOLIZADWA_FILE_ZERO_BUDGET ||
+           number >= YOLIZADWA_TEXT_UNKNOWN_WORD;
 }
 
-/* Some editors put one in front: a text of theirs cannot be read, and nothing is to be seen. */
+/* Some editors put a byte order mark in front, which nobody sees and the library does not read. */
 static void hint_at_mark(FILE *to, const struct input *text)
 {
     if (text->len > 0 && (text->bytes[0] == 0xEF || text->bytes[0] >= 0xFE)) {
@@ -145,7 +142,7 @@ int say_refusal(FILE *to, const struct input *input, uint64_t result)
     }
     size_t begin = refused_line(input, result);
     unsigned long line = line_number(input, begin);
-    say(to, result, number >= YOLIZADWA_UNKNOWN_WORD ? line : yolizadwa_place(result));
+    say(to, result, number >= YOLIZADWA_TEXT_UNKNOWN_WORD ? line : yolizadwa_place(result));
     if (begin < input->len) {
         show_line(to, input, begin, line);
     }
@@ -153,7 +150,7 @@ int say_refusal(FILE *to, const struct input *input, uint64_t result)
     return REFUSED;
 }
 
-/* What is asked for is for tables without buttons; the line of the first one, and which test is for it. */
+/* Shows the line of the first button, and which test takes it. */
 int say_button(FILE *to, const struct input *input, const char *what, uint64_t result)
 {
     unsigned number = (unsigned)yolizadwa_place(result);
@@ -167,7 +164,7 @@ int say_button(FILE *to, const struct input *input, const char *what, uint64_t r
     return REFUSED;
 }
 
-/* A fault of the question and of no line; the number as it was asked for, since a place ends at 65,535. */
+/* Says the number as it was asked for, since a place ends at 65,535. No line of the table is wrong. */
 int say_no_task(FILE *to, const struct table *table, uint32_t task, uint64_t result)
 {
     unsigned tasks = task_count(table);

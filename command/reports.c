@@ -12,7 +12,7 @@ void check_table(const struct table *table, int plainly, struct report *report)
     report->text[yolizadwa_refused(report->length) ? 0 : report->length] = '\0';
 }
 
-/* The number that comes after these words in the report; 0 if they do not stand there. */
+/* Tells the number after these words in the report, or 0 if they do not stand there. */
 uint64_t report_number(const struct report *report, const char *words)
 {
     const char *found = strstr(report->text, words);
@@ -24,7 +24,7 @@ int report_passes(const struct report *report)
     return !yolizadwa_refused(report->length) && yolizadwa_passes((const uint8_t *)report->text, (size_t)report->length) == 1;
 }
 
-/* Of the other verdicts, which decide no more than the words and the status. */
+/* The library has a call for passes alone; the other verdicts decide no more than words and status. */
 int report_verdict(const struct report *report, const char *verdict)
 {
     static const char words[] = "\nverdict ";
@@ -33,15 +33,17 @@ int report_verdict(const struct report *report, const char *verdict)
     return found != NULL && strncmp(found + sizeof words - 1, verdict, length) == 0 && found[sizeof words - 1 + length] == '\n';
 }
 
+uint64_t report_quick(const struct report *report)
+{
+    return strstr(report->text, "\nquick pass\n") != NULL ? YOLIZADWA_QUICK_PASS : YOLIZADWA_QUICK_NONE;
+}
+
 int report_excess(const struct report *report, struct excess *excess)
 {
-    unsigned long long start = 0, end = 0, demand = 0;
     const char *line = strstr(report->text, "\ninterval ");
-    int told = line != NULL && sscanf(line, "\ninterval %llu %llu demand %llu", &start, &end, &demand) == 3;
-    excess->start = start;
-    excess->end = end;
-    excess->demand = demand;
-    return told;
+    excess->start = excess->end = excess->demand = 0;
+    return line != NULL &&
+           sscanf(line, "\ninterval %" SCNu64 " %" SCNu64 " demand %" SCNu64, &excess->start, &excess->end, &excess->demand) == 3;
 }
 
 int verdict_status(const struct report *report)
@@ -54,19 +56,18 @@ static void word_late(const struct report *report, struct sentence *sentence)
     struct excess excess;
     if (report_excess(report, &excess)) {
         snprintf(sentence->text, sizeof sentence->text,
-                 "late: the jobs released at %llu or later and due by %llu ask for %llu slots and have %llu",
-                 (unsigned long long)excess.start, (unsigned long long)excess.end, (unsigned long long)excess.demand,
-                 (unsigned long long)(excess.end - excess.start));
+                 "late: the jobs released at %" PRIu64 " or later and due by %" PRIu64 " ask for %" PRIu64 " slots and have %" PRIu64,
+                 excess.start, excess.end, excess.demand, excess.end - excess.start);
     }
 }
 
 static void word_overload(const struct report *report, struct sentence *sentence)
 {
-    unsigned long long asked = 0, round = 0;
+    uint64_t asked = 0, round = 0;
     const char *line = strstr(report->text, "\nload ");
-    if (line != NULL && sscanf(line, "\nload %llu/%llu", &asked, &round) == 2) {
+    if (line != NULL && sscanf(line, "\nload %" SCNu64 "/%" SCNu64, &asked, &round) == 2) {
         snprintf(sentence->text, sizeof sentence->text,
-                 "overload: the jobs ask for %llu slots in every %llu, so some are late sooner or later", asked, round);
+                 "overload: the jobs ask for %" PRIu64 " slots in every %" PRIu64 ", so some are late sooner or later", asked, round);
     }
 }
 
@@ -78,14 +79,14 @@ void foretell(struct sentence *sentence, const char *answer)
 static void word_undecided(const struct table *table, const struct report *report, struct sentence *sentence)
 {
     snprintf(sentence->text, sizeof sentence->text,
-             "undecided: the budget, %llu, ended before the answer was known; the horizon, %llu, is always enough",
-             (unsigned long long)budget_of(table), (unsigned long long)report_number(report, "\nhorizon "));
-    if (strstr(report->text, "\nquick pass\n") != NULL) {
+             "undecided: the budget, %" PRIu64 ", ended before the answer was known; the horizon, %" PRIu64 ", is always enough",
+             budget_of(table), report_number(report, "\nhorizon "));
+    if (report_quick(report) == YOLIZADWA_QUICK_PASS) {
         foretell(sentence, "quick pass");
     }
 }
 
-/* It begins with the verdict. */
+/* Each sentence begins with the verdict. */
 void word_verdict(const struct table *table, const struct report *report, struct sentence *sentence)
 {
     sentence->text[0] = sentence->more[0] = '\0';
@@ -100,7 +101,7 @@ void word_verdict(const struct table *table, const struct report *report, struct
     }
 }
 
-/* The library tells it whatever the costs and the budget, so with those that need no walk. */
+/* The horizon depends on neither costs nor budget, so the check is of some that need no walk. */
 uint64_t horizon_of(const struct table *table)
 {
     struct table full = *table;
@@ -111,7 +112,7 @@ uint64_t horizon_of(const struct table *table)
     return report_number(&report, "\nhorizon ");
 }
 
-/* The horizon, within what is good to look at. */
+/* Longer or shorter runs than these are not good to look at. */
 unsigned long usual_slots(const struct table *table, unsigned long most)
 {
     uint64_t horizon = horizon_of(table);

@@ -1,4 +1,4 @@
-/* A FILE as a table: the library reads and writes it, and what it has not refused is looked up where the header says. */
+/* A FILE as a table: the library judges its form, and the numbers of one that it does not refuse stand where the header says. */
 #include <stdlib.h>
 #include <string.h>
 
@@ -11,7 +11,7 @@ int is_table_file(const struct input *input)
     return input->len > 0 && input->bytes[0] < FIRST_OF_A_TEXT;
 }
 
-/* Tells a refusal or fills the table. A good table file has a text, so that the library says whether it is good. */
+/* Tells a refusal or fills the table. Only a good table file has a text, so asking for the text judges the file. */
 uint64_t table_of(const struct input *input, struct table *table)
 {
     uint8_t text[YOLIZADWA_LONGEST_TEXT];
@@ -30,14 +30,14 @@ uint64_t table_of(const struct input *input, struct table *table)
     return result;
 }
 
-/* Whatever is for tables without buttons refuses one that has some in the same way, and a start takes no time. */
+/* Every call that takes no button refuses one alike; a start takes the least time of them. */
 static uint64_t started(const struct table *table)
 {
     struct yolizadwa_state state;
     return yolizadwa_start(table->file, table->len, (uint8_t *)&state, sizeof state);
 }
 
-/* With `what`, for that alone which is for tables without buttons. */
+/* What: the test that takes no buttons, by its name; NULL: buttons are taken. */
 static int open_for(const char *name, FILE *refusals, const char *what, struct table *table)
 {
     struct input input;
@@ -91,13 +91,13 @@ static int is_button(const uint8_t *record)
     return record[0] == YOLIZADWA_KIND_BUTTON;
 }
 
-/* Where the record behind that of a task or button begins. */
+/* Tells where the record after that of a task or button begins. */
 static size_t next_record(const struct table *table, size_t at)
 {
     return at + (is_button(table->file + at) ? BUTTON_BYTES : TASK_BYTES);
 }
 
-/* Where the record of a task or button begins; behind the last one the end's. */
+/* Tells where the record of a task or button begins; after the last one comes the end's. */
 static size_t record_at(const struct table *table, unsigned number)
 {
     size_t at = TASKS_AT;
@@ -107,14 +107,14 @@ static size_t record_at(const struct table *table, unsigned number)
     return at;
 }
 
-/* Where a number of a task stands: offset, which a button does not have, cost, deadline, period. */
+/* Tells where a number of a task stands: 0 offset, which a button does not have, 1 cost, 2 deadline, 3 period. */
 static uint8_t *number_of(struct table *table, unsigned task, unsigned which)
 {
     uint8_t *record = table->file + record_at(table, task);
     return record + 1 + WORD_BYTES * (which - (unsigned)is_button(record));
 }
 
-/* Costs of 1, so that as a rule a quick test soon ends. */
+/* Costs of 1 let the quick test end soon, as a rule. */
 void lighten(struct table *table)
 {
     for (unsigned task = 0; task < task_count(table); task++) {
@@ -124,7 +124,7 @@ void lighten(struct table *table)
     }
 }
 
-/* Whole periods as costs and deadlines: the horizon stays, and of two tasks or more the library says overload without a walk. */
+/* Whole periods as costs keep the horizon, and of two tasks or more the library then says overload without a walk. */
 void overload(struct table *table)
 {
     for (unsigned task = 0; task < task_count(table); task++) {
@@ -133,7 +133,7 @@ void overload(struct table *table)
     }
 }
 
-/* Every button made a task that comes from 0 on, as often as the button may. */
+/* Makes every button a task that comes from 0 on, as often as the button may. */
 void start_buttons(struct table *table)
 {
     for (unsigned number = 0; number < task_count(table); number++) {
@@ -147,7 +147,7 @@ void start_buttons(struct table *table)
     }
 }
 
-/* Without the tasks from this one on; at least one stays. */
+/* Leaves that many tasks, at least one. */
 void keep_first(struct table *table, unsigned tasks)
 {
     table->len = record_at(table, tasks) + 1;
@@ -184,26 +184,4 @@ struct task task_at(const struct table *table, unsigned number)
     task.deadline = number_at(words + WORD_BYTES, WORD_BYTES);
     task.period = number_at(words + 2 * WORD_BYTES, WORD_BYTES);
     return task;
-}
-
-int make(const struct request *request)
-{
-    struct table table;
-    int status = open_table(request->files[0], stderr, &table);
-    if (status == DONE && !table.was_text) {
-        return trouble("%s is a table file already; its text is what show prints", request->files[0]);
-    }
-    return status != DONE ? status : write_output(request->files[1], table.file, table.len);
-}
-
-int show(const struct request *request)
-{
-    struct table table;
-    uint8_t text[YOLIZADWA_LONGEST_TEXT];
-    int status = open_table(request->files[0], stderr, &table);
-    if (status == DONE) {
-        uint64_t length = yolizadwa_to_text(table.file, table.len, text, sizeof text);
-        fwrite(text, 1, (size_t)length, stdout);
-    }
-    return status;
 }

@@ -49,3 +49,7 @@ build() { # STANDARD PROGRAM SOURCE...
     rm -r "$scratch"
     return "$status"
 }
+
+build_command() { # PROGRAM
+    build c99 "$1" command/*.c command/drawing/*.c
+}

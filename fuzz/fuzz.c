@@ -62,7 +62,7 @@ static int says_passes(const uint8_t *b, size_t len) {
 static uint64_t check(const uint8_t *file, size_t len, size_t bytes, int with, uint8_t *out) {
     uint8_t *report = block(bytes, with);
     uint64_t r = yolizadwa_check(file, len, report, bytes);
-    if (bytes < REPORT) HOLDS(r == (uint64_t)30 * REFUSED + bytes);
+    if (bytes < REPORT) HOLDS(r == (uint64_t)YOLIZADWA_SHORT_REPORT * REFUSED + bytes);
     if (r < REFUSED) {
         HOLDS(r <= REPORT && r > 0);
         HOLDS(all(report, r, bytes, with));
@@ -71,7 +71,7 @@ static uint64_t check(const uint8_t *file, size_t len, size_t bytes, int with, u
         if (out) memcpy(out, report, r);
     } else {
         HOLDS(all(report, 0, bytes, with));
-        HOLDS(r >> 16 <= 30 && r >> 16 != 2);
+        HOLDS(r >> 16 <= YOLIZADWA_SHORT_REPORT && r >> 16 != YOLIZADWA_TOO_MANY_TASKS);
         HOLDS(yolizadwa_passes(report, r) == 0);
     }
     free(report);
@@ -129,7 +129,7 @@ static int passes(const uint8_t *file, size_t len, size_t cost_at, uint32_t cost
 static void try_largest(const uint8_t *file, size_t len, uint64_t checked, const char *text, uint32_t task, uint32_t some) {
     uint64_t r = yolizadwa_largest(file, len, task);
     if (checked >= REFUSED) HOLDS(r == checked);
-    else if (task >= (len - 10) / 17) HOLDS(r == (uint64_t)12 * REFUSED + (task < 65535 ? task : 65535));
+    else if (task >= (len - 10) / 17) HOLDS(r == (uint64_t)YOLIZADWA_NO_SUCH_TASK * REFUSED + (task < 65535 ? task : 65535));
     else if (strstr(text, "verdict overload\n")) HOLDS(r == YOLIZADWA_LARGEST_OVERLOAD);
     else if (strstr(text, "verdict late\n")) HOLDS(r == YOLIZADWA_LARGEST_LATE);
     else if (strstr(text, "verdict undecided\n")) HOLDS(r == YOLIZADWA_LARGEST_UNDECIDED);
@@ -176,10 +176,10 @@ static void try_buttons(const uint8_t *file, size_t len, uint64_t checked, uint6
         memcpy(tasks + to + (button ? 5 : 1), file + at + 1, bytes - 1);
     }
     tasks[to] = 3;
-    HOLDS(checked == (uint64_t)11 * REFUSED + first && d <= 2);
+    HOLDS(checked == (uint64_t)YOLIZADWA_HAS_BUTTON * REFUSED + first && d <= YOLIZADWA_DISTANCE_OVERLOAD);
     HOLDS(check(tasks, to + 1, REPORT, 0xa5, text) < REFUSED);
-    HOLDS((d == 2) == (strstr((char *)text, "verdict overload\n") != 0));
-    if (d == 1) HOLDS(!strstr((char *)text, "verdict late\n"));
+    HOLDS((d == YOLIZADWA_DISTANCE_OVERLOAD) == (strstr((char *)text, "verdict overload\n") != 0));
+    if (d == YOLIZADWA_DISTANCE_PASS) HOLDS(!strstr((char *)text, "verdict late\n"));
     free(tasks);
 }
 
@@ -245,20 +245,20 @@ static void try_file(const uint8_t *bytes, size_t len, const uint8_t *more, size
     uint64_t q = yolizadwa_quick(file, len);
     if (r >= REFUSED) HOLDS(q == r);
     else {
-        HOLDS(q <= 1);
-        HOLDS((q == 1) == (strstr((char *)text, "\nquick pass\n") != 0));
-        HOLDS((q == 0) == (strstr((char *)text, "\nquick none\n") != 0));
+        HOLDS(q <= YOLIZADWA_QUICK_PASS);
+        HOLDS((q == YOLIZADWA_QUICK_PASS) == (strstr((char *)text, "\nquick pass\n") != 0));
+        HOLDS((q == YOLIZADWA_QUICK_NONE) == (strstr((char *)text, "\nquick none\n") != 0));
     }
 
     // so does the distance test, but for buttons, which passes what the quick test passes, and nothing that is late or overloaded
     uint64_t d = yolizadwa_distance(file, len);
-    if (r >> 16 == 11) try_buttons(file, len, r, d, more, more_len);
+    if (r >> 16 == YOLIZADWA_HAS_BUTTON) try_buttons(file, len, r, d, more, more_len);
     else if (r >= REFUSED) HOLDS(d == r);
     else {
-        HOLDS(d <= 2);
-        HOLDS(q != 1 || d == 1);
-        HOLDS((d == 2) == (strstr((char *)text, "verdict overload\n") != 0));
-        if (d == 1) HOLDS(!strstr((char *)text, "verdict late\n"));
+        HOLDS(d <= YOLIZADWA_DISTANCE_OVERLOAD);
+        HOLDS(q != YOLIZADWA_QUICK_PASS || d == YOLIZADWA_DISTANCE_PASS);
+        HOLDS((d == YOLIZADWA_DISTANCE_OVERLOAD) == (strstr((char *)text, "verdict overload\n") != 0));
+        if (d == YOLIZADWA_DISTANCE_PASS) HOLDS(!strstr((char *)text, "verdict late\n"));
     }
 
     // a table is an easing of itself, with every task kept; of any bytes as the other file no number means two things
@@ -282,8 +282,8 @@ static void try_file(const uint8_t *bytes, size_t len, const uint8_t *more, size
     size_t strange = more_len ? more[0] : STATE - 1;
     uint8_t *odd = block(strange, 0x5a);
     if (strange != STATE) {
-        HOLDS(yolizadwa_start(file, len, odd, strange) == (uint64_t)50 * REFUSED + strange);
-        HOLDS(yolizadwa_step(file, len, odd, strange, 1) == (uint64_t)50 * REFUSED + strange);
+        HOLDS(yolizadwa_start(file, len, odd, strange) == (uint64_t)YOLIZADWA_STATE_LENGTH * REFUSED + strange);
+        HOLDS(yolizadwa_step(file, len, odd, strange, 1) == (uint64_t)YOLIZADWA_STATE_LENGTH * REFUSED + strange);
         HOLDS(all(odd, 0, strange, 0x5a));
     }
     free(odd);
@@ -293,7 +293,7 @@ static void try_file(const uint8_t *bytes, size_t len, const uint8_t *more, size
     memcpy(state, more, more_len < STATE ? more_len : STATE);
     step(file, len, state, more_len & 1);
     memset(state + COUNTS, 0, STATE - COUNTS);
-    HOLDS(step(file, len, state, more_len & 1) >> 16 != 9);
+    HOLDS(step(file, len, state, more_len & 1) >> 16 != YOLIZADWA_FULL_STATE);
 
     // the start, and steps from it; where the report says passes none is late, whichever steps have a done report
     memset(state, 0xee, STATE);

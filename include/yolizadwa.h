@@ -78,42 +78,42 @@ enum yolizadwa_kind {
  * state (8, 9), the task that is asked for (12), or the budget that is written (27) and the length of the buffer for it (31).
  */
 enum yolizadwa_refusal {
-    YOLIZADWA_NO_TASK = 1,          /* the table has no task; place 0 */
-    YOLIZADWA_TOO_MANY_TASKS = 2,   /* more than 32 tasks and buttons; place 32. A file with so many is refused with 25, a text with 66 */
-    YOLIZADWA_BAD_PERIOD = 3,       /* a period, or a button's spacing, outside 1 to 60,000; place: the task */
-    YOLIZADWA_BAD_DEADLINE = 4,     /* a deadline outside 1 to the period or spacing; place: the task */
-    YOLIZADWA_BAD_COST = 5,         /* a cost outside 1 to the deadline; place: the task */
-    YOLIZADWA_BAD_OFFSET = 6,       /* an offset above 60,000; place: the task, which is no button */
-    YOLIZADWA_LONG_ROUND = 7,       /* the least common multiple of periods and spacings is above 1,000,000,000,000; place 0 */
-    YOLIZADWA_STRANGE_STATE = 8,    /* the state does not fit the table; place: the first task that does not, 32: last,
-                                       33: it counts 2^64 slots or more, 34: a log's slots are not those that the
-                                       state counts, or are more than its bytes, or its bytes are 2^32 or more */
-    YOLIZADWA_FULL_STATE = 9,       /* the state counts 2^64 - 1 slots, and no more can be counted; place 0 */
-    YOLIZADWA_HAS_BUTTON = 11,      /* the table has a button, and this call takes none; place: the first button */
-    YOLIZADWA_NO_SUCH_TASK = 12,    /* the table has no task of this number; place: the number, 65,535 if it is larger */
-    YOLIZADWA_CUT_SHORT = 20,       /* the file ends inside a record; place: where the record begins */
-    YOLIZADWA_UNKNOWN_KIND = 21,    /* a record of no known kind; place: where it begins */
-    YOLIZADWA_NO_BUDGET_FIRST = 22, /* the first record is a task, a button or the end, or the file is empty; place 0 */
-    YOLIZADWA_SECOND_BUDGET = 23,   /* a second budget; place: where it begins */
-    YOLIZADWA_BYTES_AFTER_END = 24, /* bytes after the end record; place: the first of them */
-    YOLIZADWA_EXTRA_TASK = 25,      /* a thirty-third task or button; place: where it begins */
-    YOLIZADWA_NO_END = 26,          /* the file ends after a whole record, without an end record; place: its length */
-    YOLIZADWA_ZERO_BUDGET = 27,     /* the budget is 0; place 0, in a text its line */
-    YOLIZADWA_SHORT_REPORT = 30,    /* the report buffer has fewer than 1,024 bytes; place: its length */
-    YOLIZADWA_SHORT_BUFFER = 31,    /* the buffer is shorter than what is to be written; place: its length */
-    YOLIZADWA_STATE_LENGTH = 50,    /* the state buffer is not 536 bytes long, or a log's not 568; place: its length, at most 65,535 */
-    YOLIZADWA_BROKEN_ROWS = 51,     /* the words of a table are not a whole number of rows; place: how many words, at most 65,535 */
-    YOLIZADWA_STRANGE_ROW = 52,     /* a row of a table is neither a task nor a button, or is a button with an offset, which is any
-                                       second word but 0; place: the first such row, at most 65,535 */
+    YOLIZADWA_NO_TASK = 1,              /* the table has no task; place 0 */
+    YOLIZADWA_TOO_MANY_TASKS = 2,       /* more than 32 tasks and buttons; place 32. A file with so many is refused with 25, a text with 66 */
+    YOLIZADWA_BAD_PERIOD = 3,           /* a period, or a button's spacing, outside 1 to 60,000; place: the task */
+    YOLIZADWA_BAD_DEADLINE = 4,         /* a deadline outside 1 to the period or spacing; place: the task */
+    YOLIZADWA_BAD_COST = 5,             /* a cost outside 1 to the deadline; place: the task */
+    YOLIZADWA_BAD_OFFSET = 6,           /* an offset above 60,000; place: the task, which is no button */
+    YOLIZADWA_LONG_ROUND = 7,           /* the least common multiple of periods and spacings is above 1,000,000,000,000; place 0 */
+    YOLIZADWA_STRANGE_STATE = 8,        /* the state does not fit the table; place: the first task that does not, 32: last,
+                                           33: it counts 2^64 slots or more, 34: a log's slots are not those that the
+                                           state counts, or are more than its bytes, or its bytes are 2^32 or more */
+    YOLIZADWA_FULL_STATE = 9,           /* the state counts 2^64 - 1 slots, and no more can be counted; place 0 */
+    YOLIZADWA_HAS_BUTTON = 11,          /* the table has a button, and this call takes none; place: the first button */
+    YOLIZADWA_NO_SUCH_TASK = 12,        /* the table has no task of this number; place: the number, 65,535 if it is larger */
+    YOLIZADWA_FILE_CUT_SHORT = 20,      /* the file ends inside a record; place: where the record begins */
+    YOLIZADWA_FILE_UNKNOWN_KIND = 21,   /* a record of no known kind; place: where it begins */
+    YOLIZADWA_FILE_NO_BUDGET = 22,      /* the first record is a task, a button or the end, or the file is empty; place 0 */
+    YOLIZADWA_FILE_SECOND_BUDGET = 23,  /* a second budget; place: where it begins */
+    YOLIZADWA_FILE_AFTER_END = 24,      /* bytes after the end record; place: the first of them */
+    YOLIZADWA_FILE_TOO_MANY_TASKS = 25, /* a thirty-third task or button; place: where it begins */
+    YOLIZADWA_FILE_NO_END = 26,         /* the file ends after a whole record, without an end record; place: its length */
+    YOLIZADWA_FILE_ZERO_BUDGET = 27,    /* the budget is 0; place 0, in a text its line */
+    YOLIZADWA_SHORT_REPORT = 30,        /* the report buffer has fewer than 1,024 bytes; place: its length */
+    YOLIZADWA_SHORT_BUFFER = 31,        /* the buffer is shorter than what is to be written; place: its length */
+    YOLIZADWA_STATE_LENGTH = 50,        /* the state buffer is not 536 bytes long, or a log's not 568; place: its length, at most 65,535 */
+    YOLIZADWA_BROKEN_ROWS = 51,         /* the words of a table are not a whole number of rows; place: how many words, at most 65,535 */
+    YOLIZADWA_STRANGE_ROW = 52,         /* a row of a table is neither a task nor a button, or is a button with an offset, which is any
+                                           second word but 0; place: the first such row, at most 65,535 */
     /* Of a text; place: the line, counted from 1, at most 65,535. */
-    YOLIZADWA_UNKNOWN_WORD = 60,    /* a line's first word is none of `budget`, `task` and `button` */
-    YOLIZADWA_NO_NUMBER = 61,       /* a word that should be a number has a byte that is no digit */
-    YOLIZADWA_LARGE_NUMBER = 62,    /* a number of a task or button is 2^32 or more, or the budget 2^64 or more */
-    YOLIZADWA_NUMBERS_DUE = 63,     /* a line has too few numbers or too many */
-    YOLIZADWA_NO_BUDGET = 64,       /* a task or button comes before the budget, or the text ends without one: then the place is
-                                       the line in which it ends, one more than it has line feeds */
-    YOLIZADWA_BUDGET_AGAIN = 65,    /* a second budget */
-    YOLIZADWA_TASK_TOO_MANY = 66    /* a thirty-third task or button */
+    YOLIZADWA_TEXT_UNKNOWN_WORD = 60,   /* a line's first word is none of `budget`, `task` and `button` */
+    YOLIZADWA_TEXT_NOT_A_NUMBER = 61,   /* a word that should be a number has a byte that is no digit */
+    YOLIZADWA_TEXT_LARGE_NUMBER = 62,   /* a number of a task or button is 2^32 or more, or the budget 2^64 or more */
+    YOLIZADWA_TEXT_WRONG_COUNT = 63,    /* a line has too few numbers or too many */
+    YOLIZADWA_TEXT_NO_BUDGET = 64,      /* a task or button comes before the budget, or the text ends without one: then the place is
+                                           the line in which it ends, one more than it has line feeds */
+    YOLIZADWA_TEXT_SECOND_BUDGET = 65,  /* a second budget */
+    YOLIZADWA_TEXT_TOO_MANY_TASKS = 66  /* a thirty-third task or button */
 };
 
 /*
@@ -233,8 +233,8 @@ uint64_t yolizadwa_passes(const uint8_t *report, size_t length);
 
 /*
  * The quick test: lets all tasks start at 0, whatever their offsets, and run up to the first instant after 0 by which every job
- * released before it is finished. The result is 1 for pass, if no deadline is missed by then, and 0 for no answer. On overload
- * there is no answer, and late is never said.
+ * released before it is finished. The result is YOLIZADWA_QUICK_PASS if no deadline is missed by then, and YOLIZADWA_QUICK_NONE for no
+ * answer. On overload there is no answer, and late is never said.
  *
  * Pass: a check of the file, with any budget that reaches the horizon, says `verdict passes`. No answer says nothing about
  * that. The budget must stand in the file, 1 or more, and plays no other part.
@@ -246,6 +246,10 @@ uint64_t yolizadwa_passes(const uint8_t *report, size_t length);
  *
  * Refusals: 20 to 27; 1 and 3 to 7; 11.
  */
+enum yolizadwa_quick_answer {
+    YOLIZADWA_QUICK_NONE = 0,
+    YOLIZADWA_QUICK_PASS = 1
+};
 uint64_t yolizadwa_quick(const uint8_t *file, size_t file_len);
 
 /*
@@ -256,7 +260,8 @@ uint64_t yolizadwa_quick(const uint8_t *file, size_t file_len);
  * button starts at 0 and comes as early as it may again; no button is the one that the others start from. Of buttons alone there is one
  * pattern, with all of them at 0.
  *
- * The result is 2 for overload; else 1 for pass, if no pattern misses a deadline, and 0 for no answer. Late is never said.
+ * The result is YOLIZADWA_DISTANCE_OVERLOAD; else YOLIZADWA_DISTANCE_PASS, if no pattern misses a deadline, and YOLIZADWA_DISTANCE_NONE
+ * for no answer. Late is never said.
  *
  * Pass of a table without buttons means what it means of the quick test, for the offsets in the file, and wherever that one passes, so
  * does this one. Pass of a table with buttons: whenever they are pressed, as long as each keeps its spacing, there is a way to give out
@@ -269,6 +274,11 @@ uint64_t yolizadwa_quick(const uint8_t *file, size_t file_len);
  *
  * Refusals: 20 to 27; 1 and 3 to 7; not 11.
  */
+enum yolizadwa_distance_answer {
+    YOLIZADWA_DISTANCE_NONE = 0,
+    YOLIZADWA_DISTANCE_PASS = 1,
+    YOLIZADWA_DISTANCE_OVERLOAD = 2
+};
 uint64_t yolizadwa_distance(const uint8_t *file, size_t file_len);
 
 /*

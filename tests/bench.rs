@@ -86,7 +86,7 @@ impl Bench {
     }
 
     pub fn end(self) -> bool {
-        let asked = CALLS.map(|(call, name)| format!("{name} {}", self.asked[call as usize]));
+        let asked: Vec<String> = CALLS.iter().map(|&(call, name)| format!("{name} {}", self.asked[call as usize])).collect();
         println!("calls made: {}", asked.join(", "));
         println!("host tests: {} passed, {} failed", self.total.0, self.total.1);
         self.total.1 == 0

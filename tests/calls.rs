@@ -6,43 +6,35 @@ use crate::logbook::LOG_BYTES;
 use crate::plain::LONGEST_TEXT;
 use crate::reference::{LONGEST_FILE, REPORT_BYTES, STATE_BYTES};
 
-/// In the order of stack.h.
-#[derive(Clone, Copy, PartialEq, Eq, Debug)]
-pub enum Call {
-    Check,
-    Start,
-    Step,
-    Write,
-    FromText,
-    ToText,
-    Quick,
-    Distance,
-    CheckPlainly,
-    Eased,
-    Largest,
-    LogStart,
-    LogFeed,
-    LogFinish,
-    Passes,
+macro_rules! calls {
+    ($($call:ident $name:literal,)*) => {
+        #[derive(Clone, Copy, PartialEq, Eq, Debug)]
+        pub enum Call {
+            $($call,)*
+        }
+
+        pub const CALLS: &[(Call, &str)] = &[$((Call::$call, $name),)*];
+    };
 }
 
-pub const CALLS: [(Call, &str); 15] = [
-    (Call::Check, "check"),
-    (Call::Start, "start"),
-    (Call::Step, "step"),
-    (Call::Write, "write"),
-    (Call::FromText, "from text"),
-    (Call::ToText, "to text"),
-    (Call::Quick, "quick"),
-    (Call::Distance, "distance"),
-    (Call::CheckPlainly, "check plainly"),
-    (Call::Eased, "eased"),
-    (Call::Largest, "largest"),
-    (Call::LogStart, "log start"),
-    (Call::LogFeed, "log feed"),
-    (Call::LogFinish, "log finish"),
-    (Call::Passes, "passes"),
-];
+// The list of calls.h once more, in its order: Rust cannot read that one, and papers.rs compares the two.
+calls! {
+    Check "check",
+    Start "start",
+    Step "step",
+    Write "write",
+    FromText "from text",
+    ToText "to text",
+    Quick "quick",
+    Distance "distance",
+    CheckPlainly "check plainly",
+    Eased "eased",
+    Largest "largest",
+    LogStart "log start",
+    LogFeed "log feed",
+    LogFinish "log finish",
+    Passes "passes",
+}
 
 #[derive(Clone, Debug)]
 pub struct Request {

@@ -3,6 +3,7 @@
 //! calls has those that the library exports.
 
 use crate::bench::Bench;
+use crate::calls::CALLS;
 use crate::whole;
 use std::fs;
 use std::path::Path;
@@ -13,6 +14,7 @@ const PROMISES: &str = "crates/promises/specs";
 const SPECIFICATION: &str = "docs/SPECIFICATION.md";
 const README: &str = "README.md";
 const HEADER: &str = "include/yolizadwa.h";
+const LIST: &str = "tests/calls.h";
 
 /// Laws that the paper names and that are no promises, each with its file.
 const OTHERS: &[(&str, &str)] = &[("gcd-unique", "crates/counting/specs/Divisors.antt")];
@@ -172,11 +174,27 @@ fn calls_in(part: &str, mark: &str) -> Vec<String> {
     names
 }
 
-/// What the library exports is what the header declares and lists, and what README and the specification list.
+/// The functions of the tests' one list, in its order.
+fn calls_listed(list: &str) -> Vec<String> {
+    let rows = list.lines().filter_map(|line| line.trim_start().strip_prefix("CALL(")?.split_once(')'));
+    rows.filter_map(|(row, _)| Some(row.rsplit_once(", ")?.1.to_string())).collect()
+}
+
+/// calls.rs has the calls of calls.h in the same order: a request sends its place.
+fn numbered_alike(bench: &mut Bench, listed: &[String]) {
+    let here: Vec<String> = CALLS.iter().map(|(_, name)| format!("yolizadwa_{}", name.replace(' ', "_"))).collect();
+    bench.count(here == listed, || format!("{LIST}: {listed:?}, but calls.rs: {here:?}"));
+}
+
+/// What the library exports is what the header declares and lists, and what README, the specification and the tests list.
 pub fn calls(bench: &mut Bench) {
     let (paper, readme, header) = (read(SPECIFICATION), read(README), read(HEADER));
     let quoted = between(&readme, "## Link it", "\n## ").replace('`', "\n");
+    let mut listed = calls_listed(&read(LIST));
+    numbered_alike(bench, &listed);
+    listed.sort();
     let lists = [
+        ("stands in the tests' list", listed),
         ("is declared", calls_in(&header, "uint64_t ")),
         ("stands in the header's list", calls_in(between(&header, "/*", "*/"), " *   ")),
         ("stands in README", calls_in(&quoted, "")),

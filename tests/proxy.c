@@ -91,26 +91,31 @@ static uint64_t forward(enum call call, const void *file, size_t file_len, uint8
     return result;
 }
 
-uint64_t yolizadwa_check(const uint8_t *file, size_t file_len, uint8_t *report, size_t report_len)
-{
-    return forward(CHECK, file, file_len, report, report_len, 0);
-}
+static uint8_t nothing;
 
-uint64_t yolizadwa_check_plainly(const uint8_t *file, size_t file_len, uint8_t *report, size_t report_len)
-{
-    return forward(CHECK_PLAINLY, file, file_len, report, report_len, 0);
-}
+/* A call of each shape that several have; calls of another shape stand below. */
+#define READS(name, function) \
+    uint64_t function(const uint8_t *file, size_t file_len) { return forward(name, file, file_len, &nothing, 0, 0); }
+#define ASKS(name, function) \
+    uint64_t function(const uint8_t *file, size_t file_len, uint32_t task) { return forward(name, file, file_len, &nothing, 0, task); }
+#define FILLS(name, function)                                                                   \
+    uint64_t function(const uint8_t *file, size_t file_len, uint8_t *buffer, size_t buffer_len) \
+    {                                                                                           \
+        return forward(name, file, file_len, buffer, buffer_len, 0);                            \
+    }
+#define LISTENS(name, function)
+#define COMPARES(name, function)
+#define STEPS(name, function)
+#define FEEDS(name, function)
+#define WRITES(name, function)
 
-/* Of a length that no report has nothing is read here either. */
+#define FORWARD(shape, name, function) shape(name, function)
+CALLS(FORWARD)
+
+/* No report is longer, so of a longer one no byte is read here either. */
 uint64_t yolizadwa_passes(const uint8_t *report, size_t length)
 {
-    uint8_t nothing = 0;
     return forward(PASSES, report, length > YOLIZADWA_REPORT_BYTES ? 0 : length, &nothing, 0, length);
-}
-
-uint64_t yolizadwa_start(const uint8_t *file, size_t file_len, uint8_t *state, size_t state_len)
-{
-    return forward(START, file, file_len, state, state_len, 0);
 }
 
 uint64_t yolizadwa_step(const uint8_t *file, size_t file_len, uint8_t *state, size_t state_len, uint32_t done)
@@ -123,70 +128,33 @@ uint64_t yolizadwa_write(const uint32_t *words, size_t count, uint64_t budget, u
     return forward(WRITE, words, count * sizeof words[0], file, file_len, budget);
 }
 
-uint64_t yolizadwa_from_text(const uint8_t *text, size_t text_len, uint8_t *file, size_t file_len)
+/* One behind the other, in memory of its own. */
+static uint8_t *joined(const uint8_t *one, size_t one_len, const uint8_t *other, size_t other_len)
 {
-    return forward(FROM_TEXT, text, text_len, file, file_len, 0);
-}
-
-uint64_t yolizadwa_to_text(const uint8_t *file, size_t file_len, uint8_t *text, size_t text_len)
-{
-    return forward(TO_TEXT, file, file_len, text, text_len, 0);
-}
-
-uint64_t yolizadwa_quick(const uint8_t *file, size_t file_len)
-{
-    uint8_t nothing = 0;
-    return forward(QUICK, file, file_len, &nothing, 0, 0);
-}
-
-uint64_t yolizadwa_distance(const uint8_t *file, size_t file_len)
-{
-    uint8_t nothing = 0;
-    return forward(DISTANCE, file, file_len, &nothing, 0, 0);
-}
-
-uint64_t yolizadwa_largest(const uint8_t *file, size_t file_len, uint32_t task)
-{
-    uint8_t nothing = 0;
-    return forward(LARGEST, file, file_len, &nothing, 0, task);
-}
-
-uint64_t yolizadwa_log_start(const uint8_t *file, size_t file_len, uint8_t *state, size_t state_len)
-{
-    return forward(LOG_START, file, file_len, state, state_len, 0);
-}
-
-/* The table's file and the piece as one. */
-uint64_t yolizadwa_log_feed(const uint8_t *file, size_t file_len, uint8_t *state, size_t state_len, const uint8_t *piece,
-                            size_t piece_len)
-{
-    uint8_t *both = malloc(file_len + piece_len + 1);
-    uint64_t result;
+    uint8_t *both = malloc(one_len + other_len + 1);
     if (both == NULL) {
         fail("no memory");
     }
-    memcpy(both, file, file_len);
-    memcpy(both + file_len, piece, piece_len);
-    result = forward(LOG_FEED, both, file_len + piece_len, state, state_len, file_len);
+    memcpy(both, one, one_len);
+    memcpy(both + one_len, other, other_len);
+    return both;
+}
+
+/* The bridge reads one row of bytes, so the piece goes behind the table's file. */
+uint64_t yolizadwa_log_feed(const uint8_t *file, size_t file_len, uint8_t *state, size_t state_len, const uint8_t *piece,
+                            size_t piece_len)
+{
+    uint8_t *both = joined(file, file_len, piece, piece_len);
+    uint64_t result = forward(LOG_FEED, both, file_len + piece_len, state, state_len, file_len);
     free(both);
     return result;
 }
 
-uint64_t yolizadwa_log_finish(const uint8_t *file, size_t file_len, uint8_t *state, size_t state_len)
-{
-    return forward(LOG_FINISH, file, file_len, state, state_len, 0);
-}
-
-/* From a copy, since the bridge hands every buffer back. */
+/* The bridge hands every buffer back, so the file that is only read goes there as a copy. */
 uint64_t yolizadwa_eased(const uint8_t *before, size_t before_len, const uint8_t *after, size_t after_len)
 {
-    uint8_t *copy = malloc(after_len + 1);
-    uint64_t result;
-    if (copy == NULL) {
-        fail("no memory");
-    }
-    memcpy(copy, after, after_len);
-    result = forward(EASED, before, before_len, copy, after_len, 0);
+    uint8_t *copy = joined(after, after_len, &nothing, 0);
+    uint64_t result = forward(EASED, before, before_len, copy, after_len, 0);
     free(copy);
     return result;
 }

@@ -9,12 +9,16 @@
 
 #include "yolizadwa.h"
 
-_Static_assert(YOLIZADWA_LONGEST_FILE == 554 && YOLIZADWA_LONGEST_TEXT == 956 && YOLIZADWA_ROW_WORDS == 5, "as the specification and the tests have it");
-_Static_assert(YOLIZADWA_KIND_BUTTON == 4 && YOLIZADWA_HAS_BUTTON == 11, "as the specification has it");
-_Static_assert(YOLIZADWA_NO_SUCH_TASK == 12 && YOLIZADWA_LARGEST_OVERLOAD == 60001 && YOLIZADWA_LARGEST_UNDECIDED == 60002 && YOLIZADWA_LARGEST_LATE == 60003, "as the tests have it");
+_Static_assert(YOLIZADWA_LONGEST_FILE == 554 && YOLIZADWA_LONGEST_TEXT == 956 && YOLIZADWA_ROW_WORDS == 5, "as the tests have it");
+_Static_assert(YOLIZADWA_KIND_BUTTON == 4 && YOLIZADWA_HAS_BUTTON == 11 && YOLIZADWA_NO_SUCH_TASK == 12, "as the tests have it");
+_Static_assert(YOLIZADWA_FILE_CUT_SHORT == 20 && YOLIZADWA_FILE_ZERO_BUDGET == 27, "as the tests have it");
+_Static_assert(YOLIZADWA_TEXT_UNKNOWN_WORD == 60 && YOLIZADWA_TEXT_TOO_MANY_TASKS == 66, "as the tests have it");
+_Static_assert(YOLIZADWA_QUICK_NONE == 0 && YOLIZADWA_QUICK_PASS == 1, "as the tests have it");
+_Static_assert(YOLIZADWA_DISTANCE_NONE == 0 && YOLIZADWA_DISTANCE_PASS == 1 && YOLIZADWA_DISTANCE_OVERLOAD == 2, "as the tests have it");
+_Static_assert(YOLIZADWA_LARGEST_OVERLOAD == 60001 && YOLIZADWA_LARGEST_UNDECIDED == 60002 && YOLIZADWA_LARGEST_LATE == 60003, "as the tests have it");
 _Static_assert(sizeof(struct yolizadwa_state) == YOLIZADWA_STATE_BYTES && offsetof(struct yolizadwa_state, given) == 272, "as the library lays a state out");
-
-_Static_assert(sizeof(struct yolizadwa_log) == YOLIZADWA_LOG_BYTES && offsetof(struct yolizadwa_log, opened) == YOLIZADWA_STATE_BYTES && offsetof(struct yolizadwa_log, slots) == 552, "as the library lays a log out");
+_Static_assert(sizeof(struct yolizadwa_log) == YOLIZADWA_LOG_BYTES, "as the library lays a log out");
+_Static_assert(offsetof(struct yolizadwa_log, opened) == YOLIZADWA_STATE_BYTES && offsetof(struct yolizadwa_log, slots) == 552, "as the library lays a log out");
 
 enum { ROOM = 1 << 18, MOST_WORDS = 400000 };
 
@@ -42,25 +46,25 @@ static uint64_t write_words(const uint8_t *bytes, size_t len, uint64_t budget, u
     return memcmp(words, bytes, len) == 0 ? result : UINT64_MAX;
 }
 
+/* How a request becomes a call of each shape. */
+#define READS(function) function(file, file_len)
+#define LISTENS(function) function(file, (size_t)number)
+#define ASKS(function) function(file, file_len, (uint32_t)number)
+#define FILLS(function) function(file, file_len, buffer, buffer_len)
+#define COMPARES(function) function(file, file_len, buffer, buffer_len)
+#define STEPS(function) function(file, file_len, buffer, buffer_len, (uint32_t)number)
+#define FEEDS(function) function(file, (size_t)number, buffer, buffer_len, file + number, file_len - (size_t)number)
+#define WRITES(function) write_words(file, file_len, number, buffer, buffer_len)
+
+#define MAKE(shape, name, function) \
+    case name: return shape(function);
+
 uint64_t plain_call(uint32_t call, const uint8_t *file, size_t file_len, uint8_t *buffer, size_t buffer_len,
                     uint64_t number)
 {
     switch (call) {
-    case CHECK: return yolizadwa_check(file, file_len, buffer, buffer_len);
-    case START: return yolizadwa_start(file, file_len, buffer, buffer_len);
-    case STEP: return yolizadwa_step(file, file_len, buffer, buffer_len, (uint32_t)number);
-    case WRITE: return write_words(file, file_len, number, buffer, buffer_len);
-    case FROM_TEXT: return yolizadwa_from_text(file, file_len, buffer, buffer_len);
-    case TO_TEXT: return yolizadwa_to_text(file, file_len, buffer, buffer_len);
-    case QUICK: return yolizadwa_quick(file, file_len);
-    case DISTANCE: return yolizadwa_distance(file, file_len);
-    case EASED: return yolizadwa_eased(file, file_len, buffer, buffer_len);
-    case LARGEST: return yolizadwa_largest(file, file_len, (uint32_t)number);
-    case LOG_START: return yolizadwa_log_start(file, file_len, buffer, buffer_len);
-    case LOG_FEED: return yolizadwa_log_feed(file, (size_t)number, buffer, buffer_len, file + number, file_len - (size_t)number);
-    case LOG_FINISH: return yolizadwa_log_finish(file, file_len, buffer, buffer_len);
-    case PASSES: return yolizadwa_passes(file, (size_t)number);
-    default: return yolizadwa_check_plainly(file, file_len, buffer, buffer_len);
+        CALLS(MAKE)
+    default: abort();
     }
 }
 

@@ -5,7 +5,7 @@
 #include <stddef.h>
 #include <stdint.h>
 
-enum call { CHECK, START, STEP, WRITE, FROM_TEXT, TO_TEXT, QUICK, DISTANCE, CHECK_PLAINLY, EASED, LARGEST, LOG_START, LOG_FEED, LOG_FINISH, PASSES };
+#include "calls.h"
 
 /*
  * What is read, what is written or read too, and a number besides: a step's done, the budget to write, a task, where in what is read the

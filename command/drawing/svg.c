@@ -1,14 +1,14 @@
-/* A picture as plain SVG 1.1: its blocks under each other; shapes and hatchings say all without colour. */
+/* A picture as plain SVG 1.1, its blocks below each other. Shapes and hatchings say everything without colour. */
 #include <string.h>
 
 #include "block.h"
 
 enum { HEADING = 48, CAPTION = 24, LEGEND = 14, BELOW = 12, ROW = 20, EDGE = 12 };
 
-/* Of the legend: from a sign to its words, as much for each letter, or in a wide font at most, and up to the next sign. */
+/* Widths of the legend: from a sign to its words, of a letter, of a letter in a wide font, and up to the next sign. */
 enum { SIGN = 34, LETTER = 7, WIDE_LETTER = 8, APART = 20 };
 
-/* Letters of the name are counted as wide as the widest of their kind, so that what is shown of it never runs off the sheet. */
+/* Letters of the name count as wide as the widest of their kind, so that the name never runs off the sheet. */
 enum { NAME_ROOM = 940, USUAL_LETTER = 12, WIDER_LETTER = 14, WIDEST_LETTER = 18 };
 
 /* Where the caption of the drawing begins: below the name and the verdict, if they stand there. */
@@ -32,7 +32,7 @@ static int has_excess(const struct picture *picture)
     return picture->is_late && picture->excess.start < picture->to && picture->excess.end > picture->from;
 }
 
-/* A sign of the legend and its words, which stand there when this says so or, without it, when a lane has these of the signs. */
+/* A sign of the legend and its words. It is shown if `when` says so or, without a `when`, if a lane has these signs. */
 struct key {
     uint8_t looks, signs;
     int (*when)(const struct picture *picture);
@@ -111,7 +111,7 @@ static unsigned letter_width(char letter)
                                                                                : WIDER_LETTER;
 }
 
-/* Of a long name the end, from a whole letter on. */
+/* A long name is shown from its end. */
 static const char *end_of_name(const char *name)
 {
     const char *shown = name + strlen(name);
@@ -162,10 +162,9 @@ static void put_caption(const struct picture *picture)
 {
     printf("<text x=\"%u\" y=\"%u\">", (unsigned)EDGE, heading_height(picture) + 15);
     put_slots(picture->from, picture->to);
-    printf("%s; horizon %llu", picture->early ? ", every job done after half its cost" : "", (unsigned long long)picture->horizon);
+    printf("%s; horizon %" PRIu64, picture->early ? ", every job done after half its cost" : "", picture->horizon);
     if (picture->is_late && (picture->excess.start < picture->from || picture->excess.end > picture->to)) {
-        printf("; the late interval is from %llu to %llu", (unsigned long long)picture->excess.start,
-               (unsigned long long)picture->excess.end);
+        printf("; the late interval is from %" PRIu64 " to %" PRIu64, picture->excess.start, picture->excess.end);
     }
     printf("</text>\n");
 }
@@ -178,7 +177,7 @@ static unsigned height_of(struct block block)
     return lay_legend(block.picture, block.top + block_height(&block) + LEGEND, put_no_key) + BELOW;
 }
 
-/* Each hatching is of its own kind, so that they differ in grey too. */
+/* The hatchings differ in shape, so that they can be told apart in grey. */
 static void put_patterns(void)
 {
     printf("<defs>\n<pattern id=\"meant\" width=\"6\" height=\"6\" patternUnits=\"userSpaceOnUse\"><rect width=\"6\" height=\"6\" "

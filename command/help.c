@@ -1,30 +1,17 @@
 /* What --help and help WORD print. docs/COMMAND.md says the same at length. */
 #include <string.h>
 
-#include "command.h"
+#include "words.h"
 
-struct page {
-    const char *word, *text;
-};
+/* Where the overview says what a word is for. */
+enum { SUMS_UP_AT = 45 };
 
-static const char usage[] =
+static const char overview[] =
     "yolizadwa judges tables of periodic tasks and of buttons, and shows who has each\n"
     "slot.\n"
-    "\n"
-    "  yolizadwa judge FILE [--all] [--plainly]   whether every job is in time\n"
-    "  yolizadwa quick FILE                       an answer at once, or none\n"
-    "  yolizadwa distance FILE                    an answer by the offsets and for\n"
-    "                                             buttons, or none\n"
-    "  yolizadwa eased OLD NEW                    whether NEW is OLD made easier\n"
-    "  yolizadwa largest FILE [TASK]              how far a cost may grow\n"
-    "  yolizadwa run FILE [--slots N] [--early] [--log LOG]\n"
-    "                                             a chart of who has each slot\n"
-    "  yolizadwa draw FILE [--from A] [--to B] [--early]\n"
-    "                                             the run as a picture, in SVG\n"
-    "  yolizadwa page FILE                        all of it on a page, in HTML\n"
-    "  yolizadwa log TABLE LOG                    whether a camera's log is the table's\n"
-    "  yolizadwa show FILE                        the table as plain text\n"
-    "  yolizadwa make TEXT FILE                   the table file of a text\n"
+    "\n";
+
+static const char overview_end[] =
     "  yolizadwa help WORD                        about a word, or about text\n"
     "  yolizadwa --help\n"
     "  yolizadwa --version\n"
@@ -42,9 +29,7 @@ static const char usage[] =
     "Ends with 0: passes, good, or done; 1: cannot be done; 2: refused; 3: late,\n"
     "overload, or another log; 4: undecided, no answer, no easing, or a faulty log.\n";
 
-static const char page_judge[] =
-    "yolizadwa judge FILE [--all] [--plainly]\n"
-    "\n"
+const char page_judge[] =
     "Prints the report on a table: tasks, load, the quick answer, horizon, verdict,\n"
     "settled; if it passes also the worst response of each task and the first idle\n"
     "instant. If it is late, the interval that asks for more slots than it has, and\n"
@@ -57,9 +42,7 @@ static const char page_judge[] =
     "Ends with 0 if the table passes, 2 if it is refused, 3 if it is late or\n"
     "overloaded, 4 if its budget ends before the answer is known.\n";
 
-static const char page_quick[] =
-    "yolizadwa quick FILE\n"
-    "\n"
+const char page_quick[] =
     "Looks at the table as if all tasks started at 0, and asks whether every job is\n"
     "then in time. It walks no slots, and mostly takes microseconds. quick pass:\n"
     "every job is in time, with these offsets and with any others. quick none: no\n"
@@ -68,9 +51,7 @@ static const char page_quick[] =
     "\n"
     "Ends with 0 if the answer is pass, 4 if there is none, 2 if the table is refused.\n";
 
-static const char page_distance[] =
-    "yolizadwa distance FILE\n"
-    "\n"
+const char page_distance[] =
     "For tables that judge takes long over, and for tables with buttons. Each task in\n"
     "turn is taken to start at 0, and every other as soon after it as its releases\n"
     "ever come; each such run is looked at up to its first idle instant. distance\n"
@@ -89,9 +70,7 @@ static const char page_distance[] =
     "Ends with 0 if the answer is pass, 3 on overload, 4 if there is no answer, 2 if\n"
     "the table is refused.\n";
 
-static const char page_eased[] =
-    "yolizadwa eased OLD NEW\n"
-    "\n"
+const char page_eased[] =
     "Tells whether the table NEW is an easing of the table OLD: whether it is OLD\n"
     "with costs lowered, deadlines made longer, tasks left out, or several of these.\n"
     "Offsets, periods and the order of the tasks stay. eased yes: if OLD passes, so\n"
@@ -105,9 +84,7 @@ static const char page_eased[] =
     "\n"
     "Ends with 0 if the answer is yes, 4 if it is no, 2 if a table is refused.\n";
 
-static const char page_largest[] =
-    "yolizadwa largest FILE [TASK]\n"
-    "\n"
+const char page_largest[] =
     "Tells how far a cost may grow: for each task, or for TASK alone, its cost now,\n"
     "the largest cost up to its deadline with which the table still passes, how\n"
     "many slots more that is, and its deadline. Each cost is raised\n"
@@ -120,9 +97,7 @@ static const char page_largest[] =
     "Ends with 0 if it is told, 2 if the table is refused or has no such task, 3 if\n"
     "it is late or overloaded, 4 if it is undecided.\n";
 
-static const char page_run[] =
-    "yolizadwa run FILE [--slots N] [--early] [--log LOG]\n"
-    "\n"
+const char page_run[] =
     "Runs the table, whether it passes or not, and draws a row for each task. A\n"
     "slot goes to the waiting job that is due first; of jobs due together to that\n"
     "of the shorter period, then to that of the lower number. A slot is drawn as\n"
@@ -141,9 +116,7 @@ static const char page_run[] =
     "\n"
     "Ends with 0 if no job was closed late, 3 if one was, 2 if the table is refused.\n";
 
-static const char page_draw[] =
-    "yolizadwa draw FILE [--from A] [--to B] [--early] > run.svg\n"
-    "\n"
+const char page_draw[] =
     "Writes the run as a drawing, in SVG, which every browser shows and prints: a\n"
     "lane for each task, with its number, cost, deadline and period at the left.\n"
     "\n"
@@ -164,9 +137,7 @@ static const char page_draw[] =
     "Ends as judge does: 0 if the table passes, 2 if it is refused, 3 if it is late\n"
     "or overloaded, 4 if its budget ends before the answer is known.\n";
 
-static const char page_page[] =
-    "yolizadwa page FILE > table.html\n"
-    "\n"
+const char page_page[] =
     "Writes a page to hand over, in HTML, one file that prints on A4: the verdict in\n"
     "a sentence, the table, of each task the worst response against its deadline and\n"
     "how many slots more it may take, the run as draw draws it, the report, the jobs\n"
@@ -177,9 +148,7 @@ static const char page_page[] =
     "\n"
     "Ends as judge does, and of a table with a button as distance does.\n";
 
-static const char page_log[] =
-    "yolizadwa log TABLE LOG\n"
-    "\n"
+const char page_log[] =
     "Judges the log that a camera brings home: whether each slot went to the task\n"
     "that the table gives it to, under the log's own done reports. A log is a row\n"
     "of records, one byte of kind each, and of kind 16 one more:\n"
@@ -197,17 +166,13 @@ static const char page_log[] =
     "Ends with 0 if the log is good, 2 if the table is refused, 3 if a slot differs,\n"
     "4 if the log has a fault.\n";
 
-static const char page_show[] =
-    "yolizadwa show FILE\n"
-    "\n"
+const char page_show[] =
     "Prints the table as plain text, without comments and with one blank between\n"
     "words.\n"
     "\n"
     "Ends with 0, or 2 if the table is refused.\n";
 
-static const char page_make[] =
-    "yolizadwa make TEXT FILE\n"
-    "\n"
+const char page_make[] =
     "Writes the table file of a text, which is what a camera's program hands to the\n"
     "library; - is standard output. A FILE that is there and is no table file is not\n"
     "written over.\n"
@@ -236,23 +201,50 @@ static const char page_text[] =
     "  offset     0 to 60,000; a button has none\n"
     "  budget     from 1; the horizon is enough; 2,000,000,060,000 is for every table\n";
 
-static const struct page pages[] = {
-    {"judge", page_judge}, {"quick", page_quick}, {"distance", page_distance}, {"eased", page_eased}, {"largest", page_largest},
-    {"run", page_run},     {"draw", page_draw},   {"page", page_page},         {"log", page_log},     {"show", page_show},
-    {"make", page_make},   {"text", page_text},   {"help", usage},
-};
-
-int print_page(FILE *to, const char *word)
+static void print_row(FILE *to, const struct word *word)
 {
-    if (word == NULL) {
-        fputs(usage, to);
+    int column = fprintf(to, "  yolizadwa %s", word->form);
+    if (column > SUMS_UP_AT - 2) {
+        fputc('\n', to);
+        column = 0;
+    }
+    fprintf(to, "%*s%s\n", SUMS_UP_AT - column, "", word->sums_up);
+    if (word->sums_up_more != NULL) {
+        fprintf(to, "%*s%s\n", SUMS_UP_AT, "", word->sums_up_more);
+    }
+}
+
+static void print_overview(FILE *to)
+{
+    fputs(overview, to);
+    for (const struct word *word = word_after(NULL); word != NULL; word = word_after(word)) {
+        print_row(to, word);
+    }
+    fputs(overview_end, to);
+}
+
+static void print_word(FILE *to, const struct word *word)
+{
+    fprintf(to, "yolizadwa %s", word->form);
+    if (word->goes_to != NULL) {
+        fprintf(to, " > %s", word->goes_to);
+    }
+    fprintf(to, "\n\n%s", word->page);
+}
+
+int print_page(FILE *to, const char *name)
+{
+    if (name == NULL || strcmp(name, "help") == 0) {
+        print_overview(to);
         return 1;
     }
-    for (size_t at = 0; at < sizeof pages / sizeof pages[0]; at++) {
-        if (strcmp(pages[at].word, word) == 0) {
-            fputs(pages[at].text, to);
-            return 1;
-        }
+    if (strcmp(name, "text") == 0) {
+        fputs(page_text, to);
+        return 1;
     }
-    return 0;
+    const struct word *word = word_named(name);
+    if (word != NULL) {
+        print_word(to, word);
+    }
+    return word != NULL;
 }

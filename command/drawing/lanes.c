@@ -11,7 +11,7 @@ static uint8_t signs_at(const struct block *block, unsigned number, unsigned lon
     return block->picture->lanes[number].signs[instant - block->picture->from];
 }
 
-/* What a layer draws: stretches of slots with these of the signs that it looks at, each up to where one of the breaks stands. */
+/* A layer draws stretches of slots that have these of the signs that it looks at; a break ends a stretch. */
 struct layer {
     const char *group;
     uint8_t looks, signs, breaks;
@@ -75,14 +75,14 @@ static void put_wait(const struct block *block, unsigned number, unsigned long f
     printf("</title></path>\n");
 }
 
-/* What the job that is closed or missed here misses. */
+/* Says how many slots the job that is closed late here is missing. */
 static void put_lack(const struct block *block, unsigned number, unsigned long instant)
 {
     struct lack lack = block->picture->lanes[number].lacks[instant - block->picture->from];
     printf("<title>task %u, due at %lu: late, and %lu missing</title>", number, (unsigned long)lack.due, (unsigned long)lack.missing);
 }
 
-/* Above the boxes, so that the next job's stay to be seen. */
+/* It stands above the boxes, so that the next job's can still be seen. */
 static void put_missed(const struct block *block, unsigned number, unsigned long from, unsigned long to)
 {
     unsigned top = lane_top(block, number) + 2, height = floor_of(block, number) - box_height(block) - 2 - top;
@@ -117,7 +117,7 @@ static unsigned long marks_end(const struct block *block)
     return block->end == block->picture->to ? block->end + 1 : block->end;
 }
 
-/* The marks of a lane that have these of the signs that are looked at, as one path. */
+/* One path has all marks of a lane with these of the signs that are looked at. */
 static void put_marks(const struct block *block, unsigned number, const char *what, uint8_t looks, uint8_t signs)
 {
     unsigned long marks = 0;
@@ -141,7 +141,7 @@ static void put_all_marks(const struct block *block, const char *group, const ch
     printf("</g>\n");
 }
 
-/* Each by itself, since each misses a number of its own. */
+/* Each has a path of its own, since each is missing another number of slots. */
 static void put_closed(const struct block *block, unsigned number)
 {
     for (unsigned long instant = block->begin; instant < marks_end(block); instant++) {

@@ -1,4 +1,4 @@
-/* Texts of anybody's, a file's name above all, as texts of XML and HTML. */
+/* Any bytes, a file's name above all, as a text of XML and HTML. */
 #include "picture.h"
 
 static int follows(uint8_t byte)
@@ -6,7 +6,7 @@ static int follows(uint8_t byte)
     return byte >= 0x80 && byte < 0xC0;
 }
 
-/* How many bytes a letter has, by its first one; 0: none begins so. */
+/* Tells how many bytes a letter has, by its first one, or 0 if none begins so. */
 static unsigned letter_length(uint8_t first)
 {
     if (first < 0x80) {
@@ -18,7 +18,7 @@ static unsigned letter_length(uint8_t first)
     return first < 0xE0 ? 2 : first < 0xF0 ? 3 : 4;
 }
 
-/* No control, no letter written too long, no half of a pair, none beyond the last, and neither of the two that XML has not. */
+/* XML takes no controls, overlong forms, surrogates, nothing above U+10FFFF, and neither U+FFFE nor U+FFFF. */
 static int is_letter(const uint8_t *bytes, unsigned length)
 {
     uint8_t first = bytes[0], second = length > 1 ? bytes[1] : 0;
@@ -47,7 +47,7 @@ static void put_letter(const uint8_t *bytes, unsigned length)
     }
 }
 
-/* A zero byte ends the text and follows nothing, so that no letter reads beyond it. */
+/* A zero byte ends the text and continues no letter, so no letter reads beyond it. */
 static void put_all(const char *text, const char *line_feed)
 {
     const uint8_t *bytes = (const uint8_t *)text;

@@ -1,7 +1,7 @@
 /* A block of a drawing: where things stand in it, its axis, labels and shades. */
 #include "block.h"
 
-/* To the right of the lanes there is room for half of the longest number of the axis. */
+/* Half of the longest number of the axis has room to the right of the lanes. */
 enum { ROOM = 770, MOST_OF_A_BLOCK = 110, MOST_OF_A_SLOT = 40 };
 enum { AXIS = 26, HORIZON = 16, GAP = 18, DIGIT = 8, BOLD = 9 };
 
@@ -36,7 +36,7 @@ unsigned block_height(const struct block *block)
     return CAPTIONS + block->picture->tasks * block->lane + AXIS + (has_instant(block, block->picture->horizon) ? HORIZON : 0) + GAP;
 }
 
-/* Long windows in blocks as long as each other, but for the last, which begin at round numbers behind the first. */
+/* Blocks of a long window are equally long, but for the last, and begin at round numbers after the first. */
 static unsigned long slots_of_a_block(const struct picture *picture)
 {
     unsigned long slots = picture->to - picture->from, blocks = (slots + MOST_OF_A_BLOCK - 1) / MOST_OF_A_BLOCK;
@@ -62,7 +62,7 @@ struct block block_after(const struct block *block)
     return next;
 }
 
-/* Where the late interval begins or ends, and not where another block goes on with it. */
+/* The border stands where the late interval begins or ends, not where another block goes on with it. */
 static void put_border(const struct block *block, unsigned x, int is_border)
 {
     if (is_border) {
@@ -84,9 +84,9 @@ static void put_excess(const struct block *block)
            axis_of(block) - top);
     put_border(block, left, excess->start == from);
     put_border(block, right, excess->end == to);
-    printf("<text x=\"%u\" y=\"%u\" text-anchor=\"middle\" font-weight=\"bold\">asks for %llu, has %llu</text></g>\n",
-           middle < LEFT + half ? LEFT + half : middle > WIDE - half ? WIDE - half : middle, top - 5, (unsigned long long)excess->demand,
-           (unsigned long long)(excess->end - excess->start));
+    printf("<text x=\"%u\" y=\"%u\" text-anchor=\"middle\" font-weight=\"bold\">asks for %" PRIu64 ", has %" PRIu64 "</text></g>\n",
+           middle < LEFT + half ? LEFT + half : middle > WIDE - half ? WIDE - half : middle, top - 5, excess->demand,
+           excess->end - excess->start);
 }
 
 /* Numbers of the axis stand this many slots apart, so that none runs into the next. */
@@ -152,8 +152,8 @@ static void put_horizon(const struct block *block)
         unsigned x = x_of(block, horizon), axis = axis_of(block), wide = 90 + DIGIT * (unsigned)columns_for(horizon);
         printf("<g class=\"horizon\"><path d=\"M%u %uV%u\" stroke=\"#000\" stroke-width=\"2\" stroke-dasharray=\"2 4\"/>", x,
                block->top + CAPTIONS - 4, axis);
-        printf("<text x=\"%u\" y=\"%u\" text-anchor=\"%s\">horizon %llu</text></g>\n", x, axis + 36,
-               x + wide / 2 > WIDE ? "end" : "middle", (unsigned long long)horizon);
+        printf("<text x=\"%u\" y=\"%u\" text-anchor=\"%s\">horizon %" PRIu64 "</text></g>\n", x, axis + 36,
+               x + wide / 2 > WIDE ? "end" : "middle", horizon);
     }
 }
 
@@ -161,9 +161,9 @@ static void put_label(const struct block *block, unsigned number)
 {
     const struct task *task = &block->picture->lanes[number].task;
     unsigned y = floor_of(block, number) - 2;
-    printf("<text x=\"36\" y=\"%u\" font-weight=\"bold\">%u</text><text x=\"80\" y=\"%u\">%llu</text><text x=\"138\" y=\"%u\">%llu</text>"
-           "<text x=\"188\" y=\"%u\">%llu</text>\n",
-           y, number, y, (unsigned long long)task->cost, y, (unsigned long long)task->deadline, y, (unsigned long long)task->period);
+    printf("<text x=\"36\" y=\"%u\" font-weight=\"bold\">%u</text><text x=\"80\" y=\"%u\">%" PRIu64 "</text>"
+           "<text x=\"138\" y=\"%u\">%" PRIu64 "</text><text x=\"188\" y=\"%u\">%" PRIu64 "</text>\n",
+           y, number, y, task->cost, y, task->deadline, y, task->period);
 }
 
 static void put_labels(const struct block *block)

@@ -1,4 +1,4 @@
-/* A block of a drawing: so many slots of the window, each task's lane below the one before it, and an axis below them. */
+/* A block of a drawing: some slots of the window, each task's lane below the one before it, and an axis below them. */
 #ifndef BLOCK_H
 #define BLOCK_H
 

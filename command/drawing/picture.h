@@ -2,11 +2,11 @@
 #ifndef PICTURE_H
 #define PICTURE_H
 
-#include "command.h"
+#include "../command.h"
 
 enum { MOST_WINDOW = 2000 };
 
-/* What a lane has to show of a slot, and of the instant before it. */
+/* What a lane shows of a slot and of the instant before it. */
 enum sign {
     HAS = 1,      /* the task has the slot */
     WAITS = 2,    /* its job is open and waits */
@@ -15,10 +15,10 @@ enum sign {
     RELEASED = 16,
     DUE = 32,
     CLOSED = 64,  /* closed late */
-    BLAMED = 128  /* what is missing is missed by one of those that ask for too much */
+    BLAMED = 128  /* one of the jobs that ask for too much is missing this */
 };
 
-/* Of a job closed late: when it was due, and how many slots were missing then. */
+/* A job closed late: when it was due, and how many slots were missing then. */
 struct lack {
     uint32_t due, missing;
 };
@@ -26,7 +26,7 @@ struct lack {
 struct lane {
     struct task task;
     uint8_t signs[MOST_WINDOW + 1];
-    struct lack lacks[MOST_WINDOW + 1]; /* where it is closed or missed */
+    struct lack lacks[MOST_WINDOW + 1]; /* where the signs say CLOSED or MISSED */
     /* While the run goes by. */
     int released, blamed;
     uint64_t release;
@@ -34,12 +34,12 @@ struct lane {
 };
 
 struct picture {
-    const char *name; /* of the table; NULL: the drawing stands where that is said */
+    const char *name; /* of the table; NULL: the page around the drawing says it */
     unsigned tasks;
     unsigned long from, to; /* to 0: not chosen yet */
     int early, is_late; /* is_late: there is an excess */
-    int any_idle;       /* in the window, as are these signs, each together with others as it stands there */
-    uint8_t seen[256];
+    int any_idle;       /* in the window */
+    uint8_t seen[256];  /* which sums of signs the window has */
     struct excess excess;
     uint64_t horizon;
     struct sentence verdict;
@@ -47,7 +47,7 @@ struct picture {
     struct lane lanes[YOLIZADWA_TASKS];
 };
 
-/* One after the other: the window of the request, if it has one, or TROUBLE if it cannot be drawn; the verdict; the run. */
+/* Call them in this order. take_window tells TROUBLE if the window of the request cannot be drawn. */
 int take_window(struct picture *picture, const struct request *request);
 void take_verdict(struct picture *picture, const struct table *table, const struct report *report);
 void trace_run(struct picture *picture, const struct table *table, int early);
@@ -56,7 +56,7 @@ void trace_run(struct picture *picture, const struct table *table, int early);
 void put_drawing(const struct picture *picture);
 void put_verdict(const struct sentence *verdict);
 
-/* A text of anybody's as a text of XML: what cannot be shown is a question mark. Of lines, the line feeds stay. */
+/* Any bytes as a text of XML: a question mark stands for what cannot be shown; put_lines keeps line feeds. */
 void put_text(const char *text);
 void put_lines(const char *text);
 

@@ -14,7 +14,7 @@ struct chart {
     unsigned long slots;
     unsigned wide;                /* slots of a block */
     struct yolizadwa_state ended; /* after the last slot */
-    char rows[YOLIZADWA_TASKS][MOST_COLUMNS]; /* of each slot the instant before it, then the slot */
+    char rows[YOLIZADWA_TASKS][MOST_COLUMNS]; /* for each slot the instant before it, then the slot */
     struct job late[JOBS_SHOWN];
     unsigned long late_jobs;
     uint8_t *log; /* NULL: none is kept */
@@ -31,13 +31,13 @@ static unsigned columns(void)
     return told < LEAST_COLUMNS ? LEAST_COLUMNS : told > MOST_COLUMNS ? MOST_COLUMNS : (unsigned)told;
 }
 
-/* Whole steps of the ruler, beside the label and the instant after the last slot. */
+/* Whole steps of the ruler fit beside the label and the instant after the last slot. */
 static unsigned slots_of_a_block(void)
 {
     return (columns() - LABEL_COLUMNS - 1) / 2 / RULER_STEP * RULER_STEP;
 }
 
-/* Whether instants that come every period from the first on fall on this one. */
+/* Tells whether instants that come every period from the first on fall on this one. */
 static int falls_on(uint64_t instant, uint64_t first, uint64_t period)
 {
     return instant >= first && (instant - first) % period == 0;
@@ -64,7 +64,7 @@ static void note_late(struct chart *chart, unsigned number, uint64_t instant, ui
     chart->late_jobs++;
 }
 
-/* One step, drawn at a column. What was left before it is what a job that it closes late had missing. */
+/* A job that the step closes late was missing what it had left before the step. */
 static void draw_slot(struct chart *chart, uint64_t instant, unsigned column)
 {
     struct course *course = &chart->course;
@@ -79,7 +79,7 @@ static void draw_slot(struct chart *chart, uint64_t instant, unsigned column)
     }
 }
 
-/* What a camera writes of the slot just drawn; the report behind it is what the next step is told. */
+/* Writes what a camera does: the slot just drawn, and the done report that the next step is told. */
 static void log_slot(struct chart *chart)
 {
     if (chart->log == NULL) {
@@ -133,7 +133,7 @@ static void draw_block(struct chart *chart, unsigned long begin)
         draw_slot(chart, begin + slot, 2 * slot);
         log_slot(chart);
     }
-    /* The instant after the last slot of all is shown too; what follows it is not. */
+    /* The chart ends with the instant after the last slot of all. */
     if (left == slots) {
         chart->ended = chart->course.state;
         draw_slot(chart, chart->slots, 2 * slots);
@@ -159,12 +159,11 @@ static void list_late(const struct chart *chart)
     }
 }
 
-/* A row of the accounts, with the share in percent, rounded to tenths. */
+/* The share is in percent, rounded to tenths. */
 static void print_share(const char *whose, uint64_t had, unsigned long slots, int wide)
 {
     uint64_t tenths = (1000 * had + slots / 2) / slots;
-    printf("  %5s  %*llu  %3llu.%llu %%\n", whose, wide, (unsigned long long)had, (unsigned long long)(tenths / 10),
-           (unsigned long long)(tenths % 10));
+    printf("  %5s  %*" PRIu64 "  %3" PRIu64 ".%" PRIu64 " %%\n", whose, wide, had, tenths / 10, tenths % 10);
 }
 
 static void print_accounts(const struct chart *chart)
@@ -190,7 +189,7 @@ static void draw_chart(struct chart *chart)
     print_accounts(chart);
 }
 
-/* Three bytes for each slot are enough, and one for the end. */
+/* A slot needs at most three bytes, and the end one. */
 static int begin_log(struct chart *chart, const char *name)
 {
     chart->log = name == NULL ? NULL : malloc(3 * (size_t)chart->slots + 1);

@@ -1,0 +1,92 @@
+/* What each slot and instant of the window shows, from the dispatcher's answers and states alone. */
+#include "picture.h"
+
+/* Whether the task's last job is one of those that ask for too much. */
+static int is_meant(const struct picture *picture, const struct lane *lane)
+{
+    return picture->is_late && lane->released && lane->release >= picture->excess.start &&
+           lane->release + lane->task.deadline <= picture->excess.end;
+}
+
+/* The job before the instant is due or closed late first, then one is released. A wait of 0 is a release. */
+static uint8_t look_at_instant(const struct picture *picture, struct lane *lane, const struct course *course, unsigned number)
+{
+    uint64_t now = course->slots - 1;
+    uint8_t signs = 0;
+    if (lane->released && now == lane->release + lane->task.deadline) {
+        signs |= DUE;
+    }
+    if (course->state.late >> number & 1) {
+        signs |= CLOSED;
+        lane->lack.due = (uint32_t)now;
+        lane->lack.missing = course->before.left[number];
+        lane->blamed = is_meant(picture, lane);
+    }
+    if (course->before.wait[number] == 0) {
+        signs |= RELEASED;
+        lane->released = 1;
+        lane->release = now;
+    }
+    return signs;
+}
+
+static uint8_t look_at_slot(const struct picture *picture, const struct lane *lane, const struct course *course, unsigned number)
+{
+    uint8_t signs = 0;
+    if (course->state.last == number) {
+        signs |= HAS;
+    } else if (course->state.left[number] > 0) {
+        signs |= WAITS;
+    }
+    if (signs != 0 && is_meant(picture, lane)) {
+        signs |= MEANT;
+    }
+    if (course->slots - 1 < (uint64_t)lane->lack.due + lane->lack.missing) {
+        signs |= lane->blamed ? MISSED | BLAMED : MISSED;
+    }
+    return signs;
+}
+
+static void look_at_lane(struct picture *picture, const struct course *course, unsigned number)
+{
+    struct lane *lane = &picture->lanes[number];
+    uint64_t now = course->slots - 1;
+    uint8_t signs = look_at_instant(picture, lane, course, number);
+    if (now < picture->from) {
+        return;
+    }
+    unsigned long at = (unsigned long)now - picture->from;
+    if (now < picture->to) {
+        signs |= look_at_slot(picture, lane, course, number);
+    }
+    lane->signs[at] = signs;
+    lane->lacks[at] = lane->lack;
+    picture->seen[signs] = 1;
+}
+
+static void trace_slot(struct picture *picture, struct course *course)
+{
+    if (course->slots >= picture->from) {
+        picture->idle[course->slots - picture->from] = (uint8_t)is_idle(course);
+        picture->any_idle |= is_idle(course);
+    }
+    take_slot(course);
+    for (unsigned number = 0; number < picture->tasks; number++) {
+        look_at_lane(picture, course, number);
+    }
+}
+
+/* The instant after the last slot is shown too, so one more step is taken. */
+void trace_run(struct picture *picture, const struct table *table, int early)
+{
+    struct course course;
+    begin_course(&course, table, early);
+    picture->early = early;
+    picture->tasks = course.tasks;
+    for (unsigned number = 0; number < course.tasks; number++) {
+        picture->lanes[number].task = course.task[number];
+    }
+    while (course.slots <= picture->to) {
+        trace_slot(picture, &course);
+    }
+}

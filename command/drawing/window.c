@@ -1,0 +1,78 @@
+/* Which window of the run is drawn: what the request asks for, the late interval, or the first slots. */
+#include "picture.h"
+
+enum { USUAL_WINDOW = 200, AROUND = 10 };
+
+static unsigned long within_run(uint64_t instant)
+{
+    return instant > MOST_SLOTS ? MOST_SLOTS : (unsigned long)instant;
+}
+
+static unsigned long shortly_before(uint64_t instant)
+{
+    return (unsigned long)(instant > AROUND ? instant - AROUND : 0);
+}
+
+/* Shows the end of a long interval, since a job is late there. */
+static void show_excess(struct picture *picture)
+{
+    picture->from = shortly_before(picture->excess.start);
+    picture->to = within_run(picture->excess.end + AROUND);
+    if (picture->to - picture->from > USUAL_WINDOW) {
+        picture->from = picture->to - USUAL_WINDOW;
+    }
+    if (picture->to - picture->from < LEAST_USUAL) {
+        picture->to = within_run(picture->from + LEAST_USUAL);
+        picture->from = picture->to - LEAST_USUAL;
+    }
+}
+
+static uint64_t first_release(const struct table *table)
+{
+    uint64_t first = UINT64_MAX;
+    for (unsigned number = 0; number < task_count(table); number++) {
+        struct task task = task_at(table, number);
+        first = task.offset < first ? task.offset : first;
+    }
+    return first;
+}
+
+/* Shows shortly before the first release up to the horizon, within what is good to look at. */
+static void show_first(struct picture *picture, const struct table *table)
+{
+    uint64_t from = shortly_before(first_release(table)), slots = picture->horizon > from ? picture->horizon - from : 0;
+    picture->from = (unsigned long)from;
+    picture->to = (unsigned long)(from + (slots < LEAST_USUAL ? LEAST_USUAL : slots > USUAL_WINDOW ? USUAL_WINDOW : slots));
+}
+
+int take_window(struct picture *picture, const struct request *request)
+{
+    unsigned long from = request->from, to = request->to > 0 ? request->to : from + USUAL_WINDOW;
+    if (!request->from_told && request->to == 0) {
+        return DONE;
+    }
+    if (from >= to) {
+        return trouble("there is no slot from %lu to %lu: --from is the first slot, --to the instant after the last", from, to);
+    }
+    if (to - from > MOST_WINDOW) {
+        return trouble("from %lu to %lu there are more slots than the 2000 that can be drawn", from, to);
+    }
+    picture->from = from;
+    picture->to = within_run(to);
+    return DONE;
+}
+
+void take_verdict(struct picture *picture, const struct table *table, const struct report *report)
+{
+    picture->is_late = report_excess(report, &picture->excess);
+    picture->horizon = report_number(report, "\nhorizon ");
+    word_verdict(table, report, &picture->verdict);
+    if (picture->to > 0) {
+        return;
+    }
+    if (picture->is_late && picture->excess.end <= MOST_SLOTS) {
+        show_excess(picture);
+    } else {
+        show_first(picture, table);
+    }
+}

@@ -1,0 +1,54 @@
+/* The one list of words, in the order in which help and errors name them. */
+#include <string.h>
+
+#include "words.h"
+
+static const struct word words[] = {
+    {.name = "judge", .form = "judge FILE [--all] [--plainly]", .sums_up = "whether every job is in time",
+     .files = 1, .options = {"--all", "--plainly"}, .act = judge, .page = page_judge},
+    {.name = "quick", .form = "quick FILE", .sums_up = "an answer at once, or none",
+     .files = 1, .act = quick, .page = page_quick},
+    {.name = "distance", .form = "distance FILE", .sums_up = "an answer by the offsets and for", .sums_up_more = "buttons, or none",
+     .files = 1, .act = distance, .page = page_distance},
+    {.name = "eased", .form = "eased OLD NEW", .sums_up = "whether NEW is OLD made easier",
+     .files = 2, .act = eased, .page = page_eased},
+    {.name = "largest", .form = "largest FILE [TASK]", .sums_up = "how far a cost may grow",
+     .files = 1, .takes_task = 1, .act = largest, .page = page_largest},
+    {.name = "run", .form = "run FILE [--slots N] [--early] [--log LOG]", .sums_up = "a chart of who has each slot",
+     .files = 1, .options = {"--slots", "--early", "--log"}, .act = run, .page = page_run},
+    {.name = "draw", .form = "draw FILE [--from A] [--to B] [--early]", .sums_up = "the run as a picture, in SVG",
+     .files = 1, .options = {"--from", "--to", "--early"}, .act = draw, .page = page_draw, .goes_to = "run.svg"},
+    {.name = "page", .form = "page FILE", .sums_up = "all of it on a page, in HTML",
+     .files = 1, .act = page, .page = page_page, .goes_to = "table.html"},
+    {.name = "log", .form = "log TABLE LOG", .sums_up = "whether a camera's log is the table's",
+     .files = 2, .act = judge_log, .page = page_log},
+    {.name = "show", .form = "show FILE", .sums_up = "the table as plain text",
+     .files = 1, .act = show, .page = page_show},
+    {.name = "make", .form = "make TEXT FILE", .sums_up = "the table file of a text",
+     .files = 2, .act = make, .page = page_make},
+};
+
+const struct word *word_after(const struct word *word)
+{
+    const struct word *next = word == NULL ? words : word + 1;
+    return next < words + sizeof words / sizeof words[0] ? next : NULL;
+}
+
+const struct word *word_named(const char *name)
+{
+    const struct word *word = word_after(NULL);
+    while (word != NULL && strcmp(word->name, name) != 0) {
+        word = word_after(word);
+    }
+    return word;
+}
+
+const char *word_names(void)
+{
+    static char names[256];
+    size_t len = 0;
+    for (const struct word *word = word_after(NULL); word != NULL && len < sizeof names; word = word_after(word)) {
+        len += (size_t)snprintf(names + len, sizeof names - len, "%s%s", len == 0 ? "" : ", ", word->name);
+    }
+    return names;
+}
