@@ -35,7 +35,8 @@ fn start_table(table: Table, state: &mut [u8]) -> u64
         Admission::Refused(why) => numbers::refusal_number(why),
         Admission::Admitted => {
             let dispatcher = started.dispatcher;
-            statebuffer::write_state(state, dispatcher, quiet());
+            let first = dispatcher.state;
+            statebuffer::write_state(state, first, quiet());
             0
         }
     }
@@ -67,14 +68,16 @@ fn step_table(table: Table, state: &mut [u8], done: u32) -> u64
     requires { ⌜ length (now state) ≡ stateBytes ⌝ }
     ensures { λ r. ⌜ exported r (now (state .exit)) ≡ (let s = stepped table (stateIn (now (state .entry))) (not (eqb done 0)) in stepWritten (now (state .entry)) (s .state) (s .answer)) ⌝ }
 {
-    let dispatcher = statebuffer::state_in(state);
+    let held = statebuffer::state_in(state);
+    let dispatcher = Dispatcher { state: held };
     let stepped = dispatcher.step(table, said_done(done));
     let answer = stepped.answer;
     match answer {
         SlotAnswer::Refused(why) => numbers::refusal_number(why),
         SlotAnswer::Slot(turn) => {
             let next = stepped.next;
-            statebuffer::write_state(state, next, turn);
+            let after = next.state;
+            statebuffer::write_state(state, after, turn);
             turn.owner as u64
         }
     }

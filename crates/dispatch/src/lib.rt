@@ -13,7 +13,7 @@ ghost use Rattle.model.specs.Tasks.{offset};
 ghost use Rattle.model.specs.Dispatcher.{firstStrange, refuseStep, started, stepped};
 ghost use Rattle.wellformed.specs.Ranges.{Ranged};
 ghost use Rattle.slots.specs.Slot.{closed};
-ghost use Rattle.dispatch.specs.State.{stateOf, startedOf, steppedOf};
+ghost use Rattle.dispatch.specs.State.{startedOf, steppedOf};
 ghost use Rattle.dispatch.specs.Strange.{strangeAt};
 ghost use Rattle.dispatch.specs.Accounts.{roomFor, belonging, counted};
 ghost use Rattle.dispatch.specs.Step.{Unpacked, Unrefused, stateWith, Advanced, taken, stepWellFormed, turnOf};
@@ -25,6 +25,7 @@ use values::Judgement;
 use values::Refusal;
 use values::SLOT_COUNT_LIMIT;
 use values::SlotAnswer;
+use values::State;
 use values::TASK_LIMIT;
 use values::Table;
 use values::Task;
@@ -36,14 +37,8 @@ const SUM_PLACE: u32 = NO_TASK + 1;
 // A number of slots for each task.
 pub type Counts = [u64; TASK_LIMIT];
 
-// For each task its wait, the slots until its next release, and the slots left to its open job; which task ran last; the
-// slots given to each task, and the empty ones.
 pub struct Dispatcher {
-    pub wait: Numbers,
-    pub left: Numbers,
-    pub last: u32,
-    pub given: Counts,
-    pub empty: u64,
+    pub state: State,
 }
 
 pub struct Started {
@@ -66,21 +61,25 @@ impl Dispatcher {
             Judgement::Refused(refusal) => Started {
                 admission: Admission::Refused(refusal),
                 dispatcher: Dispatcher {
-                    wait: [0u32; TASK_LIMIT],
-                    left,
-                    last: 0,
-                    given,
-                    empty: 0,
+                    state: State {
+                        wait: [0u32; TASK_LIMIT],
+                        left,
+                        last: 0,
+                        given,
+                        empty: 0,
+                    },
                 },
             },
             Judgement::WellFormed(_) => Started {
                 admission: Admission::Admitted,
                 dispatcher: Dispatcher {
-                    wait: slots::offsets(t),
-                    left,
-                    last: NO_TASK,
-                    given,
-                    empty: 0,
+                    state: State {
+                        wait: slots::offsets(t),
+                        left,
+                        last: NO_TASK,
+                        given,
+                        empty: 0,
+                    },
                 },
             },
         }
@@ -88,21 +87,22 @@ impl Dispatcher {
 
     // A refused step hands the state back as it came.
     pub fn step(self, t: Table, done: bool) -> Stepped
-        ensures { λ r. ⌜ steppedOf r ≡ stepped t (stateOf self) done ⌝ }
+        ensures { λ r. ⌜ steppedOf r ≡ stepped t (self .state) done ⌝ }
     {
+        let state = self.state;
         match table::judge(t) {
-            Judgement::Refused(why) => handed_back(self, why),
-            Judgement::WellFormed(_) => step_well_formed(self, t, done),
+            Judgement::Refused(why) => handed_back(state, why),
+            Judgement::WellFormed(_) => step_well_formed(state, t, done),
         }
     }
 }
 
-fn handed_back(d: Dispatcher, why: Refusal) -> Stepped
-    ensures { λ r. ⌜ steppedOf r ≡ refuseStep why (stateOf d) ⌝ }
+fn handed_back(d: State, why: Refusal) -> Stepped
+    ensures { λ r. ⌜ steppedOf r ≡ refuseStep why d ⌝ }
 {
     Stepped {
         answer: SlotAnswer::Refused(why),
-        next: d,
+        next: Dispatcher { state: d },
     }
 }
 
@@ -112,9 +112,9 @@ pub enum Room {
     Slots(u64),
 }
 
-fn step_well_formed(d: Dispatcher, t: Table, done: bool) -> Stepped
+fn step_well_formed(d: State, t: Table, done: bool) -> Stepped
     requires { ⌜ Ranged t ⌝ }
-    ensures { λ r. ⌜ steppedOf r ≡ stepWellFormed t (stateOf d) done ⌝ }
+    ensures { λ r. ⌜ steppedOf r ≡ stepWellFormed t d done ⌝ }
 {
     match belonging(d, t) {
         Room::Refused(why) => handed_back(d, why),
@@ -123,9 +123,9 @@ fn step_well_formed(d: Dispatcher, t: Table, done: bool) -> Stepped
 }
 
 // The places of 8, in their order.
-pub fn belonging(d: Dispatcher, t: Table) -> Room
+pub fn belonging(d: State, t: Table) -> Room
     requires { ⌜ t .count ≤ taskLimit ⌝ }
-    ensures { λ r. ⌜ r ≡ belonging t (stateOf d) ⌝ }
+    ensures { λ r. ⌜ r ≡ belonging t d ⌝ }
 {
     let stranger = first_strange(d, t);
     if stranger < t.count {
@@ -161,9 +161,9 @@ fn room_for(given: &Counts, empty: u64, n: usize) -> Room
     Room::Slots(room)
 }
 
-fn first_strange(d: Dispatcher, t: Table) -> usize
+fn first_strange(d: State, t: Table) -> usize
     requires { ⌜ t .count ≤ taskLimit ⌝ }
-    ensures { λ r. ⌜ r ≡ firstStrange t (stateOf d) ⌝ }
+    ensures { λ r. ⌜ r ≡ firstStrange t d ⌝ }
 {
     let n = t.count;
     for i in 0..n {
@@ -206,10 +206,10 @@ fn last_strange(last: u32, n: usize) -> bool
 }
 
 // A state that belongs to the table: refused by 9 if it can count no slot more.
-fn step_admitted(d: Dispatcher, t: Table, room: u64, done: bool) -> Stepped
+fn step_admitted(d: State, t: Table, room: u64, done: bool) -> Stepped
     requires { ⌜ Ranged t ⌝ }
-    requires { ⌜ belonging t (stateOf d) ≡ Room.Slots room ⌝ }
-    ensures { λ r. ⌜ steppedOf r ≡ stepWellFormed t (stateOf d) done ⌝ }
+    requires { ⌜ belonging t d ≡ Room.Slots room ⌝ }
+    ensures { λ r. ⌜ steppedOf r ≡ stepWellFormed t d done ⌝ }
 {
     if room == 0 {
         return handed_back(
@@ -230,7 +230,7 @@ fn step_admitted(d: Dispatcher, t: Table, room: u64, done: bool) -> Stepped
 
 // The four rules of a step that nothing refuses, on a table that is unpacked, and the slot counted.
 fn step_taken(
-    d: Dispatcher,
+    d: State,
     period: &Numbers,
     cost: &Numbers,
     slack: &Numbers,
@@ -238,8 +238,8 @@ fn step_taken(
     n: usize,
     done: bool,
 ) -> Stepped
-    requires { ⌜ ((t : Table) × Unpacked t (now period) (now cost) (now slack) (now rank) n × Unrefused t (stateOf d)) ⌝ }
-    ensures { λ r. ⌜ ((t : Table) → Unpacked t (now (period .entry)) (now (cost .entry)) (now (slack .entry)) (now (rank .entry)) n → Unrefused t (stateOf d) → steppedOf r ≡ taken t (stateOf d) done) ⌝ }
+    requires { ⌜ ((t : Table) × Unpacked t (now period) (now cost) (now slack) (now rank) n × Unrefused t d) ⌝ }
+    ensures { λ r. ⌜ ((t : Table) → Unpacked t (now (period .entry)) (now (cost .entry)) (now (slack .entry)) (now (rank .entry)) n → Unrefused t d → steppedOf r ≡ taken t d done) ⌝ }
 {
     let wait = d.wait;
     let left = d.left;
@@ -252,11 +252,13 @@ fn step_taken(
     Stepped {
         answer: SlotAnswer::Slot(turn_of(owner, moved.late)),
         next: Dispatcher {
-            wait,
-            left,
-            last: owner,
-            given,
-            empty: count_empty(d.empty, owner),
+            state: State {
+                wait,
+                left,
+                last: owner,
+                given,
+                empty: count_empty(d.empty, owner),
+            },
         },
     }
 }

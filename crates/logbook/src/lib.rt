@@ -9,7 +9,6 @@ ghost use Rattle.values.specs.declared.Finding.{Finding};
 ghost use Rattle.model.specs.Limits.{taskLimit, logLimit};
 ghost use Rattle.model.specs.Log.{Log as LogState, logStarted, fed, logFinished, logAdmitted, atEnd, readAll};
 ghost use Rattle.model.specs.LogMeaning.{Final};
-ghost use Rattle.dispatch.specs.State.{stateOf};
 ghost use Rattle.dispatch.specs.Step.{Unpacked, stateWith};
 ghost use Rattle.logbook.specs.State.{joined, logStateOf, fedOf};
 ghost use Rattle.logbook.specs.Bytes.{Readable, ReadTo, endsSlot, isDue, slotOn, stoppedAt, passedOn, doneHeard, kindHeard, otherRead, logBelonging};
@@ -26,6 +25,7 @@ use values::Judgement;
 use values::LOG_LIMIT;
 use values::Refusal;
 use values::SLOT_COUNT_LIMIT;
+use values::State;
 use values::Table;
 
 // A block whose lists are spoilt is read twice, so it is short.
@@ -45,7 +45,7 @@ pub struct Reading {
 }
 
 pub struct Log {
-    pub dispatcher: Dispatcher,
+    pub state: State,
     pub reading: Reading,
 }
 
@@ -61,10 +61,11 @@ impl Log {
         let started = Dispatcher::start(t);
         let admission = started.admission;
         let dispatcher = started.dispatcher;
+        let state = dispatcher.state;
         Fed {
             admission,
             log: Log {
-                dispatcher,
+                state,
                 reading: Reading {
                     opened: false,
                     done: false,
@@ -124,8 +125,8 @@ fn belonging(log: Log, t: Table) -> Admission
     requires { ⌜ t .count ≤ taskLimit ⌝ }
     ensures { λ r. ⌜ r ≡ logBelonging t (logStateOf log) ⌝ }
 {
-    let dispatcher = log.dispatcher;
-    match dispatch::belonging(dispatcher, t) {
+    let state = log.state;
+    match dispatch::belonging(state, t) {
         Room::Refused(why) => Admission::Refused(why),
         Room::Slots(room) => {
             if miscounted(
@@ -157,13 +158,13 @@ fn miscounted(slots: u64, bytes: u64, counted: u64) -> bool
 
 fn close(log: Log) -> Log
     requires { ⌜ log .reading .bytes ≤ logLimit ⌝ }
-    ensures { λ r. ⌜ logStateOf r ≡ joined (stateOf (log .dispatcher)) (stoppedAt (log .reading) (atEnd (log .reading .bytes) (log .reading .found))) ⌝ }
+    ensures { λ r. ⌜ logStateOf r ≡ joined (log .state) (stoppedAt (log .reading) (atEnd (log .reading .bytes) (log .reading .found))) ⌝ }
 {
-    let dispatcher = log.dispatcher;
+    let state = log.state;
     let reading = log.reading;
     let found = reading.found;
     Log {
-        dispatcher,
+        state,
         reading: found_in(reading, at_end(reading.bytes, found)),
     }
 }
@@ -275,7 +276,7 @@ fn read_in_place(
     ensures within { λ r. ⌜ r .at ≤ to ⌝ }
     ensures read { λ r. ⌜ ((t : Table) (start : LogState) → Unpacked t (now (period .entry)) (now (cost .entry)) (now (slack .entry)) (now (rank .entry)) n → ReadTo t start (now (piece .entry)) from (logStateOf log) → ReadTo t start (now (piece .entry)) (r .at) (logStateOf (r .log))) ⌝ }
 {
-    let d = log.dispatcher;
+    let d = log.state;
     let mut wait = d.wait;
     let mut left = d.left;
     let mut last = d.last;
@@ -348,7 +349,7 @@ fn read_bytes(
     requires { ⌜ ((t : Table) × (start : LogState) × Unpacked t (now period) (now cost) (now slack) (now rank) n × ReadTo t start (now piece) from (logStateOf log)) ⌝ }
     ensures { λ r. ⌜ ((t : Table) (start : LogState) → Unpacked t (now (period .entry)) (now (cost .entry)) (now (slack .entry)) (now (rank .entry)) n → ReadTo t start (now (piece .entry)) from (logStateOf log) → ReadTo t start (now (piece .entry)) to (logStateOf r)) ⌝ }
 {
-    let d = log.dispatcher;
+    let d = log.state;
     let mut wait = d.wait;
     let mut left = d.left;
     let mut last = d.last;
@@ -397,7 +398,7 @@ fn log_of(
     ensures { λ r. ⌜ logStateOf r ≡ joined (stateWith wait left last given empty) reading ⌝ }
 {
     Log {
-        dispatcher: Dispatcher {
+        state: State {
             wait,
             left,
             last,

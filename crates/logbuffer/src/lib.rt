@@ -35,12 +35,9 @@ pub fn log_in(buffer: &[u8]) -> Log
     requires { ⌜ length (now buffer) ≡ logBytes ⌝ }
     ensures { λ r. ⌜ logStateOf r ≡ logIn (now (buffer .entry)) ⌝ }
 {
-    let dispatcher = statebuffer::state_in(buffer);
+    let state = statebuffer::state_in(buffer);
     let reading = reading_in(buffer);
-    Log {
-        dispatcher,
-        reading,
-    }
+    Log { state, reading }
 }
 
 fn reading_in(buffer: &[u8]) -> Reading
@@ -115,9 +112,9 @@ pub fn write_log(buffer: &mut [u8], log: Log)
     requires { ⌜ length (now buffer) ≡ logBytes ⌝ }
     ensures { λ r. ⌜ now (buffer .exit) ≡ logBufferOf (logStateOf log) ⌝ }
 {
-    let dispatcher = log.dispatcher;
+    let state = log.state;
     let reading = log.reading;
-    let at = statebuffer::put_state(buffer, dispatcher, quiet());
+    let at = statebuffer::put_state(buffer, state, quiet());
     let at = put_words(buffer, at, reading);
     let at = words::put_long(buffer, at, reading.slots);
     words::put_long(buffer, at, reading.bytes);

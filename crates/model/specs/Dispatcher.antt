@@ -5,15 +5,9 @@ use Rattle.model.specs.Values.{Table, Refusal, Judgement, Admission, Tur
 use Rattle.model.specs.Limits.{taskLimit, slotCountLimit, sumPlace}
 use Rattle.model.specs.Tasks.{task, judged, offset}
 use Rattle.model.specs.Run.{Order, tieOrder, choose}
-
 -- For each task the slots until its next release, and those that its open job may still use;
 -- which task ran last, or `taskLimit`; and the slots that were given to each task, and those that were empty.
-pub record State : Type 0 where
-  pub wait : List ℕ
-  pub left : List ℕ
-  pub last : ℕ
-  pub given : List ℕ
-  pub empty : ℕ
+pub use Rattle.values.specs.declared.State.{State}
 
 -- A started dispatcher; a step's answer and the successor.
 pub record Started : Type 0 where

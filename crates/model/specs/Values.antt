@@ -18,6 +18,7 @@ pub use Rattle.values.specs.declared.Admission.{Admission}
 pub use Rattle.values.specs.declared.Contents.{Contents}
 pub use Rattle.values.specs.declared.Writing.{Writing}
 pub use Rattle.values.specs.declared.Line.{Line}
+pub use Rattle.values.specs.declared.State.{State}
 pub use Rattle.values.specs.declared.Turn.{Turn}
 pub use Rattle.values.specs.declared.SlotAnswer.{SlotAnswer}
 pub use Rattle.values.specs.declared.Finding.{Finding}

@@ -2,21 +2,18 @@
 use mathlib.Core.Path.{_≡_, ap}
 use Rattle.model.specs.Dispatcher.{Started as StartedState}
 use Rattle.model.specs.Presses.{Pressed as PressedState}
-use Rattle.dispatch.specs.State.{stateOf, back}
 use Rattle.presses.specs.declared.Started.{Started}
 use Rattle.presses.specs.declared.Pressed.{Pressed}
 
 abbrev pub startedOf : Started → StartedState
-startedOf r = record { admission = r .admission; state = stateOf (r .presses .state) }
+startedOf r = record { admission = r .admission; state = r .presses .state }
 
 abbrev pub pressedOf : Pressed → PressedState
-pressedOf r = record { answer = r .answer; untaken = r .untaken; state = stateOf (r .next .state) }
+pressedOf r = record { answer = r .answer; untaken = r .untaken; state = r .next .state }
 
 -- Two values that are the same in the model are the same.
 pub one-started : (a b : Started) → startedOf a ≡ startedOf b → a ≡ b
-unfolding back
-one-started a b e = ap (λ (x : StartedState). record { admission = x .admission; presses = record { state = back (x .state) } }) e
+one-started a b e = ap (λ (x : StartedState). record { admission = x .admission; presses = record { state = x .state } }) e
 
 pub one-pressed : (a b : Pressed) → pressedOf a ≡ pressedOf b → a ≡ b
-unfolding back
-one-pressed a b e = ap (λ (x : PressedState). record { answer = x .answer; untaken = x .untaken; next = record { state = back (x .state) } }) e
+one-pressed a b e = ap (λ (x : PressedState). record { answer = x .answer; untaken = x .untaken; next = record { state = x .state } }) e

@@ -3,10 +3,8 @@ ghost use mathlib.Core.Path.{_≡_};
 ghost use Rattle.model.specs.Presses.{startedMixed, refusePressed, pressTaken, steppedPressed};
 ghost use Rattle.wellformed.specs.Ranges.{Ranged};
 ghost use Rattle.dispatch.specs.Accounts.{belonging};
-ghost use Rattle.dispatch.specs.State.{stateOf};
 ghost use Rattle.presses.specs.State.{startedOf, pressedOf};
 ghost use Rattle.presses.specs.Step.{Pressable, pressWellFormed, Advanced};
-use dispatch::Dispatcher;
 use dispatch::Room;
 use slots::NO_TASK;
 use slots::Numbers;
@@ -14,12 +12,13 @@ use values::Admission;
 use values::Judgement;
 use values::Refusal;
 use values::SlotAnswer;
+use values::State;
 use values::TASK_LIMIT;
 use values::Table;
 
 // A dispatcher's state. A button's wait is the slots until it may be pressed again.
 pub struct Presses {
-    pub state: Dispatcher,
+    pub state: State,
 }
 
 pub struct Started {
@@ -44,7 +43,7 @@ impl Presses {
             Judgement::Refused(refusal) => Started {
                 admission: Admission::Refused(refusal),
                 presses: Presses {
-                    state: Dispatcher {
+                    state: State {
                         wait: [0u32; TASK_LIMIT],
                         left,
                         last: 0,
@@ -56,7 +55,7 @@ impl Presses {
             Judgement::WellFormed(_) => Started {
                 admission: Admission::Admitted,
                 presses: Presses {
-                    state: Dispatcher {
+                    state: State {
                         wait: slots::offsets(t),
                         left,
                         last: NO_TASK,
@@ -70,7 +69,7 @@ impl Presses {
 
     // A refused step takes no press, and hands the state back as it came.
     pub fn step(self, t: Table, done: bool, pressed: u32) -> Pressed
-        ensures { λ r. ⌜ pressedOf r ≡ steppedPressed t (stateOf (self .state)) done pressed ⌝ }
+        ensures { λ r. ⌜ pressedOf r ≡ steppedPressed t (self .state) done pressed ⌝ }
     {
         let state = self.state;
         match table::judge_mixed(t) {
@@ -80,8 +79,8 @@ impl Presses {
     }
 }
 
-fn handed_back(d: Dispatcher, why: Refusal, pressed: u32) -> Pressed
-    ensures { λ r. ⌜ pressedOf r ≡ refusePressed why (stateOf d) pressed ⌝ }
+fn handed_back(d: State, why: Refusal, pressed: u32) -> Pressed
+    ensures { λ r. ⌜ pressedOf r ≡ refusePressed why d pressed ⌝ }
 {
     Pressed {
         answer: SlotAnswer::Refused(why),
@@ -90,9 +89,9 @@ fn handed_back(d: Dispatcher, why: Refusal, pressed: u32) -> Pressed
     }
 }
 
-fn step_well_formed(d: Dispatcher, t: Table, done: bool, pressed: u32) -> Pressed
+fn step_well_formed(d: State, t: Table, done: bool, pressed: u32) -> Pressed
     requires { ⌜ Ranged t ⌝ }
-    ensures { λ r. ⌜ pressedOf r ≡ pressWellFormed t (stateOf d) done pressed ⌝ }
+    ensures { λ r. ⌜ pressedOf r ≡ pressWellFormed t d done pressed ⌝ }
 {
     match dispatch::belonging(d, t) {
         Room::Refused(why) => handed_back(d, why, pressed),
@@ -101,10 +100,10 @@ fn step_well_formed(d: Dispatcher, t: Table, done: bool, pressed: u32) -> Presse
 }
 
 // A state that belongs to the table: refused by 9 if it can count no slot more.
-fn step_admitted(d: Dispatcher, t: Table, room: u64, done: bool, pressed: u32) -> Pressed
+fn step_admitted(d: State, t: Table, room: u64, done: bool, pressed: u32) -> Pressed
     requires { ⌜ Ranged t ⌝ }
-    requires { ⌜ belonging t (stateOf d) ≡ Room.Slots room ⌝ }
-    ensures { λ r. ⌜ pressedOf r ≡ pressWellFormed t (stateOf d) done pressed ⌝ }
+    requires { ⌜ belonging t d ≡ Room.Slots room ⌝ }
+    ensures { λ r. ⌜ pressedOf r ≡ pressWellFormed t d done pressed ⌝ }
 {
     if room == 0 {
         return handed_back(
@@ -120,9 +119,9 @@ fn step_admitted(d: Dispatcher, t: Table, room: u64, done: bool, pressed: u32) -
 }
 
 // A step that nothing refuses, and the slot counted.
-fn step_taken(d: Dispatcher, t: Table, done: bool, pressed: u32) -> Pressed
-    requires { ⌜ Pressable t (stateOf d) ⌝ }
-    ensures { λ r. ⌜ pressedOf r ≡ pressTaken t (stateOf d) done pressed ⌝ }
+fn step_taken(d: State, t: Table, done: bool, pressed: u32) -> Pressed
+    requires { ⌜ Pressable t d ⌝ }
+    ensures { λ r. ⌜ pressedOf r ≡ pressTaken t d done pressed ⌝ }
 {
     let mut given = d.given;
     let moved = advance(d, t, done, pressed);
@@ -134,7 +133,7 @@ fn step_taken(d: Dispatcher, t: Table, done: bool, pressed: u32) -> Pressed
         answer: SlotAnswer::Slot(dispatch::turn_of(owner, moved.late)),
         untaken: moved.untaken,
         next: Presses {
-            state: Dispatcher {
+            state: State {
                 wait,
                 left,
                 last: owner,
@@ -155,9 +154,9 @@ pub struct Moved {
 }
 
 // A free button that nobody presses gets wait 1 first: `serve` then releases no job of it, and leaves it free.
-fn advance(d: Dispatcher, t: Table, done: bool, pressed: u32) -> Moved
-    requires { ⌜ Pressable t (stateOf d) ⌝ }
-    ensures { λ r. ⌜ Advanced t (stateOf d) done pressed r ⌝ }
+fn advance(d: State, t: Table, done: bool, pressed: u32) -> Moved
+    requires { ⌜ Pressable t d ⌝ }
+    ensures { λ r. ⌜ Advanced t d done pressed r ⌝ }
 {
     let columns = slots::unpack(t);
     let period = columns.period;

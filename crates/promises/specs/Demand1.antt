@@ -34,7 +34,7 @@ use Rattle.model.specs.Dispatcher.{turnBy, started, stepped, steppedBy, isLate,
 use Rattle.dispatch.specs.declared.Dispatcher.{Dispatcher}
 use Rattle.dispatch.specs.declared.Started.{Started}
 use Rattle.dispatch.specs.declared.Stepped.{Stepped}
-use Rattle.dispatch.specs.State.{stateOf, startedOf, steppedOf, one-started, one-stepped}
+use Rattle.dispatch.specs.State.{startedOf, steppedOf, one-started, one-stepped}
 use Rattle.model.specs.Report.{Exported, refused, written, FileTold, Checked, refusalLine, Printed}
 use Rattle.model.specs.Notation.{count, first, bits}
 use Rattle.wellformed.specs.Round.{round-pos, period-divides, round-least}
@@ -79,7 +79,7 @@ pub one-start : (t : Table) (a b : Started) → startedOf a ≡ started t → st
 one-start t a b e f = one-started a b (e ∙ sym f)
 
 pub one-step : (t : Table) (d : Dispatcher) (done : Bool) (a b : Stepped)
-    → steppedOf a ≡ stepped t (stateOf d) done → steppedOf b ≡ stepped t (stateOf d) done → a ≡ b
+    → steppedOf a ≡ stepped t (d .state) done → steppedOf b ≡ stepped t (d .state) done → a ≡ b
 one-step t d done a b e f = one-stepped a b (e ∙ sym f)
 
 -- A table is well-formed exactly if it keeps its ranges (it has 1 to `taskLimit` tasks,

@@ -26,7 +26,6 @@ use Rattle.model.specs.History.{stateAt, ownerAt}
 use Rattle.model.specs.Presses.{Pressed, startedMixed, admittedMixed, notTaken, comes, afterCome, refusePressed, pressTaken}
 use Rattle.model.specs.Presses.{steppedPressed}
 use Rattle.model.specs.Presses.{stateUnder, arrivals, ownerUnder, turnUnder, hadUnder, FinishedUnder}
-use Rattle.dispatch.specs.State.{stateOf}
 use Rattle.presses.specs.declared.Presses.{Presses}
 use Rattle.presses.specs.declared.Started.{Started as StartedCall}
 use Rattle.presses.specs.declared.Pressed.{Pressed as PressedCall}
@@ -55,8 +54,8 @@ pub one-press-start : (t : Table) (a b : StartedCall) → startedOf a ≡ starte
 one-press-start t a b e f = one-started a b (e ∙ sym f)
 
 pub one-press-step : (t : Table) (d : Presses) (done : Bool) (pressed : ℕ) (a b : PressedCall)
-    → pressedOf a ≡ steppedPressed t (stateOf (d .state)) done pressed
-    → pressedOf b ≡ steppedPressed t (stateOf (d .state)) done pressed → a ≡ b
+    → pressedOf a ≡ steppedPressed t ((d .state)) done pressed
+    → pressedOf b ≡ steppedPressed t ((d .state)) done pressed → a ≡ b
 one-press-step t d done pressed a b e f = one-pressed a b (e ∙ sym f)
 
 -- A start is refused as its table is. A refused step hands the state back as it came, and takes no press.

@@ -6,10 +6,9 @@ ghost use Rattle.model.specs.Limits.{taskLimit};
 ghost use Rattle.model.specs.TableFile.{bytesOf};
 ghost use Rattle.model.specs.StateBuffer.{stateBytes, halves, bufferOf, wordsIn, countsIn, stateIn};
 ghost use Rattle.counting.specs.Put.{Put};
-ghost use Rattle.dispatch.specs.State.{stateOf};
 use dispatch::Counts;
-use dispatch::Dispatcher;
 use slots::Numbers;
+use values::State;
 use values::TASK_LIMIT;
 use values::Turn;
 
@@ -25,14 +24,14 @@ const COUNTS_AT: usize = LAST_AT + 4 * WORD_BYTES;
 const EMPTY_AT: usize = COUNTS_AT + TASK_LIMIT * COUNT_BYTES;
 
 // The state at the front of a buffer.
-pub fn state_in(buffer: &[u8]) -> Dispatcher
+pub fn state_in(buffer: &[u8]) -> State
     requires { ⌜ stateBytes ≤ length (now buffer) ⌝ }
-    ensures { λ r. ⌜ stateOf r ≡ stateIn (now (buffer .entry)) ⌝ }
+    ensures { λ r. ⌜ r ≡ stateIn (now (buffer .entry)) ⌝ }
 {
     let wait = words_in(buffer, 0);
     let left = words_in(buffer, TASK_LIMIT * WORD_BYTES);
     let given = counts_in(buffer, COUNTS_AT);
-    Dispatcher {
+    State {
         wait,
         left,
         last: words::word_at(buffer, LAST_AT),
@@ -63,17 +62,17 @@ fn counts_in(buffer: &[u8], at: usize) -> Counts
     counts
 }
 
-pub fn write_state(buffer: &mut [u8], d: Dispatcher, turn: Turn)
+pub fn write_state(buffer: &mut [u8], d: State, turn: Turn)
     requires { ⌜ length (now buffer) ≡ stateBytes ⌝ }
-    ensures { λ r. ⌜ now (buffer .exit) ≡ bufferOf (stateOf d) turn ⌝ }
+    ensures { λ r. ⌜ now (buffer .exit) ≡ bufferOf d turn ⌝ }
 {
     put_state(buffer, d, turn);
 }
 
 // A state at the front of a buffer; what stands behind it stays.
-pub fn put_state(buffer: &mut [u8], d: Dispatcher, turn: Turn) -> usize
+pub fn put_state(buffer: &mut [u8], d: State, turn: Turn) -> usize
     requires { ⌜ stateBytes ≤ length (now buffer) ⌝ }
-    ensures { λ r. ⌜ Put (bufferOf (stateOf d) turn) 0 (now (buffer .entry)) (now (buffer .exit)) r ⌝ }
+    ensures { λ r. ⌜ Put (bufferOf d turn) 0 (now (buffer .entry)) (now (buffer .exit)) r ⌝ }
     ensures { λ r. ⌜ r ≡ stateBytes ⌝ }
 {
     let wait = d.wait;

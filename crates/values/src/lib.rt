@@ -139,6 +139,16 @@ pub enum Line {
     Fault(u32),
 }
 
+// A dispatcher's state: for each task its wait, the slots until its next release, and the slots left to its open job; which task ran
+// last, or `TASK_LIMIT`; the slots given to each task, and the empty ones.
+pub struct State {
+    pub wait: [u32; TASK_LIMIT],
+    pub left: [u32; TASK_LIMIT],
+    pub last: u32,
+    pub given: [u64; TASK_LIMIT],
+    pub empty: u64,
+}
+
 // What a step says: the task that owns the slot; the tasks closed late as a set of bits, how many they are, and the lowest of
 // them. No task is `TASK_LIMIT`.
 pub struct Turn {

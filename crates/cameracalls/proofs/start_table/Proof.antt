@@ -11,7 +11,7 @@ returns c =
 returns-2 : tie.Need-returns-2
 returns-2 c =
     let wrote = c .before .before in
-    let told = wrote .before .before .before .before in
+    let told = wrote .before .before .before .before .before in
     rw (← told .before .before .start .ensures, told .enum-told .given .1, wrote .write-state .ensures, wrote .before .quiet .ensures)
 
 pub start-table-spec : {M : Type 1} → statement M

@@ -13,7 +13,7 @@ returns c =
 returns-2 : tie.Need-returns-2
 returns-2 c =
     let wrote = c .before .before .before in
-    let known = wrote .before .before .before .before in
+    let known = wrote .before .before .before .before .before in
     let step = known .before .before in
     let told = step .before in
     rw (← told .before .state-in .ensures, ← told .said-done .ensures, ← step .step .ensures, known .answer2 .given .1, wrote .write-state .ensures)

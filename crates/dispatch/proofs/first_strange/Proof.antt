@@ -6,12 +6,11 @@ use native.Mathlib.Omega.{arith}
 use borrow.Author.Needs.{needs}
 use Rattle.model.specs.Dispatcher.{strange, firstStrange}
 use Rattle.counting.specs.Search.{NoneFrom, none-up, first-is, first-none}
-use Rattle.dispatch.specs.State.{stateOf}
 use Rattle.dispatch.proofs.first_strange.Statement.{statement}
 use Rattle.dispatch.proofs.first_strange.Tie as tie
 
 abbrev Inv-loop : tie.InvT-loop
-Inv-loop d t n i₀ i = (i ≤ n) × NoneFrom (strange t (stateOf d)) 0 i
+Inv-loop d t n i₀ i = (i ≤ n) × NoneFrom (strange t d) 0 i
 
 abbrev μ-loop : tie.MeasureT-loop
 μ-loop d t n i₀ i = n - i
@@ -23,14 +22,14 @@ returns : tie.Need-returns Inv-loop μ-loop
 unfolding firstStrange
 returns c = let s = c .before in
     let a = s .before .before .before .before .before in
-    let p = strange (a .before .args .t2) (stateOf (a .before .args .t1)) in
+    let p = strange (a .before .args .t2) (a .before .args .t1) in
     let e : p (a .loop .i) ≡ true = sym (s .is-strange .ensures) ∙ c .if1 .taken in
     sym (first-is p 0 (a .before .args .t2 .count) (a .loop .i) (omega arith) (omega arith) (rw e tt) (a .loop .inv .1))
 
 loop-again : tie.Need-loop-again Inv-loop μ-loop
 loop-again c = let s = c .before in
     let a = s .before .before .before .before .before in
-    let p = strange (a .before .args .t2) (stateOf (a .before .args .t1)) in
+    let p = strange (a .before .args .t2) (a .before .args .t1) in
     let e : p (a .loop .i) ≡ false = sym (s .is-strange .ensures) ∙ c .if1 .left in
     (omega arith, none-up p 0 (a .loop .i) (a .loop .inv .1) (λ h. rw e at h))
 
@@ -39,7 +38,7 @@ unfolding firstStrange
 returns-2 c =
     let a = c .before in
     let s = a .before .args in
-    omega (arith, first-none (strange (s .t2) (stateOf (s .t1))) 0 (s .t2 .count) (λ k l m. a .loop .inv .1 k l (omega arith)))
+    omega (arith, first-none (strange (s .t2) (s .t1)) 0 (s .t2 .count) (λ k l m. a .loop .inv .1 k l (omega arith)))
 
 pub first-strange-spec : {M : Type 1} → statement M
 first-strange-spec =

@@ -2,14 +2,13 @@
 use native.Mathlib.Omega.{arith}
 use Rattle.values.specs.declared.Table.{Table}
 use Rattle.model.specs.Dispatcher.{slotCount}
-use Rattle.dispatch.specs.State.{stateOf}
 use Rattle.dispatch.specs.Step.{Unpacked, Unrefused, Advanced, owner-room, taken-is}
 use borrow.Author.Needs.{needs}
 use Rattle.dispatch.proofs.step_taken.Statement.{statement}
 use Rattle.dispatch.proofs.step_taken.Tie as tie
 
 -- What the lists are then, of any such table.
-moved : (c : tie.After-advance) (t : Table) → let s = c .before .before .before .before .args in Unpacked t (s .period .now) (s .cost .now) (s .slack .now) (s .rank .now) (s .n) → Unrefused t (stateOf (s .d)) → Advanced t (stateOf (s .d)) (s .done) (c .advance .result)
+moved : (c : tie.After-advance) (t : Table) → let s = c .before .before .before .before .args in Unpacked t (s .period .now) (s .cost .now) (s .slack .now) (s .rank .now) (s .n) → Unrefused t (s .d) → Advanced t (s .d) (s .done) (c .advance .result)
 moved c t unpacked unrefused = let d = c .before .before .before .before .args .d in
     c .advance .ensures t (d .given) (d .empty) unpacked unrefused
 
@@ -36,7 +35,7 @@ returns : tie.Need-returns
 returns c t unpacked unrefused =
     let counted = c .before .before in
     let a = moved-from (counted .before) in
-    taken-is t (stateOf (a .before .before .before .before .args .d)) (a .before .before .before .before .args .done) unrefused (a .advance .result) (moved a t unpacked unrefused)
+    taken-is t (a .before .before .before .before .args .d) (a .before .before .before .before .args .done) unrefused (a .advance .result) (moved a t unpacked unrefused)
     (counted .count-given .ensures) (c .before .turn-of .ensures) (c .count-empty .ensures)
 
 pub step-taken-spec : {M : Type 1} → statement M

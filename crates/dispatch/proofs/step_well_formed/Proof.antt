@@ -4,7 +4,6 @@ use borrow.Author.Needs.{needs}
 use Rattle.values.specs.declared.Judgement.{Judgement}
 use Rattle.model.specs.Tasks.{measure}
 use Rattle.model.specs.Dispatcher.{admittedBy}
-use Rattle.dispatch.specs.State.{stateOf}
 use Rattle.dispatch.specs.Accounts.{refused-tells}
 use Rattle.dispatch.proofs.step_well_formed.Statement.{statement}
 use Rattle.dispatch.proofs.step_well_formed.Tie as tie
@@ -16,7 +15,7 @@ returns : tie.Need-returns
 returns c =
     let told = c .before .before .before .before in
     let s = told .before .args in
-    let e = refused-tells (admittedBy (s .t) (stateOf (s .d)) (Judgement.WellFormed (measure (s .t)))) _ _ (sym (told .belonging .ensures) ∙ c .before .before .why .given .1) in
+    let e = refused-tells (admittedBy (s .t) (s .d) (Judgement.WellFormed (measure (s .t)))) _ _ (sym (told .belonging .ensures) ∙ c .before .before .why .given .1) in
     rw e (c .handed-back .ensures)
 
 returns-2 : tie.Need-returns-2

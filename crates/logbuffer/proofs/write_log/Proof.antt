@@ -1,5 +1,4 @@
 -- The parts stand one after another, and fill the buffer.
-use Rattle.dispatch.specs.State.{stateOf}
 use Rattle.logbook.specs.Fits.{Sized}
 use Rattle.logbook.specs.State.{logStateOf}
 use Rattle.logbuffer.specs.Parts.{log-whole}
@@ -8,7 +7,7 @@ use Rattle.logbuffer.proofs.write_log.Statement.{statement}
 use Rattle.logbuffer.proofs.write_log.Tie as tie
 
 -- The arrays of the state have their length.
-sizes : (c : tie.Start) → Sized (stateOf (c .args .log .dispatcher))
+sizes : (c : tie.Start) → Sized (c .args .log .state)
 sizes c = record { waits = search needs; lefts = search needs; gives = search needs }
 
 returns : tie.Need-returns

@@ -2,13 +2,12 @@
 use mathlib.Core.Path.{refl}
 use borrow.Author.Needs.{needs}
 use Rattle.backlog.specs.Taken.{Belongs}
-use Rattle.dispatch.specs.State.{stateOf}
 use Rattle.presses.specs.Step.{advanced-is}
 use Rattle.presses.proofs.advance.Statement.{statement}
 use Rattle.presses.proofs.advance.Tie as tie
 
 -- The arrays have their length.
-belongs : (c : tie.Start) → Belongs (c .args .t) (stateOf (c .args .d))
+belongs : (c : tie.Start) → Belongs (c .args .t) (c .args .d)
 belongs c = record { waits = search needs; lefts = search needs; gives = search needs; each = c .pre .fits .each; ran = c .pre .fits .ran }
 
 -- The places that were passed.
@@ -42,7 +41,7 @@ returns c =
     let free = free-from report in
     let unpacked = unpack-from free in
     let s = unpacked .before .args in
-    advanced-is (s .t) (stateOf (s .d)) (s .done) (s .pressed) (unpacked .before .pre) (belongs (unpacked .before)) (refl, unpacked .unpack .ensures)
+    advanced-is (s .t) (s .d) (s .done) (s .pressed) (unpacked .before .pre) (belongs (unpacked .before)) (refl, unpacked .unpack .ensures)
     (free .free-set .ensures) (report .before .before .only-in .ensures) (report .before .only-in2 .ensures) (report .after-report .ensures) (late .late-set .ensures) (closing .close-all .ensures) (held .put-all .ensures) (c .serve .ensures)
 
 pub advance-spec : {M : Type 1} → statement M

@@ -2,7 +2,6 @@
 use native.Mathlib.Omega.{arith}
 use borrow.Author.Needs.{needs}
 use Rattle.model.specs.Dispatcher.{slotCount}
-use Rattle.dispatch.specs.State.{stateOf}
 use Rattle.presses.specs.Step.{owner-room, taken-is}
 use Rattle.presses.proofs.step_taken.Statement.{statement}
 use Rattle.presses.proofs.step_taken.Tie as tie
@@ -26,7 +25,7 @@ returns c =
     let counted = c .before .before in
     let a = moved-from (counted .before) in
     let s = a .before .before .args in
-    taken-is (s .t) (stateOf (s .d)) (s .done) (s .pressed) (a .before .before .pre) (a .advance .result) (a .advance .ensures)
+    taken-is (s .t) (s .d) (s .done) (s .pressed) (a .before .before .pre) (a .advance .result) (a .advance .ensures)
     (counted .count-given .ensures) (c .before .turn-of .ensures) (c .count-empty .ensures)
 
 pub step-taken-spec : {M : Type 1} → statement M

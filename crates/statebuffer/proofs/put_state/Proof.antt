@@ -3,7 +3,6 @@ use mathlib.Core.Path.{_≡_}
 use native.Mathlib.Omega.{arith}
 use lib.ListN.{length}
 use Rattle.model.specs.Limits.{taskLimit}
-use Rattle.dispatch.specs.State.{stateOf}
 use Rattle.statebuffer.specs.Words.{buffer-length, state-put}
 use borrow.Author.Needs.{needs}
 use Rattle.statebuffer.proofs.put_state.Statement.{statement}
@@ -54,11 +53,11 @@ returns c =
     let left = left-from last in
     let wait = wait-from left in
     let start = wait .before .before .before .before .before .before in
-    let all = state-put (stateOf (start .args .d)) (start .args .turn)
+    let all = state-put (start .args .d) (start .args .turn)
     (wait .put-words .ensures .0) (left .put-words2 .ensures .0)
     (last .put-word .ensures .0) (late .put-word2 .ensures .0) (closed .put-word3 .ensures .0) (lowest .put-word4 .ensures .0)
     (given .put-counts .ensures .0) (empty .put-long .ensures .0) in
-    (all, omega (arith, all .place, buffer-length (stateOf (start .args .d)) (start .args .turn) (sizes start .0) (sizes start .1) (sizes start .2)))
+    (all, omega (arith, all .place, buffer-length (start .args .d) (start .args .turn) (sizes start .0) (sizes start .1) (sizes start .2)))
 
 pub put-state-spec : {M : Type 1} → statement M
 put-state-spec =

@@ -2,7 +2,6 @@
 use mathlib.Core.Path.{_≡_, sym, _∙_}
 use lib.ListN.{length}
 use Rattle.model.specs.Limits.{taskLimit}
-use Rattle.dispatch.specs.State.{stateOf}
 use Rattle.statebuffer.specs.Words.{whole, buffer-length}
 use borrow.Author.Needs.{needs}
 use Rattle.statebuffer.proofs.write_state.Statement.{statement}
@@ -16,7 +15,7 @@ returns : tie.Need-returns
 returns c =
     let put = c .before .before in
     let start = put .before .before .before in
-    whole (put .put-state .ensures .0) (start .pre ∙ sym (buffer-length (stateOf (start .args .d)) (start .args .turn) (sizes start .0) (sizes start .1) (sizes start .2)))
+    whole (put .put-state .ensures .0) (start .pre ∙ sym (buffer-length (start .args .d) (start .args .turn) (sizes start .0) (sizes start .1) (sizes start .2)))
 
 pub write-state-spec : {M : Type 1} → statement M
 write-state-spec = tie.close (tie.spec (λ c κs. search needs) (λ c. search needs) returns)

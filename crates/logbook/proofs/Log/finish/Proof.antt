@@ -2,7 +2,6 @@
 use mathlib.Core.Path.{refl, sym, ap, _∙_}
 use Rattle.values.specs.declared.Admission.{Admission}
 use Rattle.model.specs.Log.{Log, logFinished}
-use Rattle.dispatch.specs.State.{stateOf}
 use Rattle.logbook.specs.Fits.{Sized}
 use Rattle.logbook.specs.State.{logStateOf}
 use Rattle.logbook.specs.Bytes.{readable}
@@ -11,7 +10,7 @@ use Rattle.logbook.proofs.Log.finish.Statement.{statement}
 use Rattle.logbook.proofs.Log.finish.Tie as tie
 
 -- The arrays of the state have their length.
-sizes : (c : tie.Start) → Sized (stateOf (c .args .self .dispatcher))
+sizes : (c : tie.Start) → Sized (c .args .self .state)
 sizes c = record { waits = search needs; lefts = search needs; gives = search needs }
 
 close-requires : tie.Need-close-requires

@@ -8,7 +8,7 @@ use Rattle.logbook.proofs.Log.start.Tie as tie
 
 returns : tie.Need-returns
 unfolding logStarted
-returns c = ap (λ (x : Started). record { admission = x .admission; log = unread (x .state) }) (c .before .start .ensures)
+returns c = ap (λ (x : Started). record { admission = x .admission; log = unread (x .state) }) (c .before .before .start .ensures)
 
 pub start-spec : {M : Type 1} → statement M
 start-spec = tie.close (tie.spec (λ c κs. search needs) returns)
