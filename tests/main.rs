@@ -1,5 +1,5 @@
 //! Host tests: the exported calls, the program judge and the command against an independent implementation of the specification,
-//! and what docs/PROMISES.md names against the tree.
+//! and what the papers name against the tree.
 //!
 //! Run by tests/run from the repository's root, with an optional seed and count of inputs for each call.
 
@@ -134,6 +134,7 @@ fn what_is_shipped(bench: &mut Bench, rng: &mut Rng) {
     papers::edits(bench);
     papers::refusals(bench);
     papers::calls(bench);
+    papers::layers(bench);
     judge::inputs_by_hand(bench);
     judge::inputs_at_random(bench, rng);
     command::by_hand(bench);

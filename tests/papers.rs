@@ -1,12 +1,13 @@
 //! What docs/PROMISES.md says of the tree: each law that it names is promised, each law that is promised is told, and so is each
 //! edit. Each file of the theory has one headline. The list of refusals in docs/SPECIFICATION.md has its copies, and every list of the
-//! calls has those that the library exports.
+//! calls has those that the library exports. docs/ARCHITECTURE.md has the crates, and names laws and functions that there are.
 
 use crate::bench::Bench;
 use crate::calls::CALLS;
 use crate::whole;
 use std::fs;
 use std::path::Path;
+use std::process::Command;
 
 const PAPER: &str = "docs/PROMISES.md";
 const THEORIES: &[&str] = &["crates/backlog/specs", "crates/patterns/specs", "crates/walks/specs", "crates/telling/specs"];
@@ -15,6 +16,8 @@ const SPECIFICATION: &str = "docs/SPECIFICATION.md";
 const README: &str = "README.md";
 const HEADER: &str = "include/yolizadwa.h";
 const LIST: &str = "tests/calls.h";
+const ARCHITECTURE: &str = "docs/ARCHITECTURE.md";
+const CRATES: &str = "crates.txt";
 
 /// Laws that the paper names and that are no promises, each with its file.
 const OTHERS: &[(&str, &str)] = &[("gcd-unique", "crates/counting/specs/Divisors.antt")];
@@ -80,14 +83,19 @@ fn laws_told(text: &str) -> Vec<&str> {
     text.split('`').skip(1).step_by(2).filter(law).collect()
 }
 
+/// The laws of the promises.
+fn promised() -> Vec<String> {
+    let files = names(PROMISES, ".antt").into_iter().map(|name| read(&format!("{PROMISES}/{name}.antt")));
+    files.flat_map(|text| laws(&text).into_iter().map(str::to_string).collect::<Vec<_>>()).collect()
+}
+
 pub fn promises(bench: &mut Bench) {
-    let paper = read(PAPER);
-    let files: Vec<String> = names(PROMISES, ".antt").iter().map(|name| read(&format!("{PROMISES}/{name}.antt"))).collect();
-    let promised: Vec<&str> = files.iter().flat_map(|text| laws(text)).collect();
+    let (paper, promised) = (read(PAPER), promised());
     bench.count(paper.matches('`').count() % 2 == 0, || format!("{PAPER} has a backquote too many"));
     for law in laws_told(&paper) {
         let other = OTHERS.iter().any(|&(name, file)| name == law && laws(&read(file)).contains(&law));
-        bench.count(other || promised.contains(&law), || format!("{PAPER} names {law}, which is no promise"));
+        let known = other || promised.iter().any(|name| name == law);
+        bench.count(known, || format!("{PAPER} names {law}, which is no promise"));
     }
     for law in &promised {
         bench.count(paper.contains(&format!("`{law}`")), || format!("{PAPER} does not tell {law}"));
@@ -206,4 +214,58 @@ pub fn calls(bench: &mut Bench) {
         bench.count(list == exported, || format!("exported: {exported:?}, but what {what}: {list:?}"));
     }
     bench.end_group("calls that the papers list");
+}
+
+/// The crates that these lines begin with, behind a mark; in order.
+fn crates_in<'a>(part: &'a str, mark: &str, end: char) -> Vec<&'a str> {
+    let lines = part.lines().filter(|line| !line.starts_with('#'));
+    lines.filter_map(|line| Some(line.strip_prefix(mark)?.split_once(end)?.0)).collect()
+}
+
+/// What docs/layers draws of a list of crates, if it does.
+fn layers_of(list: &str) -> Option<String> {
+    let said = Command::new("bash").args(["docs/layers", list]).output().expect("bash runs");
+    said.status.success().then(|| String::from_utf8(said.stdout).expect("a text"))
+}
+
+/// A list in which the lowest crate uses the highest one.
+fn upside_down(list: &str, crates: &[&str]) -> String {
+    let (lowest, highest) = (crates[0], crates[crates.len() - 1]);
+    list.replace(&format!("\n{lowest}:"), &format!("\n{lowest}: {highest}"))
+}
+
+/// The functions in backquotes, each behind its crate: `crate::function` or `crate::Type::function`.
+fn functions_told(text: &str) -> Vec<(&str, &str)> {
+    let quoted = text.split('`').skip(1).step_by(2);
+    quoted.filter_map(|word| Some((word.split_once("::")?.0, word.rsplit_once("::")?.1))).collect()
+}
+
+/// The paper shows what docs/layers draws, and its table has the crates in their order.
+fn layers_shown(bench: &mut Bench, paper: &str) {
+    let list = read(CRATES);
+    let crates = crates_in(&list, "", ':');
+    let told = crates_in(between(paper, "\n## The crates\n", "\n## "), "| `", '`');
+    bench.count(told == crates, || format!("{CRATES}: {crates:?}, but {ARCHITECTURE}: {told:?}"));
+    let drawn = layers_of(CRATES);
+    let shown = between(paper, "\n```text\n", "```\n");
+    bench.count(drawn.as_deref() == Some(shown), || format!("{ARCHITECTURE} does not show what docs/layers draws"));
+    let upward = "target/host/upward.txt";
+    fs::write(upward, upside_down(&list, &crates)).expect("a list is written");
+    bench.count(layers_of(upward).is_none(), || "docs/layers draws a crate that uses one above it".to_string());
+}
+
+/// The layers in docs/ARCHITECTURE.md, and the laws and functions that it names.
+pub fn layers(bench: &mut Bench) {
+    let (paper, promised) = (read(ARCHITECTURE), promised());
+    layers_shown(bench, &paper);
+    let words = between(&paper, "\n```\n", "\n## The crates\n");
+    for law in laws_told(words) {
+        bench.count(promised.iter().any(|name| name == law), || format!("{ARCHITECTURE} names {law}, which is no promise"));
+    }
+    for (home, function) in functions_told(words) {
+        let code = fs::read_to_string(format!("crates/{home}/src/lib.rt")).unwrap_or_default();
+        let there = code.contains(&format!("fn {function}("));
+        bench.count(there, || format!("{ARCHITECTURE} names {home}::{function}, which is not there"));
+    }
+    bench.end_group("layers, and what their paper names");
 }
