@@ -264,8 +264,8 @@ pub fn read_periodic(file: &[u8]) -> Contents
     ensures { λ r. ⌜ r ≡ periodicFrom (now (file .entry)) ⌝ }
 {
     let form = form_of(file);
-    let admission = form.admission;
-    match admission {
+    let formed = form.admission;
+    match formed {
         Admission::Refused(_) => form,
         Admission::Admitted => judged_by(form, table::judge(form.table)),
     }

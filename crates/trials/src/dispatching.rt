@@ -77,14 +77,15 @@ fn say_turn(turn: Turn) {
 }
 
 fn say_state(d: Dispatcher) {
-    let wait = d.wait;
-    let left = d.left;
+    let state = d.state;
+    let wait = state.wait;
+    let left = state.left;
     say::words(b"wait ");
     say::numbers(wait);
     say::words(b", left ");
     say::numbers(left);
     say::words(b", last ");
-    say_task(d.last);
+    say_task(state.last);
     say::words(b"\n");
 }
 
