@@ -135,6 +135,7 @@ fn what_is_shipped(bench: &mut Bench, rng: &mut Rng) {
     papers::refusals(bench);
     papers::calls(bench);
     papers::layers(bench);
+    papers::widths(bench);
     judge::inputs_by_hand(bench);
     judge::inputs_at_random(bench, rng);
     command::by_hand(bench);

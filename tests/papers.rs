@@ -6,10 +6,11 @@ use crate::bench::Bench;
 use crate::calls::CALLS;
 use crate::whole;
 use std::fs;
-use std::path::Path;
+use std::path::{Path, PathBuf};
 use std::process::Command;
 
 const PAPER: &str = "docs/PROMISES.md";
+const WIDEST: usize = 160;
 const THEORIES: &[&str] = &["crates/backlog/specs", "crates/patterns/specs", "crates/walks/specs", "crates/telling/specs"];
 const PROMISES: &str = "crates/promises/specs";
 const SPECIFICATION: &str = "docs/SPECIFICATION.md";
@@ -268,4 +269,23 @@ pub fn layers(bench: &mut Bench) {
         bench.count(there, || format!("{ARCHITECTURE} names {home}::{function}, which is not there"));
     }
     bench.end_group("layers, and what their paper names");
+}
+
+/// The files below a folder that end so.
+fn files_below(folder: &Path, ending: &str) -> Vec<PathBuf> {
+    let entries = fs::read_dir(folder).unwrap_or_else(|why| panic!("{}: {why}", folder.display()));
+    let paths = entries.map(|entry| entry.expect("an entry").path());
+    let (folders, files): (Vec<PathBuf>, Vec<PathBuf>) = paths.partition(|path| path.is_dir());
+    let here = files.into_iter().filter(|path| path.to_string_lossy().ends_with(ending));
+    here.chain(folders.iter().flat_map(|inner| files_below(inner, ending))).collect()
+}
+
+/// No line of specs and proofs is longer than a screen's.
+pub fn widths(bench: &mut Bench) {
+    for path in files_below(Path::new("crates"), ".antt") {
+        let text = read(&path.to_string_lossy());
+        let long = text.lines().position(|line| line.chars().count() > WIDEST);
+        bench.count(long.is_none(), || format!("{}: line {} is longer than {WIDEST}", path.display(), long.map_or(0, |at| at + 1)));
+    }
+    bench.end_group("widths of specs and proofs");
 }

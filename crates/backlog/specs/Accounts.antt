@@ -1,4 +1,5 @@
--- EVERY SLOT IS COUNTED (`slots-are`): from a start on a table that keeps its ranges the slots that are counted are the steps, and each number is the count in the history of owners.
+-- EVERY SLOT IS COUNTED (`slots-are`): from a start on a table that keeps its ranges the slots that are counted are the steps, and each number is the
+-- count in the history of owners.
 use mathlib.Core.Path.{_≡_, refl}
 use mathlib.Core.Bool.{Bool}
 use Prim.Native.Nat.{ℕ, zero, suc, _<_}

@@ -39,9 +39,12 @@ module _ (J J′ : Jobs) (t : ℕ) (a : Agree J J′ t) where
     -- So the slot does the same.
     slot-same : (n n′ : ℕ → ℕ) (d : SlotOf J u s n) (d′ : SlotOf J′ u s′ n′) → (slotOf J′ u s′ n′ d′ ≡ slotOf J u s n d) × ((i : ℕ) → i < J .n → n′ i ≡ n i)
     slot-same n n′ (inl d) (inl d′) = (refl, λ i l. d′ .rest i (member i l) ∙ same i l ∙ sym (d .rest i l))
-    slot-same n n′ (inl d) (inr (k, d′)) = let l : k < J .n = omega (arith, a .same-n, d′ .bound) in absurd (omega (arith, d .none k l, d′ .ready, same k l, released-same (suc u) k h l))
-    slot-same n n′ (inr (k, d)) (inl d′) = let l : k < J .n = d .bound in absurd (omega (arith, d′ .none k (member k l), d .ready, same k l, released-same (suc u) k h l))
-    slot-same n n′ (inr (k, d)) (inr (k′, d′)) = (ap₂ (λ (x y : ℕ). job x y) (sym one) (rw (← one) (ap₂ (λ (x c : ℕ). x / c) (same k l) (a .same-cost k l))), λ i m. at i m (ℕ-discrete i k))
+    slot-same n n′ (inl d) (inr (k, d′)) =
+        let l : k < J .n = omega (arith, a .same-n, d′ .bound) in absurd (omega (arith, d .none k l, d′ .ready, same k l, released-same (suc u) k h l))
+    slot-same n n′ (inr (k, d)) (inl d′) =
+        let l : k < J .n = d .bound in absurd (omega (arith, d′ .none k (member k l), d .ready, same k l, released-same (suc u) k h l))
+    slot-same n n′ (inr (k, d)) (inr (k′, d′)) =
+        (ap₂ (λ (x y : ℕ). job x y) (sym one) (rw (← one) (ap₂ (λ (x c : ℕ). x / c) (same k l) (a .same-cost k l))), λ i m. at i m (ℕ-discrete i k))
       where
         l : k < J .n
         l = d .bound
@@ -53,7 +56,14 @@ module _ (J J′ : Jobs) (t : ℕ) (a : Agree J J′ t) where
         ready′ = omega (arith, d′ .ready, same k′ l′, released-same (suc u) k′ h l′)
 
         keys : keyAt J k (s k) ≡ keyAt J k′ (s k′)
-        keys = omega (arith, d .least k′ l′ ready′, d′ .least k (member k l) (omega (arith, d .ready, same k l, released-same (suc u) k h l)), key-same k l (d .ready), key-same k′ l′ ready′)
+        keys =
+            omega (
+              arith,
+              d .least k′ l′ ready′,
+              d′ .least k (member k l) (omega (arith, d .ready, same k l, released-same (suc u) k h l)),
+              key-same k l (d .ready),
+              key-same k′ l′ ready′,
+            )
 
         one : k ≡ k′
         one = J .key-apart k _ k′ _ l l′ keys

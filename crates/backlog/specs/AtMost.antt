@@ -15,12 +15,21 @@ module _ (J : Jobs) (D : Dues J) (told : ℕ → ℕ → Type 0) (open' ready ga
   -- After its first slot, what a job was given and what is left make its cost.
   pub first-slot : (i j : ℕ) → i < J .n → givenTo gave i (J .rel i j) 1 + open' (J .rel i j + 1) i ≡ J .cost i
   unfolding sum
-  first-slot i j l = omega (arith, P .fresh (J .rel i j) i j l refl, P .spent (J .rel i j) i l, ap (λ (y : ℕ). open' y i) (add-one (J .rel i j)), ap (λ (y : ℕ). gave y i) (add-zero (J .rel i j)))
+  first-slot i j l =
+      omega (
+        arith,
+        P .fresh (J .rel i j) i j l refl,
+        P .spent (J .rel i j) i l,
+        ap (λ (y : ℕ). open' y i) (add-one (J .rel i j)),
+        ap (λ (y : ℕ). gave y i) (add-zero (J .rel i j)),
+      )
 
   pub at-most : (i j d : ℕ) → i < J .n → J .rel i j + d < J .rel i (suc j) → givenTo gave i (J .rel i j) (suc d) + open' (J .rel i j + suc d) i ≤ J .cost i
   unfolding sum
   at-most i j zero l h = omega (arith, first-slot i j l)
-  at-most i j (suc d) l h = go (at-most i j d l (omega arith)) (P .kept (J .rel i j + suc d) i l (between-none (J .rel i) (J .rel-grows i l) (J .rel i j + suc d) j (omega arith) (omega arith)))
+  at-most i j (suc d) l h =
+      go (at-most i j d l (omega arith))
+      (P .kept (J .rel i j + suc d) i l (between-none (J .rel i) (J .rel-grows i l) (J .rel i j + suc d) j (omega arith) (omega arith)))
     where
       go : givenTo gave i (J .rel i j) (suc d) + open' (J .rel i j + suc d) i ≤ J .cost i
           → Keeps J D told open' ready (J .rel i j + suc d) i

@@ -1,4 +1,5 @@
--- THE CHOICE (`choose-is`): among no more tasks than a table can have the model's choice is an open one that comes no later than any other open one, or is none, and none is open.
+-- THE CHOICE (`choose-is`): among no more tasks than a table can have the model's choice is an open one that comes no later than any other open one,
+-- or is none, and none is open.
 use mathlib.Core.Path.{_≡_, refl, sym, subst, _∙_}
 use mathlib.Core.Logic.{_⊎_, inl, inr, _≢_}
 use mathlib.Core.Bool.{Bool, true, false, cond, _&&_, _||_}
@@ -17,7 +18,8 @@ abbrev pub standing : Order → ℕ → ℕ
 standing rank i = rank i * taskLimit + i
 
 -- To stand no higher is to have the lower rank, or the same and no higher number.
-pub standing-says : (rank : Order) (i k : ℕ) → i < taskLimit → k < taskLimit → standing rank i ≤ standing rank k → (rank i < rank k) ⊎ ((rank i ≡ rank k) × (i ≤ k))
+pub standing-says : (rank : Order) (i k : ℕ) → i < taskLimit → k < taskLimit → standing rank i ≤ standing rank k → (rank i < rank k)
+    ⊎ ((rank i ≡ rank k) × (i ≤ k))
 standing-says rank i k a b h = elim (decLt (rank i) (rank k)) [ yes p ↦ inl p | no p ↦ inr (omega arith, omega arith) ]
 
 -- A deadline and a standing come no later than others: an earlier deadline, or the same and no higher standing.
@@ -50,28 +52,52 @@ module _ (deadline : ℕ → ℕ) (rank : Order) where
   no-later i k (inr a) m (inr b) = inr (omega (arith, a .0, b .0), omega (arith, a .1, b .1))
 
   -- Of two tasks one comes no later, as the test says; of one rank it is the lower number.
-  before : (i k : ℕ) → k < i → i < taskLimit → (p q r : Bool) → ltb (deadline i) (deadline k) ≡ p → eqb (deadline i) (deadline k) ≡ q → ltb (rank i) (rank k) ≡ r
+  before : (i k : ℕ) → k < i → i < taskLimit → (p q r : Bool) → ltb (deadline i) (deadline k) ≡ p → eqb (deadline i) (deadline k) ≡ q
+      → ltb (rank i) (rank k) ≡ r
       → (T (p || (q && r)) → NoLater deadline rank i k) × ((T (p || (q && r)) → ⊥) → NoLater deadline rank k i)
   before i k l m true q r a b c = (λ t. inl (ltb-true _ _ a), λ h. absurd (h tt))
   before i k l m false true true a b c = (λ t. let e : rank i < rank k = ltb-true _ _ c in inr (eqb-true _ _ b, omega arith), λ h. absurd (h tt))
   before i k l m false true false a b c = (λ t. absurd t, λ h. let e : rank k ≤ rank i = ltb-false _ _ c in inr (sym (eqb-true _ _ b), omega arith))
-  before i k l m false false r a b c = (λ t. absurd t, λ h. let e : deadline k ≤ deadline i = ltb-false _ _ a in let f : deadline i ≢ deadline k = eqb-false _ _ b in inl (omega arith))
+  before i k l m false false r a b c =
+      (λ t. absurd t, λ h. let e : deadline k ≤ deadline i = ltb-false _ _ a in let f : deadline i ≢ deadline k = eqb-false _ _ b in inl (omega arith))
 
 module _ (open? : ℕ → Bool) (deadline : ℕ → ℕ) (rank : Order) where
   -- One more task to choose from.
   more : (n best : ℕ) → n < taskLimit → (o e p : Bool) → open? n ≡ o → eqb best taskLimit ≡ e → precedes deadline rank n best ≡ p
       → Chosen open? deadline rank n best → Chosen open? deadline rank (suc n) (cond (o && (e || p)) n best)
   more n best l false e p x y z (inl c) = inl (record { none = c .none; shut = below-suc (λ i. T (open? i) → ⊥) n (c .shut) (λ t. rw x at t) })
-  more n best l false e p x y z (inr c) = inr (record { bound = omega (arith, c .bound); opened = c .opened; ahead = below-suc (λ i. T (open? i) → NoLater deadline rank best i) n (c .ahead) (λ t. absurd (rw x at t)) })
-  more n best l true true p x y z (inl c) = inr (record { bound = le-refl (suc n); opened = rw x tt; ahead = below-suc (λ i. T (open? i) → NoLater deadline rank n i) n (λ i m t. absurd (c .shut i m t)) (λ t. inr (refl, le-refl _)) })
+  more n best l false e p x y z (inr c) =
+      inr (record {
+        bound = omega (arith, c .bound);
+        opened = c .opened;
+        ahead = below-suc (λ i. T (open? i) → NoLater deadline rank best i) n
+            (c .ahead) (λ t. absurd (rw x at t));
+      })
+  more n best l true true p x y z (inl c) =
+      inr (record {
+        bound = le-refl (suc n);
+        opened = rw x tt;
+        ahead = below-suc (λ i. T (open? i) → NoLater deadline rank n i) n
+            (λ i m t. absurd (c .shut i m t)) (λ t. inr (refl, le-refl _));
+      })
   more n best l true true p x y z (inr c) = let q : best ≡ taskLimit = eqb-true _ _ y in absurd (omega (arith, c .bound))
   more n best l true false p x y z (inl c) = absurd (eqb-false _ _ y (c .none))
   more n best l true false true x y z (inr c) =
       let first : NoLater deadline rank n best = before deadline rank n best (c .bound) l _ _ _ refl refl refl .0 (subst T (sym z) tt) in
-      inr (record { bound = le-refl (suc n); opened = rw x tt; ahead = below-suc (λ i. T (open? i) → NoLater deadline rank n i) n (λ i m t. no-later deadline rank n best first i (c .ahead i m t)) (λ t. inr (refl, le-refl _)) })
+      inr (record {
+        bound = le-refl (suc n);
+        opened = rw x tt;
+        ahead = below-suc (λ i. T (open? i) → NoLater deadline rank n i) n
+            (λ i m t. no-later deadline rank n best first i (c .ahead i m t)) (λ t. inr (refl, le-refl _));
+      })
   more n best l true false false x y z (inr c) =
       let first : NoLater deadline rank best n = before deadline rank n best (c .bound) l _ _ _ refl refl refl .1 (λ t. subst T z t) in
-      inr (record { bound = omega (arith, c .bound); opened = c .opened; ahead = below-suc (λ i. T (open? i) → NoLater deadline rank best i) n (c .ahead) (λ t. first) })
+      inr (record {
+        bound = omega (arith, c .bound);
+        opened = c .opened;
+        ahead = below-suc (λ i. T (open? i) → NoLater deadline rank best i) n
+            (c .ahead) (λ t. first);
+      })
 
   pub choose-is : (n : ℕ) → n ≤ taskLimit → Chosen open? deadline rank n (choose open? deadline rank n)
   unfolding choose
@@ -88,7 +114,8 @@ chosen-same o o′ d d′ rank n c c′ few to back order (inl x) (inl y) = x .n
 chosen-same o o′ d d′ rank n c c′ few to back order (inl x) (inr y) = absurd (x .shut c′ (y .bound) (back c′ (y .bound) (y .opened)))
 chosen-same o o′ d d′ rank n c c′ few to back order (inr x) (inl y) = absurd (y .shut c (x .bound) (to c (x .bound) (x .opened)))
 chosen-same o o′ d d′ rank n c c′ few to back order (inr x) (inr y) =
-    both (x .ahead c′ (y .bound) (back c′ (y .bound) (y .opened))) (order c′ c (y .bound) (x .bound) (back c′ (y .bound) (y .opened)) (x .opened) (y .ahead c (x .bound) (to c (x .bound) (x .opened))))
+    both (x .ahead c′ (y .bound) (back c′ (y .bound) (y .opened)))
+    (order c′ c (y .bound) (x .bound) (back c′ (y .bound) (y .opened)) (x .opened) (y .ahead c (x .bound) (to c (x .bound) (x .opened))))
   where
     both : NoLater d rank c c′ → NoLater d rank c′ c → c ≡ c′
     both (inl a) (inl b) = absurd (omega arith)

@@ -1,4 +1,5 @@
--- WHATEVER COMES (`belongs-come`): whichever tasks have a job come in a step, what it makes of a state that belongs to its table, which keeps its ranges, belongs to it too.
+-- WHATEVER COMES (`belongs-come`): whichever tasks have a job come in a step, what it makes of a state that belongs to its table, which keeps its
+-- ranges, belongs to it too.
 use mathlib.Core.Path.{_≡_, refl}
 use mathlib.Core.Logic.{_⊎_, _≢_}
 use mathlib.Core.Bool.{Bool, true, false, cond}
@@ -15,7 +16,8 @@ use Rattle.model.specs.Presses.{ownerCome, afterCome}
 use Rattle.counting.specs.Fill.{fill-eq}
 use Rattle.wellformed.specs.Ranges.{Ranged}
 use Rattle.backlog.specs.Choice.{Chosen, chosen-same}
-use Rattle.backlog.specs.Taken.{Fit, Belongs, late-le, still-open, known, earliest-is, earliest-ready, earliest-one, wait-given, left-given, given-given, slots-given, belongs-given}
+use Rattle.backlog.specs.Taken.{Fit, Belongs, late-le, still-open, known, earliest-is, earliest-ready, earliest-one, wait-given, left-given}
+use Rattle.backlog.specs.Taken.{given-given, slots-given, belongs-given}
 
 module _ (t : Table) (r : Ranged t) (d : State) (done : Bool) (come : ℕ → Bool) where
   -- The slots from now to the deadline of task i's open job, if it has one.
@@ -57,7 +59,8 @@ module _ (t : Table) (r : Ranged t) (d : State) (done : Bool) (come : ℕ → Bo
             let w : waitCome t d done come i ≡ waitOf d i = rw e in
             let x : leftCome t d done come i ≡ leftLate t d done i = rw e in
             let o = known t d b i l in
-            let was : 0 < leftCome t d done come i → (0 < leftOf d i) × (waitOf d i ≢ task t i .period - task t i .deadline) = λ p. still-open t d done i l (omega (arith, x)) in
+            let was : 0 < leftCome t d done come i → (0 < leftOf d i) ×
+            (waitOf d i ≢ task t i .period - task t i .deadline) = λ p. still-open t d done i l (omega (arith, x)) in
             record {
               wait-le = omega (arith, w, o .wait-le);
               left-le = omega (arith, x, o .left-le, late-le t d done i);
@@ -89,7 +92,8 @@ module _ (t : Table) (r : Ranged t) (d : State) (done : Bool) (come : ℕ → Bo
 module _ (t : Table) (r : Ranged t) (d : State) (done : Bool) (come come′ : ℕ → Bool) (same : (i : ℕ) → i < t .count → come i ≡ come′ i) where
   pub owner-same : ownerCome t d done come ≡ ownerCome t d done come′
   owner-same =
-      chosen-same (λ i. ltb 0 (leftCome t d done come i)) (λ i. ltb 0 (leftCome t d done come′ i)) (dueCome t r d done come) (dueCome t r d done come′) (tieOrder t) (t .count) (ownerCome t d done come) (ownerCome t d done come′) (r .few)
+      chosen-same (λ i. ltb 0 (leftCome t d done come i)) (λ i. ltb 0 (leftCome t d done come′ i)) (dueCome t r d done come)
+      (dueCome t r d done come′) (tieOrder t) (t .count) (ownerCome t d done come) (ownerCome t d done come′) (r .few)
       (λ i l h. rw (same i l) at h)
       (λ i l h. rw (same i l) h)
       (λ i k l m x y h. rw (same i l, same k m) h)
@@ -98,6 +102,9 @@ module _ (t : Table) (r : Ranged t) (d : State) (done : Bool) (come come′ : �
   pub after-same : afterCome t d done come ≡ afterCome t d done come′
   unfolding afterCome
   after-same =
-      let waits : fill (t .count) (λ i. waitCome t d done come i - 1) (d .wait) ≡ fill (t .count) (λ i. waitCome t d done come′ i - 1) (d .wait) = fill-eq (t .count) _ _ (d .wait) (λ i l. rw (same i l)) in
-      let lefts : fill (t .count) (λ i. leftCome t d done come i - cond (eqb (ownerCome t d done come′) i) 1 0) (d .left) ≡ fill (t .count) (λ i. leftCome t d done come′ i - cond (eqb (ownerCome t d done come′) i) 1 0) (d .left) = fill-eq (t .count) _ _ (d .left) (λ i l. rw (same i l)) in
+      let waits : fill (t .count) (λ i. waitCome t d done come i - 1) (d .wait)
+      ≡ fill (t .count) (λ i. waitCome t d done come′ i - 1) (d .wait) = fill-eq (t .count) _ _ (d .wait) (λ i l. rw (same i l)) in
+      let lefts : fill (t .count) (λ i. leftCome t d done come i - cond (eqb (ownerCome t d done come′) i) 1 0) (d .left)
+      ≡ fill (t .count) (λ i. leftCome t d done come′ i - cond (eqb (ownerCome t d done come′) i) 1 0) (d .left) = fill-eq (t .count) _ _
+      (d .left) (λ i l. rw (same i l)) in
       rw (owner-same, waits, lefts)

@@ -1,4 +1,5 @@
--- WHAT COMES IS A HISTORY (`coming-history`): stepped by arrivals that are streams of jobs, at least a period apart, the dispatcher's steps are a history of these, under any pattern of done reports.
+-- WHAT COMES IS A HISTORY (`coming-history`): stepped by arrivals that are streams of jobs, at least a period apart, the dispatcher's steps are a
+-- history of these, under any pattern of done reports.
 use mathlib.Core.Path.{_≡_, refl, sym, _∙_}
 use mathlib.Core.Logic.{inl, inr, _≢_, _↔_}
 use mathlib.Core.Bool.{Bool, true, false, cond, _&&_}
@@ -89,7 +90,8 @@ module _ (t : Table) (r : Ranged t) (done : ℕ → Bool) (a : Arrivals) (rel : 
       → (j : ℕ) × (below (rel i) (suc n) ≡ suc j) × (waits n i + n ≡ rel i j + task t i .period) × (task t i .period - task t i .deadline < waits n i)
   ready-is n i s l p = go (releases J i n l)
     where
-      go : Releases J i n → (j : ℕ) × (below (rel i) (suc n) ≡ suc j) × (waits n i + n ≡ rel i j + task t i .period) × (task t i .period - task t i .deadline < waits n i)
+      go : Releases J i n → (j : ℕ) × (below (rel i) (suc n) ≡ suc j) × (waits n i + n ≡ rel i j + task t i .period)
+          × (task t i .period - task t i .deadline < waits n i)
       go (inl (j, e, b, c)) =
           let w : waits n i ≡ task t i .period = rw (comes-now i j n l e) in
           (j, c, omega (arith, w), omega (arith, w, r .each i l .deadline-pos, r .each i l .period-pos))
@@ -162,7 +164,8 @@ module _ (t : Table) (r : Ranged t) (done : ℕ → Bool) (a : Arrivals) (rel : 
     slot = λ n. slot n (chosen-come t r (before n) (done n) (λ i. a i n));
   }
     where
-      kept : (n i : ℕ) → i < t .count → ((j : ℕ) → rel i j ≢ n) → KeptOrClosed t (before n) (done n) i (leftLate t (before n) (done n) i) → Keeps J D (toldFor t done a) (openFor t done a) (readyFor t done a) n i
+      kept : (n i : ℕ) → i < t .count → ((j : ℕ) → rel i j ≢ n) → KeptOrClosed t (before n) (done n) i (leftLate t (before n) (done n) i)
+          → Keeps J D (toldFor t done a) (openFor t done a) (readyFor t done a) n i
       kept n i l none (inl (e, f, g)) = rw (none-now i n l none) (inl e)
       kept n i l none (inr (e, inl h)) = rw (none-now i n l none) (inr (e, inl h))
       kept n i l none (inr (e, inr h)) = let (m, p, (j, q)) = late-for n i h in rw (none-now i n l none) (inr (e, inr (j, q)))
@@ -172,7 +175,8 @@ module _ (t : Table) (r : Ranged t) (done : ℕ → Bool) (a : Arrivals) (rel : 
       spent n i l (yes e) = rw (left-next n i l, eq-eqb (ownerFor t done a n) i e) (omega (arith, ready-come t r (before n) (done n) (λ i. a i n) i l e))
 
       slot : (n : ℕ) → PicksCome t r (before n) (done n) (λ i. a i n) → Goes J (readyFor t done a) (gaveFor t done a) n
-      slot n (inl c) = inl (λ i l. elim (decLt 0 (readyFor t done a n i)) [ yes p ↦ absurd (c .shut i l (lt→ltb 0 (readyFor t done a n i) p)) | no p ↦ omega arith ])
+      slot n (inl c) =
+          inl (λ i l. elim (decLt 0 (readyFor t done a n i)) [ yes p ↦ absurd (c .shut i l (lt→ltb 0 (readyFor t done a n i) p)) | no p ↦ omega arith ])
       slot n (inr c) =
           let p : 0 < readyFor t done a n (ownerFor t done a n) = ltb→lt 0 (readyFor t done a n (ownerFor t done a n)) (c .opened) in
           inr (

@@ -1,4 +1,5 @@
--- THE PERMITTED ANSWER, COMPUTED (`computed`): of any table and budget, with the worst responses that a walk to the horizon sees. So the answers of given tables are found by computing.
+-- THE PERMITTED ANSWER, COMPUTED (`computed`): of any table and budget, with the worst responses that a walk to the horizon sees. So the answers of
+-- given tables are found by computing.
 use mathlib.Core.Path.{_≡_, refl}
 use Prim.Native.Nat.{ℕ}
 use Rattle.values.specs.declared.Table.{Table}
@@ -18,7 +19,14 @@ use Rattle.backlog.specs.WalkWorst.{worstBy, walk-worsts}
 
 -- The answer by its verdict, and by the judgement of the table.
 abbrev pub answerBy : Table → ℕ → Measure → Verdict → Answer
-answerBy t budget m Verdict.Passes = record { outcome = Outcome.Tested Verdict.Passes; measure = m; settled = settledBy t budget; worst = worstBy t (horizon t); idle = firstIdle t (tieOrder t) }
+answerBy t budget m Verdict.Passes =
+    record {
+      outcome = Outcome.Tested Verdict.Passes;
+      measure = m;
+      settled = settledBy t budget;
+      worst = worstBy t (horizon t);
+      idle = firstIdle t (tieOrder t);
+    }
 answerBy t budget m Verdict.Overload = brief (Outcome.Tested Verdict.Overload) m (settledBy t budget)
 answerBy t budget m (Verdict.Late from to asked) = brief (Outcome.Tested (Verdict.Late from to asked)) m (settledBy t budget)
 answerBy t budget m Verdict.Undecided = brief (Outcome.Tested Verdict.Undecided) m (settledBy t budget)

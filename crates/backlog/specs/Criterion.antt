@@ -56,13 +56,20 @@ module _ (J : Jobs) (D : Dues J) where
   class-due i t l =
       omega (
         arith,
-        below-below (J .key i) (D .due i) (J .key-grows i l) (D .due-grows i l) (suc (D .cut t)) (suc t) (λ j h. omega (arith, D .cut-law i j t l .0 (omega arith))),
-        below-below (D .due i) (J .key i) (D .due-grows i l) (J .key-grows i l) (suc t) (suc (D .cut t)) (λ j h. omega (arith, D .cut-law i j t l .1 (omega arith))),
+        below-below (J .key i) (D .due i) (J .key-grows i l) (D .due-grows i l) (suc (D .cut t)) (suc t)
+            (λ j h. omega (arith, D .cut-law i j t l .0 (omega arith))),
+        below-below (D .due i) (J .key i) (D .due-grows i l) (J .key-grows i l) (suc t) (suc (D .cut t))
+            (λ j h. omega (arith, D .cut-law i j t l .1 (omega arith))),
       )
 
   -- All work that is due by t is released before t.
   work-released : (i t : ℕ) → i < J .n → work J (D .cut t) i ≤ released J t i
-  work-released i t l = mul-le-mul-left (J .cost i) (below-below (J .key i) (J .rel i) (J .key-grows i l) (J .rel-grows i l) _ _ (λ j h. omega (arith, D .rel-due i j l, D .cut-law i j t l .0 (omega arith))))
+  work-released i t l =
+      mul-le-mul-left (J .cost i) (below-below (J .key i) (J .rel i) (J .key-grows i l) (J .rel-grows i l) _ _ (λ j h. omega (
+        arith,
+        D .rel-due i j l,
+        D .cut-law i j t l .0 (omega arith),
+      )))
 
   -- Demand is what is due by t2, but for what of it was released before t1.
   pub demand-is : (t1 t2 : ℕ) → demand J D t1 t2 + arrivals J (D .cut t2) t1 ≡ total t2
@@ -92,7 +99,13 @@ module _ (J : Jobs) (D : Dues J) (s : ℕ → ℕ → ℕ) where
     where
       go : (i : ℕ) → i < J .n → 0 < leftOf J (D .cut t) t (s t) i → (m : ℕ) → below (J .key i) (suc (D .cut t)) ≡ m → Late J D s t
       go i l p zero e = absurd (omega (arith, ap (λ (x : ℕ). J .cost i * x) e))
-      go i l p (suc j) e = (i, j, l, D .cut-law i j t l .0 (omega (arith, lt-below (J .key i) (J .key-grows i l) (suc (D .cut t)) j .0 (omega arith))), omega (arith, ap (λ (x : ℕ). J .cost i * x) e))
+      go i l p (suc j) e = (
+        i,
+        j,
+        l,
+        D .cut-law i j t l .0 (omega (arith, lt-below (J .key i) (J .key-grows i l) (suc (D .cut t)) j .0 (omega arith))),
+        omega (arith, ap (λ (x : ℕ). J .cost i * x) e),
+      )
 
   pub left-of-late : (t : ℕ) → Late J D s t → 0 < left J s (D .cut t) t
   left-of-late t (i, j, l, d, h) = go (eq-zero-or-pos (left J s (D .cut t) t))
@@ -129,7 +142,8 @@ module _ (J : Jobs) (D : Dues J) (s : ℕ → ℕ → ℕ) (R : Run J s) where
           let (i, j, b, d, q) = late-iff-over t2 .1 (t1, l, omega arith) in
           absurd (omega (arith, h i j b, served-mono J s R i b (D .due i j) t2 d))
 
-      bwd : ((t1 t2 : ℕ) → t1 < t2 → demand J D t1 t2 ≤ t2 - t1) → (i j : ℕ) → i < J .n → Dec (J .cost i * suc j ≤ s (D .due i j) i) → J .cost i * suc j ≤ s (D .due i j) i
+      bwd : ((t1 t2 : ℕ) → t1 < t2 → demand J D t1 t2 ≤ t2 - t1) → (i j : ℕ) → i < J .n → Dec (J .cost i * suc j ≤ s (D .due i j) i)
+          → J .cost i * suc j ≤ s (D .due i j) i
       bwd h i j l (yes p) = p
       bwd h i j l (no p) =
           let (u, a, q) = late-iff-over (D .due i j) .0 (i, j, l, le-refl _, omega arith) in

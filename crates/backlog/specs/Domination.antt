@@ -26,7 +26,8 @@ if-so-none (no p) a h = refl
 abbrev pub openKey : Jobs → ℕ → ℕ → ℕ
 openKey J t i = J .key i (below (J .rel i) t - 1)
 
--- Closings and releases in slot t, with l slots left before and x after: a job that is not fresh has no more than before, and a fresh one no more than its cost.
+-- Closings and releases in slot t, with l slots left before and x after: a job that is not fresh has no more than before, and a fresh one no more
+-- than its cost.
 pub record Opens (J : Jobs) (t : ℕ) (l x : ℕ → ℕ) : Type 0 where
   pub kept : (i : ℕ) → i < J .n → ((j : ℕ) → J .rel i j ≢ t) → x i ≤ l i
   pub fresh : (i j : ℕ) → i < J .n → J .rel i j ≡ t → x i ≤ J .cost i
@@ -60,19 +61,23 @@ held J lf κ t = sum (J .n) (heldOf J κ t (lf t))
 
 -- Slot t releases a job of stream i, or none.
 abbrev pub Releases : Jobs → ℕ → ℕ → Type 0
-Releases J i t = ((j : ℕ) × (J .rel i j ≡ t) × (below (J .rel i) t ≡ j) × (below (J .rel i) (suc t) ≡ suc j)) ⊎ (((j : ℕ) → J .rel i j ≢ t) × (below (J .rel i) (suc t) ≡ below (J .rel i) t))
+Releases J i t =
+    ((j : ℕ) × (J .rel i j ≡ t) × (below (J .rel i) t ≡ j) × (below (J .rel i) (suc t) ≡ suc j))
+    ⊎ (((j : ℕ) → J .rel i j ≢ t) × (below (J .rel i) (suc t) ≡ below (J .rel i) t))
 
 module _ (J : Jobs) where
   pub releases : (i t : ℕ) → i < J .n → Releases J i t
   releases i t l = go (ℕ-discrete (J .rel i (below (J .rel i) t)) t)
     where
       go : Dec (J .rel i (below (J .rel i) t) ≡ t) → Releases J i t
-      go (yes e) = inl (below (J .rel i) t, e, refl, ap (λ (x : ℕ). below (J .rel i) (suc x)) (sym e) ∙ below-after (J .rel i) (J .rel-grows i l) (below (J .rel i) t))
+      go (yes e) =
+          inl (below (J .rel i) t, e, refl, ap (λ (x : ℕ). below (J .rel i) (suc x)) (sym e) ∙ below-after (J .rel i) (J .rel-grows i l) (below (J .rel i) t))
       go (no e) = inr (none, sym (below-same (J .rel i) (J .rel-grows i l) t (suc t) (omega arith) (λ j h. omega (arith, none j))))
         where
           none : (j : ℕ) → J .rel i j ≢ t
           none j q =
-              let m : j < below (J .rel i) t = grows-lt (J .rel i) (J .rel-grows i l) j (below (J .rel i) t) (omega (arith, e, below-next (J .rel i) (J .rel-grows i l) t)) in
+              let m : j < below (J .rel i) t = grows-lt (J .rel i) (J .rel-grows i l) j (below (J .rel i) t)
+              (omega (arith, e, below-next (J .rel i) (J .rel-grows i l) t)) in
               absurd (omega (arith, lt-below (J .rel i) (J .rel-grows i l) t j .0 m))
 
   -- What is open after the closings and releases is no more than what was open and what arrives.
@@ -106,17 +111,39 @@ module _ (J : Jobs) (lf : ℕ → ℕ → ℕ) (P : Dispatch J lf) where
       go (x, o, c) = slot c
         where
           enough : sum (J .n) (heldOf J κ (suc t) x) ≤ sum (J .n) (heldOf J κ t (lf t)) + sum (J .n) (arriveOf J κ t)
-          enough = omega (arith, sum-le (J .n) (heldOf J κ (suc t) x) (λ i. heldOf J κ t (lf t) i + arriveOf J κ t i) (λ i l. opened J κ t (lf t) x o i l), sum-add (J .n) (heldOf J κ t (lf t)) (arriveOf J κ t))
+          enough =
+              omega (
+                arith,
+                sum-le (J .n) (heldOf J κ (suc t) x) (λ i. heldOf J κ t (lf t) i + arriveOf J κ t i) (λ i l. opened J κ t (lf t) x o i l),
+                sum-add (J .n) (heldOf J κ t (lf t)) (arriveOf J κ t),
+              )
 
-          slot : Rests J x (lf (suc t)) ⊎ ((k : ℕ) × Gives J t x (lf (suc t)) k) → sum (J .n) (heldOf J κ (suc t) (lf (suc t))) ≤ (sum (J .n) (heldOf J κ t (lf t)) + sum (J .n) (arriveOf J κ t)) - 1
-          slot (inl d) = omega (arith, sum-zero (J .n) (heldOf J κ (suc t) (lf (suc t))) (λ i l. if-so-none (decLe (openKey J (suc t) i) κ) (lf (suc t) i) (λ p. omega (arith, d .none i l, d .rest i l))))
+          slot : Rests J x (lf (suc t)) ⊎ ((k : ℕ) × Gives J t x (lf (suc t)) k)
+              → sum (J .n) (heldOf J κ (suc t) (lf (suc t))) ≤ (sum (J .n) (heldOf J κ t (lf t)) + sum (J .n) (arriveOf J κ t)) - 1
+          slot (inl d) =
+              omega (
+                arith,
+                sum-zero (J .n) (heldOf J κ (suc t) (lf (suc t)))
+                    (λ i l. if-so-none (decLe (openKey J (suc t) i) κ) (lf (suc t) i) (λ p. omega (arith, d .none i l, d .rest i l))),
+              )
           slot (inr (k, d)) = at (decLe (openKey J (suc t) k) κ) refl
             where
-              at : (e : Dec (openKey J (suc t) k ≤ κ)) → decLe (openKey J (suc t) k) κ ≡ e → sum (J .n) (heldOf J κ (suc t) (lf (suc t))) ≤ (sum (J .n) (heldOf J κ t (lf t)) + sum (J .n) (arriveOf J κ t)) - 1
+              at : (e : Dec (openKey J (suc t) k ≤ κ)) → decLe (openKey J (suc t) k) κ ≡ e
+                  → sum (J .n) (heldOf J κ (suc t) (lf (suc t))) ≤ (sum (J .n) (heldOf J κ t (lf t)) + sum (J .n) (arriveOf J κ t)) - 1
               at (yes p) e =
                   let q : heldOf J κ (suc t) x k ≡ heldOf J κ (suc t) (lf (suc t)) k + 1 = rw e (d .one) in
-                  omega (arith, enough, sum-by (J .n) (heldOf J κ (suc t) x) (heldOf J κ (suc t) (lf (suc t))) k 1 (d .bound) q (λ i l f. ap (λ (y : ℕ). if-so (decLe (openKey J (suc t) i) κ) y) (sym (d .rest i l f))))
-              at (no p) e = omega (arith, sum-zero (J .n) (heldOf J κ (suc t) (lf (suc t))) (λ i l. if-so-none (decLe (openKey J (suc t) i) κ) (lf (suc t) i) (λ h. each i l h (ℕ-discrete i k))))
+                  omega (
+                    arith,
+                    enough,
+                    sum-by (J .n) (heldOf J κ (suc t) x) (heldOf J κ (suc t) (lf (suc t))) k 1 (d .bound) q
+                        (λ i l f. ap (λ (y : ℕ). if-so (decLe (openKey J (suc t) i) κ) y) (sym (d .rest i l f))),
+                  )
+              at (no p) e =
+                  omega (
+                    arith,
+                    sum-zero (J .n) (heldOf J κ (suc t) (lf (suc t)))
+                        (λ i l. if-so-none (decLe (openKey J (suc t) i) κ) (lf (suc t) i) (λ h. each i l h (ℕ-discrete i k))),
+                  )
                 where
                   each : (i : ℕ) → i < J .n → openKey J (suc t) i ≤ κ → Dec (i ≡ k) → lf (suc t) i ≡ 0
                   each i l h (yes f) = absurd (p (subst (λ (y : ℕ). openKey J (suc t) y ≤ κ) f h))
@@ -137,7 +164,8 @@ module _ (J : Jobs) (lf : ℕ → ℕ → ℕ) (P : Dispatch J lf) where
       slot v x (inl d) = omega (arith, d .rest i l)
       slot v x (inr (k, d)) = elim (ℕ-discrete i k) [ yes e ↦ rw e (omega (arith, d .one)) | no e ↦ omega (arith, d .rest i l e) ]
 
-      step : (v : ℕ) → t ≤ v → (below (J .rel i) v ≡ below (J .rel i) t → lf v i ≤ lf t i) → below (J .rel i) (suc v) ≡ below (J .rel i) t → lf (suc v) i ≤ lf t i
+      step : (v : ℕ) → t ≤ v → (below (J .rel i) v ≡ below (J .rel i) t → lf v i ≤ lf t i) → below (J .rel i) (suc v) ≡ below (J .rel i) t
+          → lf (suc v) i ≤ lf t i
       step v k ih e = go (releases J i v l) (P .turn v)
         where
           a : below (J .rel i) t ≤ below (J .rel i) v
@@ -155,7 +183,8 @@ module _ (J : Jobs) (lf : ℕ → ℕ → ℕ) (P : Dispatch J lf) where
     -- Where no work up to its key is left in the run, the open job has nothing left.
     none-held : (i j t : ℕ) → i < J .n → below (J .rel i) t ≡ suc j → left J s (J .key i j) t ≡ 0 → lf t i ≡ 0
     unfolding held
-    none-held i j t l e z = at (decLe (openKey J t i) (J .key i j)) (omega (arith, held-le-left (J .key i j) t, sum-member (J .n) (heldOf J (J .key i j) t (lf t)) i l))
+    none-held i j t l e z =
+        at (decLe (openKey J t i) (J .key i j)) (omega (arith, held-le-left (J .key i j) t, sum-member (J .n) (heldOf J (J .key i j) t (lf t)) i l))
       where
         at : (d : Dec (openKey J t i ≤ J .key i j)) → if-so d (lf t i) ≤ 0 → lf t i ≡ 0
         at (yes d) h = omega arith
@@ -167,5 +196,9 @@ module _ (J : Jobs) (lf : ℕ → ℕ → ℕ) (P : Dispatch J lf) where
     pub not-open : (i j f : ℕ) → i < J .n → J .cost i * suc j ≤ s f i → below (J .rel i) f ≡ suc j → lf f i ≡ 0
     not-open i j f l d e =
         let (g, h, q, c) = first-done J s R i j l f d in
-        let b : below (J .rel i) g ≡ suc j = omega (arith, below-mono (J .rel i) (J .rel-grows i l) g f h, lt-below (J .rel i) (J .rel-grows i l) g j .1 (c .0)) in
+        let b : below (J .rel i) g ≡ suc j = omega (
+          arith,
+          below-mono (J .rel i) (J .rel-grows i l) g f h,
+          lt-below (J .rel i) (J .rel-grows i l) g j .1 (c .0),
+        ) in
         omega (arith, only-falls i g f l h (e ∙ sym b), none-held i j g l b (c .1))

@@ -50,7 +50,11 @@ released-same k k' e j = rw (e .same-offset, e .same-period)
 -- No more of its jobs are inside an interval.
 jobs-fall : (k k' : Task) → EasedTask k k' → (from to : ℕ) → jobsIn k' from to ≤ jobsIn k from to
 unfolding arrivedIn
-jobs-fall k k' e from to = rw (e .same-offset, e .same-period) (count-le _ _ to (λ u l h. let w = simp and-iff at h in simp and-iff (w .0, (w .1 .0, omega (tests, e .longer-deadline)))))
+jobs-fall k k' e from to =
+    rw (e .same-offset, e .same-period) (count-le _ _ to (λ u l h. let w = simp and-iff at h in simp and-iff (
+      w .0,
+      (w .1 .0, omega (tests, e .longer-deadline)),
+    )))
 
 module _ (t t' : Table) (e : Eased t t') where
   -- No interval asks for more.
@@ -59,13 +63,15 @@ module _ (t t' : Table) (e : Eased t t') where
   demand-falls from to =
       omega (
         arith,
-        sum-le (t' .count) _ (λ i. task t (e .kept i) .cost * jobsIn (task t (e .kept i)) from to) (λ i l. mul-le-mul (e .each i l .lower-cost) (jobs-fall _ _ (e .each i l) from to)),
+        sum-le (t' .count) _ (λ i. task t (e .kept i) .cost * jobsIn (task t (e .kept i)) from to)
+            (λ i l. mul-le-mul (e .each i l .lower-cost) (jobs-fall _ _ (e .each i l) from to)),
         sum-kept (t' .count) (t .count) (λ i. task t i .cost * jobsIn (task t i) from to) (e .kept) (e .in-order) (e .of-before),
       )
 
   never-eased : NeverTooMuch t → NeverTooMuch t'
   never-eased h from to w = let (l, d) = too-much-iff t' from to .0 w in h from to (too-much-iff t from to .1 (l, omega (arith, demand-falls from to)))
 
-  pub eased-passes : Ranged t → Ranged t' → (budget budget' : ℕ) → verdict t budget ≡ Verdict.Passes → horizon t' ≤ budget' → verdict t' budget' ≡ Verdict.Passes
+  pub eased-passes : Ranged t → Ranged t' → (budget budget' : ℕ) → verdict t budget ≡ Verdict.Passes → horizon t' ≤ budget'
+      → verdict t' budget' ≡ Verdict.Passes
   eased-passes r r' budget budget' pass enough =
       passes-iff t' r' budget' enough .1 (feasible-iff t' r' .1 (never-eased (never-of-passed t r budget pass .1)))

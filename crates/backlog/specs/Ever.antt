@@ -27,8 +27,11 @@ module _ (J : Jobs) (s : ℕ → ℕ → ℕ) (R : Run J s) where
       go : (t : ℕ) → u + total κ < t → (left J s κ t ≡ 0) ⊎ (0 < left J s κ t) → (t : ℕ) × (u < t) × (left J s κ t ≡ 0)
       go t far (inl e) = (t, omega arith, e)
       go t far (inr p) =
-          let (v, b) = busy-from (arrive J κ) t (omega (arith, left-is J s R κ t)) in
-          (v, elim (decLt u v) [ yes h ↦ h | no h ↦ absurd (omega (arith, b .exact, b .early, arrived-le κ t, left-is J s R κ t)) ], omega (arith, b .empty, left-is J s R κ v))
+          let (v, b) = busy-from (arrive J κ) t (omega (arith, left-is J s R κ t)) in (
+            v,
+            elim (decLt u v) [ yes h ↦ h | no h ↦ absurd (omega (arith, b .exact, b .early, arrived-le κ t, left-is J s R κ t)) ],
+            omega (arith, b .empty, left-is J s R κ v),
+          )
 
   pub ends-ever : (i j : ℕ) → i < J .n → (f : ℕ) × DoneFirst J s i j f
   ends-ever i j l =

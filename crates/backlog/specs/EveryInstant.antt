@@ -18,7 +18,8 @@ module _ (S : System) where
   -- A late deadline, in terms of the streams.
   pub over-iff : (to : ℕ) → T (lateAt (S .table) to) ↔ Over (jobs S) (dues S) to
   over-iff to = (
-    λ h. let (from, w) = late-at-iff (S .table) to .0 h in let (l, d) = too-much-iff (S .table) from to .0 w in (from, l, omega (arith, demand-streams S from to)),
+    λ h. let (from, w) =
+        late-at-iff (S .table) to .0 h in let (l, d) = too-much-iff (S .table) from to .0 w in (from, l, omega (arith, demand-streams S from to)),
     λ h. let (from, l, d) = h in late-at-iff (S .table) to .1 (from, too-much-iff (S .table) from to .1 (l, omega (arith, demand-streams S from to))),
   )
 

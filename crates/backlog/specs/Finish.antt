@@ -25,7 +25,11 @@ module _ (J : Jobs) (s : ℕ → ℕ → ℕ) (R : Run J s) (i j : ℕ) (l : i <
 
   left-of-first : (t : ℕ) → Least Done t → NoneLeft t
   left-of-first zero (d, f) = absurd (omega (arith, R .start i l, mul-pos (J .cost-pos i l) (zero-lt-suc j)))
-  left-of-first (suc t) (d, f) = (lt-below (J .rel i) (J .rel-grows i l) (suc t) j .0 (lt-of-mul-lt-mul-left (J .cost i) (omega (arith, served-le J s R (suc t) i l, J .cost-pos i l))), none-left-of-done J s R t i j l (lt-of-not-le (f t (le-refl _))) d)
+  left-of-first (suc t) (d, f) = (
+    lt-below (J .rel i) (J .rel-grows i l) (suc t) j .0
+        (lt-of-mul-lt-mul-left (J .cost i) (omega (arith, served-le J s R (suc t) i l, J .cost-pos i l))),
+    none-left-of-done J s R t i j l (lt-of-not-le (f t (le-refl _))) d,
+  )
 
   -- What is done by t was done first at some f up to t, after its release, and with no work left up to its key.
   pub first-done : (t : ℕ) → Done t → (f : ℕ) × (f ≤ t) × DoneFirst J s i j f × NoneLeft f

@@ -1,4 +1,5 @@
--- THE FIRST CHOICE IS FOUND (`first-choice`): the search for the kept tasks finds a choice wherever there is one, and of several the first in order; else it tells the first task that is none.
+-- THE FIRST CHOICE IS FOUND (`first-choice`): the search for the kept tasks finds a choice wherever there is one, and of several the first in order;
+-- else it tells the first task that is none.
 use mathlib.Core.Path.{_≡_, refl}
 use mathlib.Core.Logic.{_↔_}
 use mathlib.Core.Bool.{Bool, true, false, cond}
@@ -42,7 +43,10 @@ module _ (before after : Table) where
     kept = keptAs before after;
     in-order = λ i k l m. omega (arith, behind i k l, from-le k);
     of-before = low;
-    each = λ i l. eases-iff _ _ .0 (first-passes (λ k. eases (task before k) (task after i)) (searchedFrom before after i) (before .count - searchedFrom before after i) (omega (arith, low i l, from-le i)));
+    each =
+        λ i l. eases-iff _ _ .0
+        (first-passes (λ k. eases (task before k) (task after i)) (searchedFrom before after i) (before .count - searchedFrom before after i)
+        (omega (arith, low i l, from-le i)));
   }
 
   module _ (n : ℕ) (e : Eased before (firstTasks after n)) where
@@ -74,13 +78,26 @@ module _ (before after : Table) where
   first-choice = go (ltb (unmatched before after) (after .count)) refl
     where
       earlier : (i : ℕ) → i < unmatched before after → keptAs before after i < before .count
-      earlier i l = elim (decLt (keptAs before after i) (before .count)) [ yes p ↦ p | no p ↦ absurd (first-before (λ i. leb (before .count) (keptAs before after i)) 0 (after .count) i (omega arith) l (omega tests)) ]
+      earlier i l =
+          elim (decLt (keptAs before after i) (before .count)) [
+            | yes p ↦ p
+            | no p ↦ absurd
+                (first-before (λ i. leb (before .count) (keptAs before after i)) 0 (after .count) i (omega arith) l (omega tests))
+          ]
 
-      go : (b : Bool) → ltb (unmatched before after) (after .count) ≡ b → Told (cond b (Easing.Unmatched (unmatched before after)) (Easing.Kept (keptSet before after)))
+      go : (b : Bool) → ltb (unmatched before after) (after .count) ≡ b → Told
+          (cond b (Easing.Unmatched (unmatched before after)) (Easing.Kept (keptSet before after)))
       go true q =
           let l = ltb-true (unmatched before after) (after .count) q in
-          let none = first-passes (λ i. leb (before .count) (keptAs before after i)) 0 (after .count) (omega arith) in
-          (l, found _ earlier, λ e. absurd (omega (tests, first-in-order (suc (unmatched before after)) e (unmatched before after) (le-refl _), e .of-before (unmatched before after) (le-refl _))))
+          let none = first-passes (λ i. leb (before .count) (keptAs before after i)) 0 (after .count) (omega arith) in (
+            l,
+            found _ earlier,
+            λ e. absurd (omega (
+              tests,
+              first-in-order (suc (unmatched before after)) e (unmatched before after) (le-refl _),
+              e .of-before (unmatched before after) (le-refl _),
+            )),
+          )
       go false q =
           let all = ltb-false (unmatched before after) (after .count) q in
           (found (after .count) (λ i l. earlier i (omega arith)), λ d i l. first-in-order (after .count) d i l, λ k l. bits-at _ (before .count) k l)
@@ -92,4 +109,9 @@ module _ (before after : Table) where
       go : (x : Easing) → Told x → (set : ℕ) × (x ≡ Easing.Kept set)
       go (Easing.Kept set) h = (set, refl)
       go (Easing.Unmatched m) (l, earlier, none) =
-          absurd (none (record { kept = e .kept; in-order = λ i k a b. e .in-order i k a (omega arith); of-before = λ i a. e .of-before i (omega arith); each = λ i a. e .each i (omega arith) }))
+          absurd (none (record {
+            kept = e .kept;
+            in-order = λ i k a b. e .in-order i k a (omega arith);
+            of-before = λ i a. e .of-before i (omega arith);
+            each = λ i a. e .each i (omega arith);
+          }))

@@ -51,5 +51,6 @@ module _ (t : Table) (rank : Order) (done : ℕ → Bool) where
 
   -- Up to the next release of its task, a job is finished exactly if it had its cost or was reported since its release.
   pub finished-iff : (i j n : ℕ) → n ≤ release (task t i) (suc j)
-      → FinishedBy t rank done i j n ↔ ((hadBy t rank done i (release (task t i) j) n ≡ task t i .cost) ⊎ ((u : ℕ) × (release (task t i) j < u) × (u ≤ n) × T (saidDoneBy t rank done i u)))
+      → FinishedBy t rank done i j n ↔ ((hadBy t rank done i (release (task t i) j) n ≡ task t i .cost)
+      ⊎ ((u : ℕ) × (release (task t i) j < u) × (u ≤ n) × T (saidDoneBy t rank done i u)))
   finished-iff i j n l = rw (min-eq-left l) (λ h. h, λ h. h)

@@ -14,7 +14,9 @@ Keeps J D told open' ready t i = (ready t i ≡ open' t i) ⊎ ((ready t i ≡ 0
 
 -- The slot goes to the open job of least key; to none only if none is open.
 abbrev pub Goes : Jobs → (ℕ → ℕ → ℕ) → (ℕ → ℕ → ℕ) → ℕ → Type 0
-Goes J ready gave t = ((i : ℕ) → i < J .n → ready t i ≡ 0) ⊎ ((k : ℕ) × (k < J .n) × (0 < ready t k) × ((i : ℕ) → i < J .n → 0 < ready t i → openKey J (suc t) k ≤ openKey J (suc t) i) × (gave t k ≡ 1) × ((i : ℕ) → i < J .n → i ≢ k → gave t i ≡ 0))
+Goes J ready gave t =
+    ((i : ℕ) → i < J .n → ready t i ≡ 0) ⊎ ((k : ℕ) × (k < J .n) × (0 < ready t k)
+    × ((i : ℕ) → i < J .n → 0 < ready t i → openKey J (suc t) k ≤ openKey J (suc t) i) × (gave t k ≡ 1) × ((i : ℕ) → i < J .n → i ≢ k → gave t i ≡ 0))
 
 -- Before slot t the open job of stream i has `open t i` slots left; after closings and releases `ready t i`; of slot t it is
 -- given `gave t i`, 1 or 0. `told t i`: its end is reported before slot t.
@@ -32,7 +34,15 @@ givenTo gave i r d = sum d (λ u. gave (r + u) i)
 
 module _ (J : Jobs) (D : Dues J) (told : ℕ → ℕ → Type 0) (open' ready gave : ℕ → ℕ → ℕ) (P : History J D told open' ready gave) where
   pub dispatches : Dispatch J open'
-  dispatches = record { start = P .start; turn = λ t. (ready t, record { kept = λ i l n. keep t i (P .kept t i l n); fresh = λ i j l e. omega (arith, P .fresh t i j l e) }, slot t (P .slot t)) }
+  dispatches =
+      record {
+        start = P .start;
+        turn = λ t. (
+          ready t,
+          record { kept = λ i l n. keep t i (P .kept t i l n); fresh = λ i j l e. omega (arith, P .fresh t i j l e) },
+          slot t (P .slot t),
+        );
+      }
     where
       keep : (t i : ℕ) → Keeps J D told open' ready t i → ready t i ≤ open' t i
       keep t i (inl e) = omega arith
@@ -41,4 +51,5 @@ module _ (J : Jobs) (D : Dues J) (told : ℕ → ℕ → Type 0) (open' ready ga
       slot : (t : ℕ) → Goes J ready gave t
           → Rests J (ready t) (open' (suc t)) ⊎ ((k : ℕ) × Gives J t (ready t) (open' (suc t)) k)
       slot t (inl z) = inl (record { none = z; rest = λ i l. omega (arith, z i l, P .spent t i l) })
-      slot t (inr (k, b, r, m, o, q)) = inr (k, record { bound = b; ready = r; least-key = m; one = omega (arith, P .spent t k b); rest = λ i l e. omega (arith, P .spent t i l, q i l e) })
+      slot t (inr (k, b, r, m, o, q)) =
+          inr (k, record { bound = b; ready = r; least-key = m; one = omega (arith, P .spent t k b); rest = λ i l e. omega (arith, P .spent t i l, q i l e) })

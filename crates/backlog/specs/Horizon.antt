@@ -1,4 +1,5 @@
--- HORIZON (`late-soon`): without overload, load exactly 1 included, if some deadline of a table that keeps its ranges is late, some deadline within the horizon is.
+-- HORIZON (`late-soon`): without overload, load exactly 1 included, if some deadline of a table that keeps its ranges is late, some deadline within
+-- the horizon is.
 use mathlib.Core.Path.{_≡_, sym, ap, subst}
 use Prim.Native.Nat.{ℕ, _+_, _-_, _*_, _≤_, _<_}
 use native.Mathlib.Nat.{sub-add-cancel}
@@ -27,7 +28,13 @@ module _ (S : System) (Y : Cycle S) (light : Light S Y) where
   late-down : (t : ℕ) → Y .start + Y .round ≤ t → LateBy (t + Y .round) → LateBy t
   late-down t h p =
       let e : (dues S) .cut (t + Y .round) ≡ (dues S) .cut t + spread S * Y .round = omega arith in
-      late-of-left (jobs S) (dues S) (servedOf S) t (omega (arith, left-later S Y (servedOf S) (model-run S) light ((dues S) .cut t) t h, left-of-late (jobs S) (dues S) (servedOf S) (t + Y .round) p, ap (λ (x : ℕ). left (jobs S) (servedOf S) x (t + Y .round)) e))
+      late-of-left (jobs S) (dues S) (servedOf S) t
+      (omega (
+        arith,
+        left-later S Y (servedOf S) (model-run S) light ((dues S) .cut t) t h,
+        left-of-late (jobs S) (dues S) (servedOf S) (t + Y .round) p,
+        ap (λ (x : ℕ). left (jobs S) (servedOf S) x (t + Y .round)) e,
+      ))
 
   soon : (t : ℕ) → LateBy t → (u : ℕ) × (u ≤ horizonOf S Y) × LateBy u
   soon = strong {P = λ t. LateBy t → (u : ℕ) × (u ≤ horizonOf S Y) × LateBy u} step
@@ -37,7 +44,9 @@ module _ (S : System) (Y : Cycle S) (light : Light S Y) where
         where
           go : Dec (t ≤ horizonOf S Y) → (u : ℕ) × (u ≤ horizonOf S Y) × LateBy u
           go (yes h) = (t, h, p)
-          go (no h) = ih (t - Y .round) (omega (arith, Y .round-pos)) (late-down (t - Y .round) (omega arith) (subst LateBy (sym (sub-add-cancel {n = t} {m = Y .round} (omega arith))) p))
+          go (no h) =
+              ih (t - Y .round) (omega (arith, Y .round-pos))
+              (late-down (t - Y .round) (omega arith) (subst LateBy (sym (sub-add-cancel {n = t} {m = Y .round} (omega arith))) p))
 
   -- An interval that asks too much can be had that ends by the horizon.
   pub over-soon : (t : ℕ) → Over (jobs S) (dues S) t → (u : ℕ) × (u ≤ horizonOf S Y) × Over (jobs S) (dues S) u

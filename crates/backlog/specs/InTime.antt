@@ -1,4 +1,5 @@
--- EVERY JOB IN TIME (`in-time`): on a passed table, in any order of the tasks, by its worst response in that order each job had its whole cost, or was reported done.
+-- EVERY JOB IN TIME (`in-time`): on a passed table, in any order of the tasks, by its worst response in that order each job had its whole cost, or
+-- was reported done.
 use mathlib.Core.Path.{_≡_, _∙_}
 use mathlib.Core.Logic.{_⊎_, inl, inr}
 use mathlib.Core.Bool.{Bool}
@@ -35,9 +36,13 @@ module _ (t : Table) (r : Ranged t) (rank : Order) (done : ℕ → Bool) (budget
   in-time i w l v j =
       let (p, q) = worst-range S met i l w v in
       let k : release (task t i) j + w ≤ release (task t i) (suc j) = omega (arith, r .each i l .deadline-le) in
-      finished-iff t rank done i j (release (task t i) j + w) k .1 (go (on-time (jobs S) (dues S) (told t rank done) (open' t rank done) (ready t rank done) (gave t rank done) (step-history t r rank done) (constrained S) (servedOf S) (model-run S) met i w l (λ j f d. v .bound j f (finishes-iff S i j f l .1 d)) j k))
+      finished-iff t rank done i j (release (task t i) j + w) k .1
+      (go (on-time (jobs S) (dues S) (told t rank done) (open' t rank done) (ready t rank done) (gave t rank done) (step-history t r rank done)
+      (constrained S) (servedOf S) (model-run S) met i w l (λ j f d. v .bound j f (finishes-iff S i j f l .1 d)) j k))
     where
-      go : ((u : ℕ) × (0 < u) × (u < w) × T (saidDoneBy t rank done i (release (task t i) j + u))) ⊎ (sum w (λ u. gave t rank done (release (task t i) j + u) i) ≡ task t i .cost)
-          → (hadBy t rank done i (release (task t i) j) (release (task t i) j + w) ≡ task t i .cost) ⊎ ((u : ℕ) × (release (task t i) j < u) × (u ≤ release (task t i) j + w) × T (saidDoneBy t rank done i u))
+      go : ((u : ℕ) × (0 < u) × (u < w) × T (saidDoneBy t rank done i (release (task t i) j + u)))
+          ⊎ (sum w (λ u. gave t rank done (release (task t i) j + u) i) ≡ task t i .cost)
+          → (hadBy t rank done i (release (task t i) j) (release (task t i) j + w) ≡ task t i .cost)
+          ⊎ ((u : ℕ) × (release (task t i) j < u) × (u ≤ release (task t i) j + w) × T (saidDoneBy t rank done i u))
       go (inl (u, a, b, c)) = inr (release (task t i) j + u, omega arith, omega arith, c)
       go (inr e) = inl (had-sum t rank done i (release (task t i) j) w ∙ e)

@@ -1,4 +1,5 @@
--- THE LARGEST COST (`largest-cost`): of a table that passes, the largest cost of a task passes, is at least the present one and at most the deadline, and no larger one up to there ever passes.
+-- THE LARGEST COST (`largest-cost`): of a table that passes, the largest cost of a task passes, is at least the present one and at most the deadline,
+-- and no larger one up to there ever passes.
 use mathlib.Core.Path.{_≡_, refl, ap, _∙_}
 use mathlib.Core.Logic.{_↔_, _≢_}
 use mathlib.Core.Bool.{Bool}
@@ -57,7 +58,15 @@ module _ (t : Table) (r : Ranged t) (i : ℕ) (l : i < t .count) where
       each k m (no h) = rw (with-other c k h) (r .each k m)
       each k m (yes h) =
           let q = r .each i l in
-          rw (h, with-own c) (record { period-pos = q .period-pos; period-le = q .period-le; deadline-pos = q .deadline-pos; deadline-le = q .deadline-le; cost-pos = a; cost-le = b; offset-le = q .offset-le })
+          rw (h, with-own c) (record {
+            period-pos = q .period-pos;
+            period-le = q .period-le;
+            deadline-pos = q .deadline-pos;
+            deadline-le = q .deadline-le;
+            cost-pos = a;
+            cost-le = b;
+            offset-le = q .offset-le;
+          })
 
   -- A task keeps its sort.
   pub buttonless-with : (c : ℕ) → Buttonless t → Buttonless (withCost t i c)
@@ -78,7 +87,9 @@ module _ (t : Table) (r : Ranged t) (i : ℕ) (l : i < t .count) where
   lowered-with less more h = record { same-count = refl; each = λ k m. each k (ℕ-discrete k i); same-deadline = λ k m. same k (ℕ-discrete k i) }
     where
       each : (k : ℕ) → Dec (k ≡ i) → EasedTask (task (withCost t i more) k) (task (withCost t i less) k)
-      each k (no e) = rw (with-other less k e, with-other more k e) (record { same-offset = refl; same-period = refl; lower-cost = omega arith; longer-deadline = omega arith })
+      each k (no e) =
+          rw (with-other less k e, with-other more k e)
+          (record { same-offset = refl; same-period = refl; lower-cost = omega arith; longer-deadline = omega arith })
       each k (yes e) = rw (e, with-own less, with-own more) (record { same-offset = refl; same-period = refl; lower-cost = h; longer-deadline = omega arith })
 
       same : (k : ℕ) → Dec (k ≡ i) → task (withCost t i less) k .deadline ≡ task (withCost t i more) k .deadline
@@ -89,7 +100,8 @@ module _ (t : Table) (r : Ranged t) (i : ℕ) (l : i < t .count) where
   passes-down : (less more budget budget' : ℕ) → 1 ≤ less → less ≤ more → more ≤ task t i .deadline → horizon t ≤ budget'
       → verdict (withCost t i more) budget ≡ Verdict.Passes → verdict (withCost t i less) budget' ≡ Verdict.Passes
   passes-down less more budget budget' a b c enough pass =
-      eased-passes (withCost t i more) (withCost t i less) (eased-of-lowered _ _ (lowered-with less more b)) (ranged-with more (omega arith) c) (ranged-with less a (omega arith)) budget budget' pass (omega (arith, horizon-with less a (omega arith)))
+      eased-passes (withCost t i more) (withCost t i less) (eased-of-lowered _ _ (lowered-with less more b)) (ranged-with more (omega arith) c)
+      (ranged-with less a (omega arith)) budget budget' pass (omega (arith, horizon-with less a (omega arith)))
 
   module _ (budget : ℕ) (pass : verdict t budget ≡ Verdict.Passes) where
     -- The budget of a pass reaches the horizon.
@@ -101,7 +113,8 @@ module _ (t : Table) (r : Ranged t) (i : ℕ) (l : i < t .count) where
     own-passes = pass-iff _ .1 (ap (λ (u : Table). verdict u budget) (own-cost t i) ∙ pass)
 
     -- A cost that passes, while the next one up to the deadline does not, is the largest.
-    pub largest-is : (c : ℕ) → 1 ≤ c → c ≤ task t i .deadline → T (passesWith t i budget c) → (suc c ≤ task t i .deadline → T (passesWith t i budget (suc c)) → ⊥) → largestCost t i budget ≡ c
+    pub largest-is : (c : ℕ) → 1 ≤ c → c ≤ task t i .deadline → T (passesWith t i budget c)
+        → (suc c ≤ task t i .deadline → T (passesWith t i budget (suc c)) → ⊥) → largestCost t i budget ≡ c
     unfolding largestCost
     largest-is c a b h next = last-is (passesWith t i budget) (suc (task t i .deadline)) c (omega arith) h
         (λ d m n w. next (omega arith) (pass-iff _ .1 (passes-down (suc c) d budget budget (omega arith) m (omega arith) enough (pass-iff _ .0 w))))

@@ -53,13 +53,15 @@ module _ (J : Jobs) (s : ℕ → ℕ → ℕ) (R : Run J s) where
   unfolding left arrive
   due-sum κ t =
       sym (sum-add (J .n) (leftOf J κ t (s t)) (arriveOf J κ t))
-      ∙ sum-eq (J .n) _ _ (λ i l. sym (merge (work J κ i) (released J t i) (released J (suc t) i) (s t i) (served-le t i l) (released-mono J i l t (suc t) (omega arith))))
+      ∙ sum-eq (J .n) _ _ (λ i l. sym
+      (merge (work J κ i) (released J t i) (released J (suc t) i) (s t i) (served-le t i l) (released-mono J i l t (suc t) (omega arith))))
 
   left-step : (κ t : ℕ) → left J s κ (suc t) ≡ (left J s κ t + arrive J κ t) - 1
   unfolding left
   left-step κ t = go (R .slot t)
     where
-      none-due : ((i : ℕ) → i < J .n → due κ t i ≡ 0) → ((i : ℕ) → i < J .n → leftOf J κ (suc t) (s (suc t)) i ≡ due κ t i) → left J s κ (suc t) ≡ (left J s κ t + arrive J κ t) - 1
+      none-due : ((i : ℕ) → i < J .n → due κ t i ≡ 0) → ((i : ℕ) → i < J .n → leftOf J κ (suc t) (s (suc t)) i ≡ due κ t i)
+          → left J s κ (suc t) ≡ (left J s κ t + arrive J κ t) - 1
       none-due z q = omega (arith, due-sum κ t, sum-zero (J .n) (due κ t) z, sum-eq (J .n) (leftOf J κ (suc t) (s (suc t))) (due κ t) q)
 
       go : SlotOf J t (s t) (s (suc t)) → left J s κ (suc t) ≡ (left J s κ t + arrive J κ t) - 1
@@ -81,7 +83,10 @@ module _ (J : Jobs) (s : ℕ → ℕ → ℕ) (R : Run J s) where
               let q : due κ t k ≡ leftOf J κ (suc t) (s (suc t)) k + 1 = omega (arith, d .one, d .ready) in
               omega (arith, due-sum κ t, sum-by (J .n) (due κ t) (leftOf J κ (suc t) (s (suc t))) k 1 (d .bound) q (λ i l e. rw (d .rest i l e)))
           at (no p) =
-              let w : work J κ k ≤ s t k = elim (decLt (s t k) (work J κ k)) [ yes h ↦ absurd (p (in-class J κ k (d .bound) (s t k) .0 h)) | no h ↦ omega arith ] in
+              let w : work J κ k ≤ s t k = elim (decLt (s t k) (work J κ k)) [
+                | yes h ↦ absurd (p (in-class J κ k (d .bound) (s t k) .0 h))
+                | no h ↦ omega arith
+              ] in
               none-due (λ i l. over p i l (decLt _ _) (decLt _ _)) (λ i l. same w i l (ℕ-discrete i k))
 
   -- The class work that is left is the backlog of the class arrivals.
@@ -109,7 +114,8 @@ module _ (J : Jobs) (s : ℕ → ℕ → ℕ) (R : Run J s) where
               now : s t i / J .cost i ≡ j
               now = div-eq-of-lt-le (J .cost i) (omega (arith, c .one, J .cost-pos i l)) (omega arith)
 
-              each : (m : ℕ) → m < J .n → Dec (m ≡ i) → Dec (s t m < released J (suc t) m) → Dec (s t m < work J (J .key i j) m) → leftOf J (J .key i j) (suc t) (s (suc t)) m ≡ 0
+              each : (m : ℕ) → m < J .n → Dec (m ≡ i) → Dec (s t m < released J (suc t) m) → Dec (s t m < work J (J .key i j) m)
+                  → leftOf J (J .key i j) (suc t) (s (suc t)) m ≡ 0
               each m q (yes f) x y = rw f (omega (arith, work-at J i j l))
               each m q (no f) (yes x) (yes y) =
                   let v : J .key i j ≡ keyAt J m (s t m) = omega (arith, ap (J .key i) now, c .least m q x, in-class J (J .key i j) m q (s t m) .0 y) in

@@ -8,7 +8,8 @@ use Rattle.values.specs.declared.Verdict.{Verdict}
 use Rattle.model.specs.Verdict.{verdict, settledBy}
 use Rattle.backlog.specs.Verdicts.{is-overload, is-late, is-passed, Case, the-case, overload, undecided, late, passed}
 
-pub longer : (t : Table) (budget more : ℕ) → budget ≤ more → verdict t budget ≢ Verdict.Undecided → (verdict t more ≡ verdict t budget) × (settledBy t more ≡ settledBy t budget)
+pub longer : (t : Table) (budget more : ℕ) → budget ≤ more → verdict t budget ≢ Verdict.Undecided → (verdict t more ≡ verdict t budget)
+    × (settledBy t more ≡ settledBy t budget)
 longer t budget more l h = go (verdict t budget) (settledBy t budget) (the-case t budget) h
   where
     go : (v : Verdict) (n : ℕ) → Case t budget v n → v ≢ Verdict.Undecided → (verdict t more ≡ v) × (settledBy t more ≡ n)

@@ -1,4 +1,5 @@
--- LOWER COSTS, NO LATER END (`lowered-worst`): with costs alone lowered no worst response grows, in any order of the tasks that both tables have, whether they pass or not.
+-- LOWER COSTS, NO LATER END (`lowered-worst`): with costs alone lowered no worst response grows, in any order of the tasks that both tables have,
+-- whether they pass or not.
 use mathlib.Core.Path.{_≡_, ap, ap₂, _∙_}
 use Prim.Native.Nat.{ℕ, suc, _+_, _-_, _*_, _≤_, _<_, min}
 use native.Mathlib.Nat.{mul-le-mul-left, mul-le-mul-right, mul-sub}
@@ -42,7 +43,8 @@ factor c a b = elim (decLe a b) [
 
 -- Where k jobs count and r' have come instead of r, less cost makes no more work of it.
 arrives-less : (c c' k r r' : ℕ) → c' ≤ c → min (c' * k) (c' * r') - min (c' * k) (c' * r) ≤ min (c * k) (c * r') - min (c * k) (c * r)
-arrives-less c c' k r r' h = rw (factor c' k r', factor c' k r, factor c k r', factor c k r, ← mul-sub c', ← mul-sub c) (mul-le-mul-right (min k r' - min k r) h)
+arrives-less c c' k r r' h =
+    rw (factor c' k r', factor c' k r, factor c k r', factor c k r, ← mul-sub c', ← mul-sub c) (mul-le-mul-right (min k r' - min k r) h)
 
 module _ (J J' : Jobs) (C : Cheaper J J') where
   -- No more class work arrives.
@@ -54,7 +56,8 @@ module _ (J J' : Jobs) (C : Cheaper J J') where
       each i l =
           let m : i < J' .n = omega (arith, C .same-n) in
           let rels = below-eq (J' .rel i) (J .rel i) (J' .rel-grows i m) (J .rel-grows i l) (λ j. C .same-rel i j l) in
-          rw (below-eq (J' .key i) (J .key i) (J' .key-grows i m) (J .key-grows i l) (λ j. C .same-key i j l) (suc κ), rels (suc t), rels t) (arrives-less (J .cost i) (J' .cost i) _ _ _ (C .lower-cost i l))
+          rw (below-eq (J' .key i) (J .key i) (J' .key-grows i m) (J .key-grows i l) (λ j. C .same-key i j l) (suc κ), rels (suc t), rels t)
+          (arrives-less (J .cost i) (J' .cost i) _ _ _ (C .lower-cost i l))
 
   module _ (s s' : ℕ → ℕ → ℕ) (R : Run J s) (R' : Run J' s') where
     -- No more of it is left.
@@ -87,7 +90,9 @@ module _ (t t' : Table) (r : Ranged t) (r' : Ranged t') (e : Lowered t t') (rank
   cheaper = record {
     same-n = e .same-count;
     same-rel = λ i j l. released-same _ _ (e .each i l) j;
-    same-key = λ i j l. ap₂ (λ (d x : ℕ). d * x + standing rank' i) (same-due i j l) same-spread ∙ ap (λ (x : ℕ). due (task t i) j * spread S + (x * taskLimit + i)) (same-rank i l);
+    same-key =
+        λ i j l. ap₂ (λ (d x : ℕ). d * x + standing rank' i) (same-due i j l) same-spread
+        ∙ ap (λ (x : ℕ). due (task t i) j * spread S + (x * taskLimit + i)) (same-rank i l);
     lower-cost = λ i l. e .each i l .lower-cost;
   }
 

@@ -34,18 +34,22 @@ module _ (S : System) where
 
   -- A task is ready exactly if some of its released work is not served.
   pub ready-iff : (i t s : ℕ) → i < size S → T (leb (releaseOf S i (s / costOf S i)) t) ↔ (s < released (jobs S) (suc t) i)
-  ready-iff i t s l = let law = work-lt (releaseOf S i) ((jobs S) .rel-grows i l) (costOf S i) (suc t) s (S .cost-pos i l) in (λ h. law .1 (omega tests), λ h. omega (tests, law .0 h))
+  ready-iff i t s l =
+      let law = work-lt (releaseOf S i) ((jobs S) .rel-grows i l) (costOf S i) (suc t) s (S .cost-pos i l) in
+      (λ h. law .1 (omega tests), λ h. omega (tests, law .0 h))
 
   pub owned : (t : ℕ) → Owned S t
   unfolding owner ownerOf
   owned t = choose-is _ _ _ (size S) (S .size-le)
 
-  after-slot : (t : ℕ) → served (S .table) (S .rank) (suc t) ≡ set (served (S .table) (S .rank) t) (owner (S .table) (S .rank) t) (servedOf S t (owner (S .table) (S .rank) t) + 1)
+  after-slot : (t : ℕ) → served (S .table) (S .rank) (suc t) ≡ set (served (S .table) (S .rank) t) (owner (S .table) (S .rank) t)
+      (servedOf S t (owner (S .table) (S .rank) t) + 1)
   unfolding served owner
   after-slot t = refl
 
   -- The owner has one slot more, and no other task has.
-  pub owner-served : (t : ℕ) → owner (S .table) (S .rank) t < size S → servedOf S (suc t) (owner (S .table) (S .rank) t) ≡ servedOf S t (owner (S .table) (S .rank) t) + 1
+  pub owner-served : (t : ℕ) → owner (S .table) (S .rank) t < size S → servedOf S (suc t) (owner (S .table) (S .rank) t) ≡ servedOf S t
+      (owner (S .table) (S .rank) t) + 1
   owner-served t l = rw (after-slot t) (getD-set-same (served (S .table) (S .rank) t) (owner (S .table) (S .rank) t) _ 0 (omega (arith, served-length t)))
 
   pub others-served : (t i : ℕ) → i ≢ owner (S .table) (S .rank) t → servedOf S (suc t) i ≡ servedOf S t i
@@ -57,7 +61,11 @@ module _ (S : System) where
     where
       slot : (t : ℕ) → Owned S t → SlotOf (jobs S) t (servedOf S t) (servedOf S (suc t))
       slot t (inl c) = inl (record {
-        none = λ i l. elim (decLt (servedOf S t i) (released (jobs S) (suc t) i)) [ yes p ↦ absurd (c .shut i l (ready-iff i t (servedOf S t i) l .1 p)) | no p ↦ omega arith ];
+        none =
+            λ i l. elim (decLt (servedOf S t i) (released (jobs S) (suc t) i)) [
+              | yes p ↦ absurd (c .shut i l (ready-iff i t (servedOf S t i) l .1 p))
+              | no p ↦ omega arith
+            ];
         rest = λ i l. others-served t i (λ e. absurd (omega (arith, c .none, S .size-le)));
       })
       slot t (inr c) = inr (

@@ -82,15 +82,23 @@ module _ (σ : Schedule) (t1 t2 : ℕ) where
   unfolding used given
   given-used i j from to a b =
       let p : ℕ → Bool = λ u. leb from u && belongs i j (σ u) in
-      omega (arith, count-more p to t2 b, count-le p (λ u. leb t1 u && belongs i j (σ u)) t2 (λ u m x. let y = simp and-iff at x in simp and-iff (omega tests, y .1)))
+      omega (
+        arith,
+        count-more p to t2 b,
+        count-le p (λ u. leb t1 u && belongs i j (σ u)) t2
+            (λ u m x. let y = simp and-iff at x in simp and-iff (omega tests, y .1)),
+      )
 
   pub necessary : (t : Table) → Ranged t → Good t σ → demand t t1 t2 ≤ t2 - t1
   unfolding demand Good
   necessary t r good =
       omega (
         arith,
-        sum-eq (t .count) (λ i. task t i .cost * jobsIn (task t i) t1 t2) (λ i. task t i .cost * count (inside i) t2) (λ i l. ap (λ (n : ℕ). task t i .cost * n) (jobs-numbered (task t i) (r .each i l .period-pos) (r .each i l .deadline-pos) t1 t2)),
-        costs-fit (t .count) (λ i. task t i .cost) inside (λ i j l h. let w = simp and-iff at h in omega (arith, good i j l, given-used i j (release (task t i) j) (due (task t i) j) (omega tests) (omega tests))) t2,
+        sum-eq (t .count) (λ i. task t i .cost * jobsIn (task t i) t1 t2) (λ i. task t i .cost * count (inside i) t2)
+            (λ i l. ap (λ (n : ℕ). task t i .cost * n) (jobs-numbered (task t i) (r .each i l .period-pos) (r .each i l .deadline-pos) t1 t2)),
+        costs-fit (t .count) (λ i. task t i .cost) inside
+            (λ i j l h. let w = simp and-iff at h in omega
+            (arith, good i j l, given-used i j (release (task t i) j) (due (task t i) j) (omega tests) (omega tests))) t2,
       )
     where
       inside : ℕ → ℕ → Bool

@@ -22,7 +22,13 @@ module _ (t : Table) (r : Ranged t) (rank : Order) (done : ℕ → Bool) where
   never-more i j n l h = go (decLt (release (task t i) j) n)
     where
       more : (d : ℕ) → release (task t i) j + suc d ≡ n → hadBy t rank done i (release (task t i) j) n ≤ task t i .cost
-      more d e = rw (← e) (omega (arith, had-sum t rank done i (release (task t i) j) (suc d), at-most (jobs (systemOf t r rank)) (dues (systemOf t r rank)) (told t rank done) (open' t rank done) (ready t rank done) (gave t rank done) (step-history t r rank done) i j d l (omega arith)))
+      more d e =
+          rw (← e) (omega (
+            arith,
+            had-sum t rank done i (release (task t i) j) (suc d),
+            at-most (jobs (systemOf t r rank)) (dues (systemOf t r rank)) (told t rank done) (open' t rank done) (ready t rank done)
+                (gave t rank done) (step-history t r rank done) i j d l (omega arith),
+          ))
 
       go : Dec (release (task t i) j < n) → hadBy t rank done i (release (task t i) j) n ≤ task t i .cost
       go (yes p) = more (n - release (task t i) j - 1) (omega arith)
@@ -31,5 +37,10 @@ module _ (t : Table) (r : Ranged t) (rank : Order) (done : ℕ → Bool) where
   -- So what is finished stays so.
   pub finished-stays : (i j n m : ℕ) → i < t .count → n ≤ m → FinishedBy t rank done i j n → FinishedBy t rank done i j m
   finished-stays i j n m l h (inl e) =
-      inl (le-antisymm (never-more i j (min m (release (task t i) (suc j))) l (omega arith)) (omega (arith, had-grows t rank done i (release (task t i) j) (min n (release (task t i) (suc j))) (min m (release (task t i) (suc j))) (omega arith))))
+      inl (le-antisymm (never-more i j (min m (release (task t i) (suc j))) l (omega arith))
+      (omega (
+        arith,
+        had-grows t rank done i (release (task t i) j) (min n (release (task t i) (suc j))) (min m (release (task t i) (suc j)))
+            (omega arith),
+      )))
   finished-stays i j n m l h (inr (u, a, b, c)) = inr (u, a, omega arith, c)

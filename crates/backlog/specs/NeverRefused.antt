@@ -24,14 +24,28 @@ module _ (t : Table) (m : Measure) (well : judged t ≡ Judgement.WellFormed m) 
   pub history-admitted : n ≤ slotCountLimit → admitted t (stateAtBy t rank done n) ≡ Admission.Admitted
   history-admitted h =
       let b = sound t (well-formed t m well .ranged) rank done n .belongs in
-      admitted-iff t (stateAtBy t rank done n) .1 (record { measure = m; well = well; fits = record { each = b .each; ran = b .ran; room = omega (arith, slots-are t (well-formed t m well .ranged) rank done n) } })
+      admitted-iff t (stateAtBy t rank done n) .1 (record {
+        measure = m;
+        well = well;
+        fits = record { each = b .each; ran = b .ran; room = omega (arith, slots-are t (well-formed t m well .ranged) rank done n) };
+      })
 
-  pub never-refused : n < slotCountLimit → steppedBy t rank (stateAtBy t rank done n) (done n) ≡ record { answer = SlotAnswer.Slot (turnBy t rank (stateAtBy t rank done n) (done n)); state = stateAtBy t rank done (suc n) }
+  pub never-refused : n < slotCountLimit → steppedBy t rank (stateAtBy t rank done n) (done n)
+      ≡ record { answer = SlotAnswer.Slot (turnBy t rank (stateAtBy t rank done n) (done n)); state = stateAtBy t rank done (suc n) }
   unfolding steppedBy stateAtBy
   never-refused h =
-      rw (history-admitted (omega arith), ne-eqb (slotCount t (stateAtBy t rank done n)) slotCountLimit (λ e. absurd (omega (arith, slots-are t (well-formed t m well .ranged) rank done n))))
+      rw (
+        history-admitted (omega arith),
+        ne-eqb (slotCount t (stateAtBy t rank done n)) slotCountLimit
+            (λ e. absurd (omega (arith, slots-are t (well-formed t m well .ranged) rank done n))),
+      )
 
   -- The step after the last that can be counted is refused by 9.
   pub full : n ≡ slotCountLimit → steppedBy t rank (stateAtBy t rank done n) (done n) ≡ refuseStep (refusal 9 0) (stateAtBy t rank done n)
   unfolding steppedBy
-  full e = rw (history-admitted (omega arith), eq-eqb (slotCount t (stateAtBy t rank done n)) slotCountLimit (omega (arith, slots-are t (well-formed t m well .ranged) rank done n)))
+  full e =
+      rw (
+        history-admitted (omega arith),
+        eq-eqb (slotCount t (stateAtBy t rank done n)) slotCountLimit
+            (omega (arith, slots-are t (well-formed t m well .ranged) rank done n)),
+      )

@@ -39,25 +39,32 @@ module _ (t : Table) (r : Ranged t) (rank : Order) (done : ℕ → Bool) where
       ]
 
   -- What is closed stays so up to the next release.
-  closed-stays : (i j u d : ℕ) → i < t .count → release (task t i) j < u → u + d < release (task t i) (suc j) → ready t rank done u i ≡ 0 → ready t rank done (u + d) i ≡ 0
+  closed-stays : (i j u d : ℕ) → i < t .count → release (task t i) j < u → u + d < release (task t i) (suc j) → ready t rank done u i ≡ 0
+      → ready t rank done (u + d) i ≡ 0
   closed-stays i j u zero l a b z = rw (add-zero u) z
   closed-stays i j u (suc d) l a b z =
-      let shut : open' t rank done (suc (u + d)) i ≡ 0 = omega (arith, step-history t r rank done .spent (u + d) i l, closed-stays i j u d l a (omega arith) z) in
-      rw (add-suc u d) (go shut (step-history t r rank done .kept (suc (u + d)) i l (between-none (releaseOf S i) (jobs S .rel-grows i l) (suc (u + d)) j (omega arith) (omega arith))))
+      let shut : open' t rank done (suc (u + d)) i ≡ 0 = omega
+      (arith, step-history t r rank done .spent (u + d) i l, closed-stays i j u d l a (omega arith) z) in
+      rw (add-suc u d) (go shut
+      (step-history t r rank done .kept (suc (u + d)) i l
+      (between-none (releaseOf S i) (jobs S .rel-grows i l) (suc (u + d)) j (omega arith) (omega arith))))
     where
       go : open' t rank done (suc (u + d)) i ≡ 0 → Closing t r rank done (suc (u + d)) i → ready t rank done (suc (u + d)) i ≡ 0
       go shut (inl e) = e ∙ shut
       go shut (inr e) = e .0
 
-  pub none-after : (n i j : ℕ) → i < t .count → release (task t i) j ≤ n → n < release (task t i) (suc j) → FinishedBy t rank done i j n → ownerAtBy t rank done n ≡ i → ⊥
+  pub none-after : (n i j : ℕ) → i < t .count → release (task t i) j ≤ n → n < release (task t i) (suc j) → FinishedBy t rank done i j n
+      → ownerAtBy t rank done n ≡ i → ⊥
   none-after n i j l a b f e = go (finished-iff t rank done i j n (omega arith) .0 f)
     where
       one : gave t rank done n i ≡ 1
       one = rw (eq-eqb (ownerAtBy t rank done n) i e)
 
-      go : (hadBy t rank done i (release (task t i) j) n ≡ task t i .cost) ⊎ ((u : ℕ) × (release (task t i) j < u) × (u ≤ n) × T (saidDoneBy t rank done i u)) → ⊥
+      go : (hadBy t rank done i (release (task t i) j) n ≡ task t i .cost) ⊎
+          ((u : ℕ) × (release (task t i) j < u) × (u ≤ n) × T (saidDoneBy t rank done i u)) → ⊥
       go (inl h) = omega (arith, h, one, had-next t rank done i (release (task t i) j) n a, never-more t r rank done i j (suc n) l (omega arith))
       go (inr (u, x, y, h)) =
           let d : u + (n - u) ≡ n = omega arith in
-          let z = closed-stays i j u (n - u) l x (omega arith) (report-closes u i l (between-none (releaseOf S i) (jobs S .rel-grows i l) u j x (omega arith)) h) in
+          let z = closed-stays i j u (n - u) l x (omega arith)
+          (report-closes u i l (between-none (releaseOf S i) (jobs S .rel-grows i l) u j x (omega arith)) h) in
           omega (arith, step-history t r rank done .spent n i l, one, rw d at z)

@@ -30,7 +30,9 @@ module _ (t : Table) (r : Ranged t) (rank : Order) (done : ℕ → Bool) (budget
 
   -- At its deadline a job has nothing left.
   pub nothing-left : (i j : ℕ) → i < t .count → open' t rank done (dueOf S i j) i ≡ 0
-  nothing-left = none-late (jobs S) (dues S) (told t rank done) (open' t rank done) (ready t rank done) (gave t rank done) (step-history t r rank done) (constrained S) (servedOf S) (model-run S) (met-of-passed t r budget pass rank)
+  nothing-left =
+      none-late (jobs S) (dues S) (told t rank done) (open' t rank done) (ready t rank done) (gave t rank done) (step-history t r rank done)
+      (constrained S) (servedOf S) (model-run S) (met-of-passed t r budget pass rank)
 
   -- No step closes a job as late.
   none-closed : (n i : ℕ) → T (isLate t (stateAtBy t rank done n) (done n) i) → ⊥
@@ -39,7 +41,8 @@ module _ (t : Table) (r : Ranged t) (rank : Order) (done : ℕ → Bool) (budget
       let (p, (j, e, b)) = late-is t r rank done n i (sound t r rank done n) h in
       omega (arith, nothing-left i j l, ap (λ (m : ℕ). open' t rank done m i) e)
 
-  pub none-cut : (n : ℕ) → (turnBy t rank (stateAtBy t rank done n) (done n) .late ≡ 0) × (turnBy t rank (stateAtBy t rank done n) (done n) .closed ≡ 0) × (turnBy t rank (stateAtBy t rank done n) (done n) .lowest ≡ taskLimit)
+  pub none-cut : (n : ℕ) → (turnBy t rank (stateAtBy t rank done n) (done n) .late ≡ 0)
+      × (turnBy t rank (stateAtBy t rank done n) (done n) .closed ≡ 0) × (turnBy t rank (stateAtBy t rank done n) (done n) .lowest ≡ taskLimit)
   unfolding turnBy
   none-cut n =
       let late = isLate t (stateAtBy t rank done n) (done n) in

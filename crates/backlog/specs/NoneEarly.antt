@@ -1,4 +1,5 @@
--- NO SLOT IS EARLY OR LATE (`owned-ready`): a task that owns a slot has a job that is released by then and whose deadline is later. Of any table that keeps its ranges.
+-- NO SLOT IS EARLY OR LATE (`owned-ready`): a task that owns a slot has a job that is released by then and whose deadline is later. Of any table that
+-- keeps its ranges.
 use mathlib.Core.Path.{_≡_}
 use mathlib.Core.Bool.{Bool}
 use Prim.Native.Nat.{ℕ, suc, _≤_, _<_}

@@ -1,4 +1,5 @@
--- PASSES (`passes-iff`): with a budget that reaches the horizon the test passes a table that keeps its ranges exactly if some schedule of it is good for all time.
+-- PASSES (`passes-iff`): with a budget that reaches the horizon the test passes a table that keeps its ranges exactly if some schedule of it is good
+-- for all time.
 use mathlib.Core.Path.{_≡_}
 use mathlib.Core.Logic.{_↔_}
 use Prim.Native.Nat.{ℕ, _≤_}

@@ -46,7 +46,9 @@ busy-from a (suc t) h = go (eq-zero-or-pos (backlog a t)) (busy-from a t)
 -- So up to each instant of it arrived what is left then, and one unit more for each slot.
 pub busy-exact : (a : ℕ → ℕ) (t s : ℕ) → Busy a t s → (u : ℕ) → s ≤ u → u ≤ t → sum u a ≡ sum s a + backlog a u + (u - s)
 unfolding sum backlog
-busy-exact a t s b u h = le-ind (λ (v : ℕ). v ≤ t → sum v a ≡ sum s a + backlog a v + (v - s)) (λ l. omega (arith, b .empty)) (λ v k ih l. omega (arith, ih (omega arith), b .busy (suc v) (omega arith) l)) u h
+busy-exact a t s b u h =
+    le-ind (λ (v : ℕ). v ≤ t → sum v a ≡ sum s a + backlog a v + (v - s)) (λ l. omega (arith, b .empty))
+    (λ v k ih l. omega (arith, ih (omega arith), b .busy (suc v) (omega arith) l)) u h
 
 -- Whatever starts no higher and grows no faster stays no higher.
 pub backlog-bounds : (a r : ℕ → ℕ) → r 0 ≤ backlog a 0 → ((t : ℕ) → r (suc t) ≤ (r t + a t) - 1) → (t : ℕ) → r t ≤ backlog a t

@@ -35,7 +35,9 @@ module _ (J : Jobs) (s : ℕ → ℕ → ℕ) where
       own : leftOf J (J .key i j) t (s t) i ≡ leftOf J κ t (s t) i + restOf J s t i j
       own =
           let w : work J κ i ≡ J .cost i * j = ap (λ (x : ℕ). J .cost i * x) before in
-          rw (work-at J i j l, w) (part (J .cost i) (J .cost i * j) (J .cost i * suc j) (released J t i) (s t i) (omega arith) (work-le (J .rel i) (J .rel-grows i l) (J .cost i) t j r))
+          rw (work-at J i j l, w)
+          (part (J .cost i) (J .cost i * j) (J .cost i * suc j) (released J t i) (s t i) (omega arith)
+          (work-le (J .rel i) (J .rel-grows i l) (J .cost i) t j r))
 
       other : (k : ℕ) → k < J .n → k ≢ i → leftOf J (J .key i j) t (s t) k ≡ leftOf J κ t (s t) k
       other k q d = rw same
@@ -59,7 +61,13 @@ key-pos S i j l = let some : 0 < spread S = omega (arith, standing-low S i l) in
 module _ (S : System) (Y : Cycle S) (light : Light S Y) (s : ℕ → ℕ → ℕ) (R : Run (jobs S) s) where
   -- Of a job that is not released nothing is served.
   whole-before : (t i j : ℕ) → i < size S → t ≤ releaseOf S i j → restOf (jobs S) s t i j ≡ costOf S i
-  whole-before t i j l h = omega (arith, served-le (jobs S) s R t i l, mul-le-mul-left (costOf S i) (below-most (releaseOf S i) ((jobs S) .rel-grows i l) t j (λ k m. grows-lt (releaseOf S i) ((jobs S) .rel-grows i l) k j (omega arith))))
+  whole-before t i j l h =
+      omega (
+        arith,
+        served-le (jobs S) s R t i l,
+        mul-le-mul-left (costOf S i)
+            (below-most (releaseOf S i) ((jobs S) .rel-grows i l) t j (λ k m. grows-lt (releaseOf S i) ((jobs S) .rel-grows i l) k j (omega arith))),
+      )
 
   -- What is left of a job, from one round after the start on, is left of its twin a round later.
   pub repeats : (t i j : ℕ) → i < size S → Y .start + Y .round ≤ t → restOf (jobs S) s t i j ≡ restOf (jobs S) s (t + Y .round) i (j + Y .times i)
@@ -70,7 +78,8 @@ module _ (S : System) (Y : Cycle S) (light : Light S Y) (s : ℕ → ℕ → ℕ
       go (yes r) zero e = absurd (omega (arith, key-pos S i j l))
       go (yes r) (suc κ) e =
           let f : suc (κ + spread S * Y .round) ≡ keyOf S i (j + Y .times i) = omega (arith, key-later S Y i l j) in
-          let k : left (jobs S) s (keyOf S i (j + Y .times i)) (t + Y .round) ≡ left (jobs S) s (keyOf S i j + spread S * Y .round) (t + Y .round) = ap (λ (x : ℕ). left (jobs S) s x (t + Y .round)) (key-later S Y i l j) in
+          let k : left (jobs S) s (keyOf S i (j + Y .times i)) (t + Y .round) ≡ left (jobs S) s (keyOf S i j + spread S * Y .round)
+          (t + Y .round) = ap (λ (x : ℕ). left (jobs S) s x (t + Y .round)) (key-later S Y i l j) in
           omega (
             arith,
             job-left (jobs S) s t i j κ l (sym e) r,
@@ -80,7 +89,8 @@ module _ (S : System) (Y : Cycle S) (light : Light S Y) (s : ℕ → ℕ → ℕ
           )
 
   -- So one is done exactly if the other is a round later.
-  pub repeats-done : (t i j : ℕ) → i < size S → Y .start + Y .round ≤ t → (costOf S i * suc j ≤ s t i) ↔ (costOf S i * suc (j + Y .times i) ≤ s (t + Y .round) i)
+  pub repeats-done : (t i j : ℕ) → i < size S → Y .start + Y .round ≤ t → (costOf S i * suc j ≤ s t i)
+      ↔ (costOf S i * suc (j + Y .times i) ≤ s (t + Y .round) i)
   repeats-done t i j l h = (
     λ d. rest-done (jobs S) s (t + Y .round) i (j + Y .times i) l .0 (sym (repeats t i j l h) ∙ rest-done (jobs S) s t i j l .1 d),
     λ d. rest-done (jobs S) s t i j l .0 (repeats t i j l h ∙ rest-done (jobs S) s (t + Y .round) i (j + Y .times i) l .1 d),

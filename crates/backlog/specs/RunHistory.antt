@@ -1,4 +1,5 @@
--- THE RUN IS A HISTORY (`run-history`) with nothing reported, where each job is due by the next release and every deadline is met. So what is asked of histories can be met.
+-- THE RUN IS A HISTORY (`run-history`) with nothing reported, where each job is due by the next release and every deadline is met. So what is asked
+-- of histories can be met.
 use mathlib.Core.Path.{_≡_, refl, ap}
 use mathlib.Core.Logic.{inl, inr, _≢_}
 use Prim.Native.Nat.{ℕ, zero, suc, _-_, _*_, _/_, _≤_, _<_}
@@ -46,7 +47,8 @@ module _ (J : Jobs) (D : Dues J) (constrained : Constrained J D) (s : ℕ → �
     where
       fresh : (t i j : ℕ) → i < J .n → J .rel i j ≡ t → Releases J i t → waiting t i ≡ J .cost i
       fresh t i j l e (inr (n, q)) = absurd (n j e)
-      fresh t i j l e (inl (k, q, a, b)) = omega (arith, earlier-done t i k l b, served-le J s R t i l, ap (λ (x : ℕ). J .cost i * x) a, ap (λ (x : ℕ). J .cost i * x) b)
+      fresh t i j l e (inl (k, q, a, b)) =
+          omega (arith, earlier-done t i k l b, served-le J s R t i l, ap (λ (x : ℕ). J .cost i * x) a, ap (λ (x : ℕ). J .cost i * x) b)
 
       kept : (t i : ℕ) → ((j : ℕ) → J .rel i j ≢ t) → Releases J i t → waiting t i ≡ released J t i - s t i
       kept t i n (inl (k, q, a, b)) = absurd (n k q)
@@ -54,7 +56,8 @@ module _ (J : Jobs) (D : Dues J) (constrained : Constrained J D) (s : ℕ → �
 
       slot : (t : ℕ) → SlotOf J t (s t) (s (suc t)) → Goes J waiting gave t
       slot t (inl d) = inl (λ i l. omega (arith, d .none i l))
-      slot t (inr (k, d)) = inr (k, d .bound, omega (arith, d .ready), λ i l p. least-of i l (omega arith), omega (arith, d .one), λ i l e. omega (arith, d .rest i l e))
+      slot t (inr (k, d)) =
+          inr (k, d .bound, omega (arith, d .ready), λ i l p. least-of i l (omega arith), omega (arith, d .one), λ i l e. omega (arith, d .rest i l e))
         where
           least-of : (i : ℕ) → i < J .n → s t i < released J (suc t) i → openKey J (suc t) k ≤ openKey J (suc t) i
           least-of i l p = omega (arith, d .least i l p, ap (J .key i) (at-last t i l p), ap (J .key k) (at-last t k (d .bound) (d .ready)))

@@ -1,4 +1,5 @@
--- THE RUN'S RULE (`run-rule`), in the specification's words: the slot goes to the waiting job with the earliest deadline, ties by the order; to none only if none waits.
+-- THE RUN'S RULE (`run-rule`), in the specification's words: the slot goes to the waiting job with the earliest deadline, ties by the order; to none
+-- only if none waits.
 use mathlib.Core.Path.{_≡_, refl, ap}
 use mathlib.Core.Logic.{_⊎_, inl, inr}
 use Prim.Native.Nat.{ℕ, suc, _*_, _≤_, _<_}
@@ -35,12 +36,16 @@ module _ (S : System) where
       later : (i j k m : ℕ) → i < size S → NoLater (λ k. dueOf S k (at S u k)) (S .rank) i k → at S u i ≡ j → Waiting u k m → JobNoLater S i j k m
       later i j k m l (inl a) e w = inl (omega (arith, ap (dueOf S i) e, mul-le-mul-right (periodOf S k) (before k m w)))
       later i j k m l (inr (a, r)) e w = elim (ℕ-discrete (at S u k) m) [
-        | yes q ↦ inr (omega (arith, ap (dueOf S i) e, ap (dueOf S k) q), standing-says (S .rank) i k (omega (arith, S .size-le)) (omega (arith, w .0, S .size-le)) r)
-        | no q ↦ let n : suc (at S u k) ≤ m = omega (arith, before k m w) in inl (omega (arith, ap (dueOf S i) e, mul-le-mul-right (periodOf S k) n, period-pos S k (w .0)))
+        | yes q ↦
+            inr (omega (arith, ap (dueOf S i) e, ap (dueOf S k) q), standing-says (S .rank) i k (omega (arith, S .size-le)) (omega (arith, w .0, S .size-le)) r)
+        | no q ↦
+            let n : suc (at S u k) ≤ m = omega (arith, before k m w) in
+            inl (omega (arith, ap (dueOf S i) e, mul-le-mul-right (periodOf S k) n, period-pos S k (w .0)))
       ]
 
       go : Owned S u
-          → ((runAt S u ≡ none) × ((i j : ℕ) → Waiting u i j → ⊥)) ⊎ ((i : ℕ) × (j : ℕ) × (runAt S u ≡ job i j) × Waiting u i j × ((k m : ℕ) → Waiting u k m → JobNoLater S i j k m))
+          → ((runAt S u ≡ none) × ((i j : ℕ) → Waiting u i j → ⊥)) ⊎
+          ((i : ℕ) × (j : ℕ) × (runAt S u ≡ job i j) × Waiting u i j × ((k m : ℕ) → Waiting u k m → JobNoLater S i j k m))
       go (inl c) = inl (run-none S u (omega (arith, c .none, S .size-le)), λ i j w. c .shut i (w .0) (ready i j w))
       go (inr c) = inr (
         runOwner S u,

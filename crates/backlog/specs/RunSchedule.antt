@@ -43,7 +43,8 @@ module _ (S : System) where
     where
       go : (d : SlotOf (jobs S) u (servedOf S u) (servedOf S (suc u))) → Owned S u → runAt u ≡ slotOf (jobs S) u (servedOf S u) (servedOf S (suc u)) d
       go (inl d) (inl c) = run-none u (omega (arith, c .none, S .size-le))
-      go (inl d) (inr c) = absurd (omega (arith, d .none (runOwner u) (c .bound), ready-iff S (runOwner u) u (servedOf S u (runOwner u)) (c .bound) .0 (c .opened)))
+      go (inl d) (inr c) =
+          absurd (omega (arith, d .none (runOwner u) (c .bound), ready-iff S (runOwner u) u (servedOf S u (runOwner u)) (c .bound) .0 (c .opened)))
       go (inr (k, d)) c = elim (ℕ-discrete k (runOwner u)) [
         | yes e ↦ rw e (run-job u (omega (arith, d .bound)))
         | no e ↦ absurd (omega (arith, d .one, others-served S u k e))
@@ -72,4 +73,5 @@ module _ (S : System) where
   -- If every job is done by its deadline, the run is a good schedule.
   pub run-good : Met (jobs S) (dues S) (servedOf S) → Good (S .table) (run (S .table) (S .rank))
   unfolding Good
-  run-good h i j l = omega (arith, given-streamed i j (releaseOf S i j) (dueOf S i j), stream-given (jobs S) (servedOf S) (model-run S) i j (dueOf S i j) l (h i j l))
+  run-good h i j l =
+      omega (arith, given-streamed i j (releaseOf S i j) (dueOf S i j), stream-given (jobs S) (servedOf S) (model-run S) i j (dueOf S i j) l (h i j l))

@@ -60,7 +60,8 @@ module _ (S : System) (Y : Cycle S) where
 
   -- A round has a job of each task, and no period is longer.
   pub times-pos : (i : ℕ) → i < size S → 0 < Y .times i
-  times-pos i l = elim (eq-zero-or-pos (Y .times i)) [ inl e ↦ absurd (omega (arith, Y .round-pos, Y .common i l, ap (λ (x : ℕ). x * periodOf S i) e)) | inr p ↦ p ]
+  times-pos i l =
+      elim (eq-zero-or-pos (Y .times i)) [ inl e ↦ absurd (omega (arith, Y .round-pos, Y .common i l, ap (λ (x : ℕ). x * periodOf S i) e)) | inr p ↦ p ]
 
   pub period-le-round : (i : ℕ) → i < size S → periodOf S i ≤ Y .round
   period-le-round i l = omega (arith, Y .common i l, mul-le-mul-right (periodOf S i) (times-pos i l))
@@ -72,30 +73,55 @@ module _ (S : System) (Y : Cycle S) where
   key-later i l j = omega (arith, ap (λ (x : ℕ). spread S * x) (Y .common i l))
 
   class-later-le : (i κ : ℕ) → i < size S → work J (κ + spread S * Y .round) i ≤ work J κ i + costOf S i * Y .times i
-  class-later-le i κ l = omega (arith, mul-le-mul-left (costOf S i) (subst (λ (x : ℕ). below (keyOf S i) x ≤ below (keyOf S i) (suc κ) + Y .times i) (suc-add κ (spread S * Y .round)) (below-later-le (keyOf S i) (J .key-grows i l) (Y .times i) (spread S * Y .round) (key-later i l) (suc κ))))
+  class-later-le i κ l =
+      omega (
+        arith,
+        mul-le-mul-left (costOf S i)
+            (subst (λ (x : ℕ). below (keyOf S i) x ≤ below (keyOf S i) (suc κ) + Y .times i) (suc-add κ (spread S * Y .round))
+            (below-later-le (keyOf S i) (J .key-grows i l) (Y .times i) (spread S * Y .round) (key-later i l) (suc κ))),
+      )
 
   class-later : (i κ : ℕ) → i < size S → (work J κ i ≡ 0) ⊎ (work J (κ + spread S * Y .round) i ≡ work J κ i + costOf S i * Y .times i)
   class-later i κ l =
-      scaled (costOf S i) (Y .times i) (subst (λ (x : ℕ). (below (keyOf S i) (suc κ) ≡ 0) ⊎ (below (keyOf S i) x ≡ below (keyOf S i) (suc κ) + Y .times i)) (suc-add κ (spread S * Y .round)) (below-later-or (keyOf S i) (J .key-grows i l) (Y .times i) (spread S * Y .round) (key-later i l) (suc κ)))
+      scaled (costOf S i) (Y .times i) (subst (λ (x : ℕ). (below (keyOf S i) (suc κ) ≡ 0)
+      ⊎ (below (keyOf S i) x ≡ below (keyOf S i) (suc κ) + Y .times i)) (suc-add κ (spread S * Y .round)) (below-later-or (keyOf S i)
+      (J .key-grows i l) (Y .times i) (spread S * Y .round) (key-later i l) (suc κ)))
 
   rel-later-le : (i t : ℕ) → i < size S → released J (t + Y .round) i ≤ released J t i + costOf S i * Y .times i
-  rel-later-le i t l = omega (arith, mul-le-mul-left (costOf S i) (below-later-le (releaseOf S i) (J .rel-grows i l) (Y .times i) (Y .round) (release-later i l) t))
+  rel-later-le i t l =
+      omega (arith, mul-le-mul-left (costOf S i) (below-later-le (releaseOf S i) (J .rel-grows i l) (Y .times i) (Y .round) (release-later i l) t))
 
   rel-later-from : (i t : ℕ) → i < size S → offsetOf S i ≤ t → released J (t + Y .round) i ≡ released J t i + costOf S i * Y .times i
-  rel-later-from i t l h = omega (arith, ap (λ (x : ℕ). costOf S i * x) (below-later (releaseOf S i) (J .rel-grows i l) (Y .times i) (Y .round) (release-later i l) t (omega arith)))
+  rel-later-from i t l h =
+      omega (arith, ap (λ (x : ℕ). costOf S i * x) (below-later (releaseOf S i) (J .rel-grows i l) (Y .times i) (Y .round) (release-later i l) t (omega arith)))
 
   rel-later : (i t : ℕ) → i < size S → (released J t i ≡ 0) ⊎ (released J (t + Y .round) i ≡ released J t i + costOf S i * Y .times i)
   rel-later i t l = scaled (costOf S i) (Y .times i) (below-later-or (releaseOf S i) (J .rel-grows i l) (Y .times i) (Y .round) (release-later i l) t)
 
-  arr-up : (κ t u : ℕ) → u ≤ t → arrivals J κ t + arrivals J (κ + spread S * Y .round) (u + Y .round) ≤ arrivals J (κ + spread S * Y .round) (t + Y .round) + arrivals J κ u
-  arr-up κ t u h = sum-le-add (size S) _ _ _ _ (λ i l. up _ _ _ _ _ _ _ (class-later i κ l) (rel-later i t l) (rel-later-le i u l) (released-mono J i l (u + Y .round) (t + Y .round) (omega arith)))
+  arr-up : (κ t u : ℕ) → u ≤ t → arrivals J κ t + arrivals J (κ + spread S * Y .round) (u + Y .round) ≤ arrivals J (κ + spread S * Y .round)
+      (t + Y .round) + arrivals J κ u
+  arr-up κ t u h =
+      sum-le-add (size S) _ _ _ _
+      (λ i l. up _ _ _ _ _ _ _ (class-later i κ l) (rel-later i t l) (rel-later-le i u l) (released-mono J i l (u + Y .round) (t + Y .round) (omega arith)))
 
-  arr-down : (κ t u : ℕ) → u ≤ t → Y .start ≤ u → arrivals J (κ + spread S * Y .round) (t + Y .round) + arrivals J κ u ≤ arrivals J κ t + arrivals J (κ + spread S * Y .round) (u + Y .round)
-  arr-down κ t u h f = sum-le-add (size S) _ _ _ _ (λ i l. down _ _ _ _ _ _ _ (class-later i κ l) (class-later-le i κ l) (rel-later-from i t l (omega (arith, Y .starts i l))) (rel-later-from i u l (omega (arith, Y .starts i l))))
+  arr-down : (κ t u : ℕ) → u ≤ t → Y .start ≤ u → arrivals J (κ + spread S * Y .round) (t + Y .round) + arrivals J κ u ≤ arrivals J κ t + arrivals J
+      (κ + spread S * Y .round) (u + Y .round)
+  arr-down κ t u h f =
+      sum-le-add (size S) _ _ _ _ (λ i l. down _ _ _ _ _ _ _ (class-later i κ l) (class-later-le i κ l) (rel-later-from i t l (omega (
+        arith,
+        Y .starts i l,
+      ))) (rel-later-from i u l (omega (arith, Y .starts i l))))
 
-  arr-across : Light S Y → (κ t u : ℕ) → u ≤ t → arrivals J (κ + spread S * Y .round) (t + Y .round) + arrivals J κ u ≤ (arrivals J κ t + arrivals J (κ + spread S * Y .round) u) + Y .round
+  arr-across : Light S Y → (κ t u : ℕ) → u ≤ t → arrivals J (κ + spread S * Y .round) (t + Y .round) + arrivals J κ u ≤
+      (arrivals J κ t + arrivals J (κ + spread S * Y .round) u) + Y .round
   unfolding loadOf
-  arr-across light κ t u h = omega (arith, light, sum-add (size S) (λ i. min (work J κ i) (released J t i)) (λ i. min (work J (κ + spread S * Y .round) i) (released J u i)), sum-le-add (size S) _ _ _ _ (λ i l. across _ _ _ _ _ _ (class-later-le i κ l) (rel-later-le i t l) (released-mono J i l u t h)))
+  arr-across light κ t u h =
+      omega (
+        arith,
+        light,
+        sum-add (size S) (λ i. min (work J κ i) (released J t i)) (λ i. min (work J (κ + spread S * Y .round) i) (released J u i)),
+        sum-le-add (size S) _ _ _ _ (λ i l. across _ _ _ _ _ _ (class-later-le i κ l) (rel-later-le i t l) (released-mono J i l u t h)),
+      )
 
 -- The backlog of a busy period is at most that of another interval, if no more arrives in it, but for the slots that it is longer.
 compare : (J : Jobs) (s : ℕ → ℕ → ℕ) → Run J s → (κ κ' t t' u u' : ℕ) → Busy (arrive J κ) t u → u' ≤ t'
@@ -125,7 +151,8 @@ module _ (S : System) (Y : Cycle S) (s : ℕ → ℕ → ℕ) (R : Run (jobs S) 
       go (inl e) = omega arith
       go (inr p) =
           let (u, b) = busy-from (arrive (jobs S) κ) t (omega (arith, left-is (jobs S) s R κ t)) in
-          compare (jobs S) s R κ (κ + spread S * Y .round) t (t + Y .round) u (u + Y .round) b (omega (arith, b .early)) (omega (arith, arr-up S Y κ t u (omega (arith, b .early)))) (omega arith)
+          compare (jobs S) s R κ (κ + spread S * Y .round) t (t + Y .round) u (u + Y .round) b (omega (arith, b .early))
+          (omega (arith, arr-up S Y κ t u (omega (arith, b .early)))) (omega arith)
 
   -- And from one round after the start on no more is, without overload.
   left-down : Light S Y → (κ t : ℕ) → Y .start + Y .round ≤ t → left (jobs S) s (κ + spread S * Y .round) (t + Y .round) ≤ left (jobs S) s κ t
@@ -133,15 +160,21 @@ module _ (S : System) (Y : Cycle S) (s : ℕ → ℕ → ℕ) (R : Run (jobs S) 
     where
       from : (u : ℕ) → Busy (arrive (jobs S) (κ + spread S * Y .round)) (t + Y .round) u → Dec (u ≤ t) → lft (κ + spread S * Y .round) (t + Y .round) ≤ lft κ t
       from u b (yes d) = compare (jobs S) s R (κ + spread S * Y .round) κ (t + Y .round) t u u b d (omega (arith, arr-across S Y light κ t u d)) (omega arith)
-      from u b (no d) = moved (u - Y .round) (subst (λ (x : ℕ). Busy (arrive (jobs S) (κ + spread S * Y .round)) (t + Y .round) x) (sym (sub-add-cancel {n = u} {m = Y .round} (omega arith))) b) (omega (arith, b .early)) (omega arith)
+      from u b (no d) =
+          moved (u - Y .round) (subst (λ (x : ℕ). Busy (arrive (jobs S) (κ + spread S * Y .round)) (t + Y .round) x)
+          (sym (sub-add-cancel {n = u} {m = Y .round} (omega arith))) b) (omega (arith, b .early)) (omega arith)
         where
-          moved : (v : ℕ) → Busy (arrive (jobs S) (κ + spread S * Y .round)) (t + Y .round) (v + Y .round) → v ≤ t → Y .start ≤ v → lft (κ + spread S * Y .round) (t + Y .round) ≤ lft κ t
-          moved v b k f = compare (jobs S) s R (κ + spread S * Y .round) κ (t + Y .round) t (v + Y .round) v b k (omega (arith, arr-down S Y κ t v k f)) (omega arith)
+          moved : (v : ℕ) → Busy (arrive (jobs S) (κ + spread S * Y .round)) (t + Y .round) (v + Y .round) → v ≤ t → Y .start ≤ v
+              → lft (κ + spread S * Y .round) (t + Y .round) ≤ lft κ t
+          moved v b k f =
+              compare (jobs S) s R (κ + spread S * Y .round) κ (t + Y .round) t (v + Y .round) v b k (omega (arith, arr-down S Y κ t v k f)) (omega arith)
 
-      go : (lft (κ + spread S * Y .round) (t + Y .round) ≡ 0) ⊎ (0 < lft (κ + spread S * Y .round) (t + Y .round)) → lft (κ + spread S * Y .round) (t + Y .round) ≤ lft κ t
+      go : (lft (κ + spread S * Y .round) (t + Y .round) ≡ 0) ⊎ (0 < lft (κ + spread S * Y .round) (t + Y .round))
+          → lft (κ + spread S * Y .round) (t + Y .round) ≤ lft κ t
       go (inl e) = omega arith
       go (inr p) =
-          let (u, b) = busy-from (arrive (jobs S) (κ + spread S * Y .round)) (t + Y .round) (omega (arith, left-is (jobs S) s R (κ + spread S * Y .round) (t + Y .round))) in
+          let (u, b) = busy-from (arrive (jobs S) (κ + spread S * Y .round)) (t + Y .round)
+          (omega (arith, left-is (jobs S) s R (κ + spread S * Y .round) (t + Y .round))) in
           from u b (decLe u t)
 
   -- So as much is left then as now.

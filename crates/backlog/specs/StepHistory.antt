@@ -78,7 +78,8 @@ module _ (t : Table) (r : Ranged t) (rank : Order) (done : ℕ → Bool) where
     slot = λ n. slot n (chosen t rank (stateAtBy t rank done n) (done n) (r .few));
   }
     where
-      fresh : (n i j : ℕ) → i < t .count → releaseOf S i j ≡ n → ((k : ℕ) × Fresh t r rank done n i k) ⊎ Kept t r rank done n i → ready t rank done n i ≡ task t i .cost
+      fresh : (n i j : ℕ) → i < t .count → releaseOf S i j ≡ n → ((k : ℕ) × Fresh t r rank done n i k) ⊎ Kept t r rank done n i
+          → ready t rank done n i ≡ task t i .cost
       fresh n i j l e (inl (k, f)) = f .left
       fresh n i j l e (inr k) = absurd (k .none j e)
 
@@ -91,10 +92,13 @@ module _ (t : Table) (r : Ranged t) (rank : Order) (done : ℕ → Bool) where
 
       spent : (n i : ℕ) → i < t .count → Dec (ownerAtBy t rank done n ≡ i) → ready t rank done n i ≡ open' t rank done (suc n) i + gave t rank done n i
       spent n i l (no e) = rw (left-next t r rank done n i (sound t r rank done n) l, ne-eqb (ownerAtBy t rank done n) i e) (omega arith)
-      spent n i l (yes e) = rw (left-next t r rank done n i (sound t r rank done n) l, eq-eqb (ownerAtBy t rank done n) i e) (omega (arith, owner-ready t rank (stateAtBy t rank done n) (done n) (r .few) i l e))
+      spent n i l (yes e) =
+          rw (left-next t r rank done n i (sound t r rank done n) l, eq-eqb (ownerAtBy t rank done n) i e)
+          (omega (arith, owner-ready t rank (stateAtBy t rank done n) (done n) (r .few) i l e))
 
       slot : (n : ℕ) → Picks t rank (stateAtBy t rank done n) (done n) → Goes (jobs S) (ready t rank done) (gave t rank done) n
-      slot n (inl c) = inl (λ i l. elim (decLt 0 (ready t rank done n i)) [ yes p ↦ absurd (c .shut i l (lt→ltb 0 (ready t rank done n i) p)) | no p ↦ omega arith ])
+      slot n (inl c) =
+          inl (λ i l. elim (decLt 0 (ready t rank done n i)) [ yes p ↦ absurd (c .shut i l (lt→ltb 0 (ready t rank done n i) p)) | no p ↦ omega arith ])
       slot n (inr c) =
           let p : 0 < ready t rank done n (ownerAtBy t rank done n) = ltb→lt 0 (ready t rank done n (ownerAtBy t rank done n)) (c .opened) in
           inr (

@@ -1,4 +1,5 @@
--- EVERY STATE IS SOUND (`sound`): from a start on a table that keeps its ranges every state belongs to it, a wait tells the next release, and an open job is the last released and not past its deadline.
+-- EVERY STATE IS SOUND (`sound`): from a start on a table that keeps its ranges every state belongs to it, a wait tells the next release, and an open
+-- job is the last released and not past its deadline.
 use mathlib.Core.Path.{_≡_, ap, _∙_}
 use mathlib.Core.Logic.{_⊎_, inl, inr, _≢_}
 use mathlib.Core.Bool.{Bool, cond}
@@ -19,7 +20,8 @@ use Rattle.wellformed.specs.Ranges.{Ranged}
 use Rattle.backlog.specs.Domination.{Releases, releases}
 use Rattle.backlog.specs.System.{System, releaseOf, dueOf, jobs, releasedBy}
 use Rattle.backlog.specs.TableSystem.{systemOf}
-use Rattle.backlog.specs.Taken.{Belongs, KeptOrClosed, closed-late-iff, left-done-le, kept-or-closed, wait-start, left-start, belongs-start, wait-after, left-after, belongs-after, kept-open, dueIn}
+use Rattle.backlog.specs.Taken.{Belongs, KeptOrClosed, closed-late-iff, left-done-le, kept-or-closed, wait-start, left-start, belongs-start}
+use Rattle.backlog.specs.Taken.{wait-after, left-after, belongs-after, kept-open, dueIn}
 
 module _ (t : Table) (r : Ranged t) (rank : Order) (done : ℕ → Bool) where
   abbrev S : System
@@ -58,10 +60,17 @@ module _ (t : Table) (r : Ranged t) (rank : Order) (done : ℕ → Bool) where
           inl (j, record { now = e; earlier = b; passed = c; wait = rw (eq-eqb (waitOf (before n) i) 0 z); left = rw (eq-eqb (waitOf (before n) i) 0 z) })
       go (inr (none, c)) =
           let w : waitOf (before n) i ≢ 0 = λ z. none (releasedBy S i n) (omega (arith, s .next i l)) in
-          inr (record { none = none; passed = c; waited = omega arith; wait = rw (ne-eqb (waitOf (before n) i) 0 w); left = rw (ne-eqb (waitOf (before n) i) 0 w) (kept-or-closed t (before n) (done n) i) })
+          inr (record {
+            none = none;
+            passed = c;
+            waited = omega arith;
+            wait = rw (ne-eqb (waitOf (before n) i) 0 w);
+            left = rw (ne-eqb (waitOf (before n) i) 0 w) (kept-or-closed t (before n) (done n) i);
+          })
 
   -- A job closed as late is at its deadline, and has slots left.
-  pub late-is : (n i : ℕ) → Sound n → T (isLate t (before n) (done n) i) → (0 < leftOf (before n) i) × ((j : ℕ) × (dueOf S i j ≡ n) × (releasedBy S i n ≡ suc j))
+  pub late-is : (n i : ℕ) → Sound n → T (isLate t (before n) (done n) i) → (0 < leftOf (before n) i)
+      × ((j : ℕ) × (dueOf S i j ≡ n) × (releasedBy S i n ≡ suc j))
   late-is n i s h =
       let (l, p, w) = closed-late-iff t (before n) (done n) i .0 h in
       let some : 0 < leftOf (before n) i = omega (arith, left-done-le t (before n) (done n) i) in
@@ -80,7 +89,8 @@ module _ (t : Table) (r : Ranged t) (rank : Order) (done : ℕ → Bool) where
       → (j : ℕ) × (releasedBy S i (suc n) ≡ suc j) × (dueOf S i j ≡ n + dueIn t (before n) (done n) i) × (n < dueOf S i j)
   ready-is n i s l p = go (finds n i s l)
     where
-      go : ((j : ℕ) × Fresh n i j) ⊎ Kept n i → (j : ℕ) × (releasedBy S i (suc n) ≡ suc j) × (dueOf S i j ≡ n + dueIn t (before n) (done n) i) × (n < dueOf S i j)
+      go : ((j : ℕ) × Fresh n i j) ⊎ Kept n i → (j : ℕ) × (releasedBy S i (suc n) ≡ suc j) × (dueOf S i j ≡ n + dueIn t (before n) (done n) i)
+          × (n < dueOf S i j)
       go (inl (j, f)) = (j, f .passed, omega (arith, f .now, f .wait, r .each i l .deadline-le), omega (arith, f .now, r .each i l .deadline-pos))
       go (inr k) =
           let (some, apart) = kept-open t (before n) (done n) i l (λ e. absurd (omega (arith, k .waited))) p in
@@ -89,7 +99,8 @@ module _ (t : Table) (r : Ranged t) (rank : Order) (done : ℕ → Bool) where
           (j, k .passed ∙ b, omega (arith, k .wait, r .each i l .deadline-le), omega (arith, apart, r .each i l .deadline-le))
 
   -- What a step leaves of a job.
-  pub left-next : (n i : ℕ) → Sound n → i < t .count → leftOf (before (suc n)) i ≡ leftReleased t (before n) (done n) i - cond (eqb (ownerAtBy t rank done n) i) 1 0
+  pub left-next : (n i : ℕ) → Sound n → i < t .count → leftOf (before (suc n)) i
+      ≡ leftReleased t (before n) (done n) i - cond (eqb (ownerAtBy t rank done n) i) 1 0
   unfolding stateAtBy
   left-next n i s l = left-after t r rank (before n) (done n) (s .belongs) i l
 
@@ -113,7 +124,13 @@ module _ (t : Table) (r : Ranged t) (rank : Order) (done : ℕ → Bool) where
 
 module _ (t : Table) (rank : Order) (done : ℕ → Bool) where
   -- Entries past the table's last task are 0 from the start on.
-  pub past-none : (n i : ℕ) → t .count ≤ i → (getD (stateAtBy t rank done n .wait) i 0 ≡ 0) × (getD (stateAtBy t rank done n .left) i 0 ≡ 0) × (getD (stateAtBy t rank done n .given) i 0 ≡ 0)
+  pub past-none : (n i : ℕ) → t .count ≤ i → (getD (stateAtBy t rank done n .wait) i 0 ≡ 0) × (getD (stateAtBy t rank done n .left) i 0 ≡ 0)
+      × (getD (stateAtBy t rank done n .given) i 0 ≡ 0)
   unfolding stateAtBy startOf afterBy
   past-none zero i l = (fill-ahead (t .count) _ _ i 0 l ∙ getD-same taskLimit 0 i, getD-same taskLimit 0 i, getD-same taskLimit 0 i)
-  past-none (suc n) i l = (fill-ahead (t .count) _ _ i 0 l ∙ past-none n i l .0, fill-ahead (t .count) _ _ i 0 l ∙ past-none n i l .1, fill-ahead (t .count) _ _ i 0 l ∙ past-none n i l .2)
+  past-none (suc n) i l = (
+    fill-ahead (t .count) _ _ i 0 l ∙ past-none n i l .0,
+    fill-ahead (t .count) _ _ i 0 l ∙ past-none n i l .1,
+    fill-ahead (t .count) _ _ i 0 l
+        ∙ past-none n i l .2,
+  )

@@ -31,7 +31,12 @@ stream-run J = record { start = λ i l. refl; slot = λ t. slot t (runOf J t) (d
   where
     slot : (t : ℕ) (s : ℕ → ℕ) (d : Dec (T (some (pending J t s) (J .n)))) → SlotOf J t s (served J t s d)
     slot t s (no h) = inl (record {
-      none = λ i l. elim (decLt (s i) (released J (suc t) i)) [ yes p ↦ absurd (h (some-iff (pending J t s) (J .n) .1 (i, l, lt→ltb (s i) (released J (suc t) i) p))) | no p ↦ omega arith ];
+      none =
+          λ i l. elim (decLt (s i) (released J (suc t) i)) [
+            | yes p ↦ absurd
+                (h (some-iff (pending J t s) (J .n) .1 (i, l, lt→ltb (s i) (released J (suc t) i) p)))
+            | no p ↦ omega arith
+          ];
       rest = λ i l. refl;
     })
     slot t s (yes h) =

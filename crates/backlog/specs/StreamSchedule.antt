@@ -68,7 +68,8 @@ module _ (J : Jobs) (s : ℕ → ℕ → ℕ) (R : Run J s) where
           let (x, y) = and-iff (eqb k i) (eqb (s u k / J .cost k) j) .0 t in
           let e : k ≡ i = eqb→eq k i x in
           let f : s u k / J .cost k ≡ j = eqb→eq (s u k / J .cost k) j y in
-          let r : J .rel k (s u k / J .cost k) < suc u = work-lt (J .rel k) (J .rel-grows k (d .bound)) (J .cost k) (suc u) (s u k) (J .cost-pos k (d .bound)) .0 (d .ready) in
+          let r : J .rel k (s u k / J .cost k) < suc u = work-lt (J .rel k) (J .rel-grows k (d .bound)) (J .cost k) (suc u) (s u k)
+          (J .cost-pos k (d .bound)) .0 (d .ready) in
           let q : J .rel i j < suc u = rw (f, e) at r in
           omega arith
 

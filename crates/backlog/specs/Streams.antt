@@ -77,7 +77,8 @@ module _ (J : Jobs) where
 
   -- The job that a stream is at is in the class exactly if some class work of the stream is not served.
   pub in-class : (κ i : ℕ) → i < J .n → (s : ℕ) → (s < work J κ i) ↔ (keyAt J i s ≤ κ)
-  in-class κ i l s = let law = work-lt (J .key i) (J .key-grows i l) (J .cost i) (suc κ) s (J .cost-pos i l) in (λ h. omega (arith, law .0 h), λ h. law .1 (omega arith))
+  in-class κ i l s =
+      let law = work-lt (J .key i) (J .key-grows i l) (J .cost i) (suc κ) s (J .cost-pos i l) in (λ h. omega (arith, law .0 h), λ h. law .1 (omega arith))
 
   -- All class work that is released before t has arrived in the slots up to there.
   pub arrived : (κ t : ℕ) → sum t (arrive J κ) ≡ arrivals J κ t

@@ -1,4 +1,5 @@
--- A TABLE IS STREAMS OF JOBS (`demand-streams`): one of no more tasks than allowed, which cost something and are due after their release and by the next one, with an order of its tasks, makes streams with the model's demand.
+-- A TABLE IS STREAMS OF JOBS (`demand-streams`): one of no more tasks than allowed, which cost something and are due after their release and by the
+-- next one, with an order of its tasks, makes streams with the model's demand.
 use mathlib.Core.Path.{_≡_, sym, ap, _∙_}
 use mathlib.Core.Logic.{_⊎_, inl, inr, _↔_}
 use Prim.Native.Nat.{ℕ, suc, _+_, _-_, _*_, _%_, _≤_, _<_}
@@ -85,7 +86,8 @@ module _ (S : System) where
   standing-low i l = omega (arith, S .size-le, le-largest (size S) (S .rank) i l)
 
   -- What comes no later has no larger key.
-  pub keys-order : (rel : ℕ → ℕ → ℕ) (i j k m : ℕ) → i < size S → Ahead (dueFrom S rel i j) (standing (S .rank) i) (dueFrom S rel k m) (standing (S .rank) k) → keyFrom S rel i j ≤ keyFrom S rel k m
+  pub keys-order : (rel : ℕ → ℕ → ℕ) (i j k m : ℕ) → i < size S → Ahead (dueFrom S rel i j) (standing (S .rank) i) (dueFrom S rel k m)
+      (standing (S .rank) k) → keyFrom S rel i j ≤ keyFrom S rel k m
   keys-order rel i j k m l (inl a) = omega (arith, standing-low i l, mul-le-mul-right (spread S) a)
   keys-order rel i j k m l (inr (e, r)) = omega (arith, ap (λ (x : ℕ). x * spread S) e)
 
@@ -98,7 +100,8 @@ module _ (S : System) (rel : ℕ → ℕ → ℕ) (apart : Apart S rel) where
 
   pub keys-apart : (i j k l : ℕ) → i < size S → k < size S → keyFrom S rel i j ≡ keyFrom S rel k l → i ≡ k
   keys-apart i j k l a b e =
-      let same : standing (S .rank) i ≡ standing (S .rank) k = sym (digits-mod (dueFrom S rel i j) (standing-low S i a)) ∙ ap (λ (x : ℕ). x % spread S) e ∙ digits-mod (dueFrom S rel k l) (standing-low S k b) in
+      let same : standing (S .rank) i ≡ standing (S .rank) k = sym (digits-mod (dueFrom S rel i j) (standing-low S i a))
+      ∙ ap (λ (x : ℕ). x % spread S) e ∙ digits-mod (dueFrom S rel k l) (standing-low S k b) in
       omega (arith, S .size-le)
 
   pub keys-cut : (i j t : ℕ) → i < size S → (keyFrom S rel i j ≤ t * spread S + (spread S - 1)) ↔ (dueFrom S rel i j ≤ t)
@@ -150,4 +153,5 @@ constrained S i j l = omega (arith, S .deadline-le i l)
 -- The model's demand is that of the streams.
 pub demand-streams : (S : System) (t1 t2 : ℕ) → demand (S .table) t1 t2 ≡ streams.demand (jobs S) (dues S) t1 t2
 unfolding demand streams.demand
-demand-streams S t1 t2 = sum-eq (size S) _ _ (λ i l. ap (λ (n : ℕ). costOf S i * n) (jobs-numbered (task (S .table) i) (period-pos S i l) (S .deadline-pos i l) t1 t2))
+demand-streams S t1 t2 =
+    sum-eq (size S) _ _ (λ i l. ap (λ (n : ℕ). costOf S i * n) (jobs-numbered (task (S .table) i) (period-pos S i l) (S .deadline-pos i l) t1 t2))

@@ -1,4 +1,5 @@
--- A TABLE'S HORIZON (`horizon-is`): a table that keeps its ranges is a system, in any order of its tasks, and its H and largest offset make a cycle that has the model's load and horizon.
+-- A TABLE'S HORIZON (`horizon-is`): a table that keeps its ranges is a system, in any order of its tasks, and its H and largest offset make a cycle
+-- that has the model's load and horizon.
 use mathlib.Core.Path.{_≡_, refl}
 use Prim.Native.Nat.{_/_}
 use native.Mathlib.Nat.{div-mul-cancel}

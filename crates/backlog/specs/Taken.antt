@@ -1,4 +1,5 @@
--- ONCE TAKEN, NEVER REFUSED (`belongs-after`): what a step makes of a state that belongs to its table, which keeps its ranges, belongs to it too, whoever made the state.
+-- ONCE TAKEN, NEVER REFUSED (`belongs-after`): what a step makes of a state that belongs to its table, which keeps its ranges, belongs to it too,
+-- whoever made the state.
 use mathlib.Core.Path.{_≡_, refl, sym, subst, _∙_}
 use mathlib.Core.Logic.{_⊎_, inl, inr, _≢_, _↔_}
 use mathlib.Core.Bool.{Bool, true, false, cond, _&&_, _||_}
@@ -13,7 +14,8 @@ use Rattle.model.specs.Limits.{taskLimit}
 use Rattle.model.specs.Notation.{bit, sum}
 use Rattle.model.specs.Tasks.{task, offset}
 use Rattle.model.specs.Run.{Order}
-use Rattle.model.specs.Dispatcher.{State, waitOf, leftOf, isOpen, givenOf, slotCount, strange, firstStrange, lastStrange, startOf, leftDone, isLate, leftLate, waitReleased, leftReleased, earliest, slotGiven, ownerNowBy, afterBy}
+use Rattle.model.specs.Dispatcher.{State, waitOf, leftOf, isOpen, givenOf, slotCount, strange, firstStrange, lastStrange, startOf, leftDone, isLate}
+use Rattle.model.specs.Dispatcher.{leftLate, waitReleased, leftReleased, earliest, slotGiven, ownerNowBy, afterBy}
 use Rattle.counting.specs.Count.{and-iff, eq→eqb, one-of-iff, or-left, or-right}
 use Rattle.counting.specs.Search.{first-before, first-none}
 use Rattle.counting.specs.Sum.{sum-eq, sum-by}
@@ -52,27 +54,56 @@ module _ (t : Table) where
 
   ordinary : (d : State) (i : ℕ) → (T (strange t d i) → ⊥) → Ordinary d i
   ordinary d i h = record {
-    wait-le = elim (decLt (max (offset (task t i)) (task t i .period)) (waitOf d i)) [ yes p ↦ absurd (h (or-left (long d i || more d i) _ (or-left (long d i) (more d i) (lt→ltb _ _ p)))) | no p ↦ omega arith ];
-    left-le = elim (decLt (task t i .cost) (leftOf d i)) [ yes p ↦ absurd (h (or-left (long d i || more d i) _ (or-right (long d i) (more d i) (lt→ltb _ _ p)))) | no p ↦ omega arith ];
-    open-from = λ o. elim (decLt (waitOf d i) (task t i .period - task t i .deadline)) [ yes p ↦ absurd (strange-open o (or-left (early d i) (late d i) (lt→ltb _ _ p))) | no p ↦ omega arith ];
-    open-to = λ o. elim (decLt (task t i .period - 1) (waitOf d i)) [ yes p ↦ absurd (strange-open o (or-right (early d i) (late d i) (lt→ltb _ _ p))) | no p ↦ omega arith ];
+    wait-le =
+        elim (decLt (max (offset (task t i)) (task t i .period)) (waitOf d i)) [
+          | yes p ↦ absurd
+              (h (or-left (long d i || more d i) _ (or-left (long d i) (more d i) (lt→ltb _ _ p))))
+          | no p ↦ omega arith
+        ];
+    left-le =
+        elim (decLt (task t i .cost) (leftOf d i)) [
+          | yes p ↦ absurd
+              (h (or-left (long d i || more d i) _ (or-right (long d i) (more d i) (lt→ltb _ _ p))))
+          | no p ↦ omega arith
+        ];
+    open-from =
+        λ o. elim (decLt (waitOf d i) (task t i .period - task t i .deadline)) [
+          | yes p ↦ absurd
+              (strange-open o (or-left (early d i) (late d i) (lt→ltb _ _ p)))
+          | no p ↦ omega arith
+        ];
+    open-to =
+        λ o. elim (decLt (task t i .period - 1) (waitOf d i)) [
+          | yes p ↦ absurd (strange-open o (or-right (early d i) (late d i) (lt→ltb _ _ p)))
+          | no p ↦ omega arith
+        ];
   }
     where
       strange-open : 0 < leftOf d i → T (early d i || late d i) → ⊥
-      strange-open o x = h (or-right (long d i || more d i) (isOpen d i && (early d i || late d i)) (and-iff (isOpen d i) (early d i || late d i) .1 (lt→ltb 0 (leftOf d i) o, x)))
+      strange-open o x =
+          h (or-right (long d i || more d i) (isOpen d i && (early d i || late d i))
+          (and-iff (isOpen d i) (early d i || late d i) .1 (lt→ltb 0 (leftOf d i) o, x)))
 
   not-strange : (d : State) (i : ℕ) → Ordinary d i → strange t d i ≡ false
   not-strange d i o = go (decLt 0 (leftOf d i))
     where
       go : Dec (0 < leftOf d i) → strange t d i ≡ false
-      go (yes p) = rw (le-ltb _ (waitOf d i) (o .wait-le), le-ltb (task t i .cost) (leftOf d i) (o .left-le), le-ltb (waitOf d i) (task t i .period - task t i .deadline) (o .open-from p), le-ltb (task t i .period - 1) (waitOf d i) (o .open-to p), lt-ltb 0 (leftOf d i) p)
+      go (yes p) =
+          rw (
+            le-ltb _ (waitOf d i) (o .wait-le),
+            le-ltb (task t i .cost) (leftOf d i) (o .left-le),
+            le-ltb (waitOf d i) (task t i .period - task t i .deadline) (o .open-from p),
+            le-ltb (task t i .period - 1) (waitOf d i) (o .open-to p),
+            lt-ltb 0 (leftOf d i) p,
+          )
       go (no p) = rw (le-ltb _ (waitOf d i) (o .wait-le), le-ltb (task t i .cost) (leftOf d i) (o .left-le), le-ltb 0 (leftOf d i) (omega arith))
 
   module _ (d : State) (done : Bool) (i : ℕ) where
     -- A job is closed as late exactly if it is open, once a done report is heard, and at its deadline.
     pub closed-late-iff : T (isLate t d done i) ↔ ((i < t .count) × (0 < leftDone t d done i) × (waitOf d i ≡ task t i .period - task t i .deadline))
     closed-late-iff = (
-      λ h. let (l, p) = and-iff (ltb i (t .count)) _ .0 h in let (q, e) = and-iff (ltb 0 (leftDone t d done i)) _ .0 p in (ltb→lt _ _ l, ltb→lt _ _ q, eqb→eq _ _ e),
+      λ h. let (l, p) =
+          and-iff (ltb i (t .count)) _ .0 h in let (q, e) = and-iff (ltb 0 (leftDone t d done i)) _ .0 p in (ltb→lt _ _ l, ltb→lt _ _ q, eqb→eq _ _ e),
       λ (l, q, e). simp and-iff (lt→ltb i (t .count) l, (lt→ltb 0 (leftDone t d done i) q, eq→eqb (waitOf d i) (task t i .period - task t i .deadline) e)),
     )
 
@@ -86,7 +117,9 @@ module _ (t : Table) where
 
     -- Rules 1 and 2 leave the slots of a job as they were, or none: for a report, or as late.
     abbrev pub KeptOrClosed : ℕ → Type 0
-    KeptOrClosed left = ((left ≡ leftOf d i) × (leftDone t d done i ≡ leftOf d i) × (T (isLate t d done i) → ⊥)) ⊎ ((left ≡ 0) × (T (done && eqb (d .last) i) ⊎ T (isLate t d done i)))
+    KeptOrClosed left =
+        ((left ≡ leftOf d i) × (leftDone t d done i ≡ leftOf d i) × (T (isLate t d done i) → ⊥))
+        ⊎ ((left ≡ 0) × (T (done && eqb (d .last) i) ⊎ T (isLate t d done i)))
 
     pub kept-or-closed : KeptOrClosed (leftLate t d done i)
     kept-or-closed = go (isLate t d done i) refl (done && eqb (d .last) i) refl
@@ -191,7 +224,13 @@ module _ (t : Table) where
       waits = fill-length (t .count) _ _ ∙ length-replicate {A = ℕ} taskLimit 0;
       lefts = length-replicate {A = ℕ} taskLimit 0;
       gives = length-replicate {A = ℕ} taskLimit 0;
-      each = none-strange (startOf t) (λ i l. record { wait-le = omega (arith, wait-start i l); left-le = omega (arith, left-start i); open-from = λ p. absurd (omega (arith, left-start i)); open-to = λ p. absurd (omega (arith, left-start i)) });
+      each =
+          none-strange (startOf t) (λ i l. record {
+            wait-le = omega (arith, wait-start i l);
+            left-le = omega (arith, left-start i);
+            open-from = λ p. absurd (omega (arith, left-start i));
+            open-to = λ p. absurd (omega (arith, left-start i));
+          });
       ran = refl;
     }
 
@@ -213,11 +252,21 @@ module _ (t : Table) where
         unfolding slotCount
         slots-given = go one
           where
-            go : (owner ≡ taskLimit) ⊎ (owner < t .count) → sum (t .count) (givenOf (slotGiven t d wait left owner)) + (d .empty + bit (eqb owner taskLimit)) ≡ sum (t .count) (givenOf d) + d .empty + 1
-            go (inl e) = rw (eq-eqb owner taskLimit e) (omega (arith, sum-eq (t .count) (givenOf (slotGiven t d wait left owner)) (givenOf d) (λ i l. rw (ne-eqb owner i (λ x. absurd (omega (arith, r .few)))) at (given-given i l) ∙ omega arith)))
+            go : (owner ≡ taskLimit) ⊎ (owner < t .count) → sum (t .count) (givenOf (slotGiven t d wait left owner)) +
+                (d .empty + bit (eqb owner taskLimit)) ≡ sum (t .count) (givenOf d) + d .empty + 1
+            go (inl e) =
+                rw (eq-eqb owner taskLimit e) (omega (
+                  arith,
+                  sum-eq (t .count) (givenOf (slotGiven t d wait left owner)) (givenOf d)
+                      (λ i l. rw (ne-eqb owner i (λ x. absurd (omega (arith, r .few)))) at (given-given i l) ∙ omega arith),
+                ))
             go (inr l) =
                 rw (ne-eqb owner taskLimit (λ x. absurd (omega (arith, r .few))))
-                (omega (arith, sum-by (t .count) (givenOf (slotGiven t d wait left owner)) (givenOf d) owner 1 l (rw (eq-eqb owner owner refl) at (given-given owner l)) (λ i m x. rw (ne-eqb owner i (λ y. x (sym y))) at (given-given i m) ∙ omega arith)))
+                (omega (
+                  arith,
+                  sum-by (t .count) (givenOf (slotGiven t d wait left owner)) (givenOf d) owner 1 l
+                      (rw (eq-eqb owner owner refl) at (given-given owner l)) (λ i m x. rw (ne-eqb owner i (λ y. x (sym y))) at (given-given i m) ∙ omega arith),
+                ))
 
         -- If rule 3 leaves numbers that fit the table, the successor belongs to it.
         pub belongs-given : ((i : ℕ) → i < t .count → Fit wait left i) → Belongs (slotGiven t d wait left owner)

@@ -66,10 +66,12 @@ module _ (t : Table) (budget : ℕ) where
   overload-iff = (λ e. overload-case (rw e at the-case), λ h. is-overload h .0)
 
   -- Late is said of the needed count alone.
-  late-case : {n : ℕ} (from to asked : ℕ) → Case (Verdict.Late from to asked) n → T (lateAt t (needed t)) × (lateVerdict t (needed t) ≡ Verdict.Late from to asked) × (n ≡ needed t)
+  late-case : {n : ℕ} (from to asked : ℕ) → Case (Verdict.Late from to asked) n → T (lateAt t (needed t))
+      × (lateVerdict t (needed t) ≡ Verdict.Late from to asked) × (n ≡ needed t)
   late-case from to asked (late g b l) = (l, refl, refl)
 
-  pub late-needed : (from to asked : ℕ) → verdict t budget ≡ Verdict.Late from to asked → T (lateAt t (needed t)) × (lateVerdict t (needed t) ≡ Verdict.Late from to asked) × (settledBy t budget ≡ needed t)
+  pub late-needed : (from to asked : ℕ) → verdict t budget ≡ Verdict.Late from to asked → T (lateAt t (needed t))
+      × (lateVerdict t (needed t) ≡ Verdict.Late from to asked) × (settledBy t budget ≡ needed t)
   late-needed from to asked e = late-case from to asked (rw e at the-case)
 
   -- Undecided exactly below the needed count, where there is no overload.

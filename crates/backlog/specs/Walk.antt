@@ -57,7 +57,8 @@ module _ (t : Table) (r : Ranged t) (rank : Order) where
       missed-iff S n .0 (i, j, l, omega arith, undone-iff S i j n l .1 (omega (arith, a i l, ap (λ (y : ℕ). task t i .cost * y) b)))
 
   -- Agreement before slot n gives it after the releases of slot n.
-  pub ready-agrees : (n : ℕ) → Agrees n → (T (lateAt t n) → ⊥) → (i : ℕ) → i < t .count → ready t rank quiet n i + servedOf S n i ≡ task t i .cost * releasedBy S i (suc n)
+  pub ready-agrees : (n : ℕ) → Agrees n → (T (lateAt t n) → ⊥) → (i : ℕ) → i < t .count
+      → ready t rank quiet n i + servedOf S n i ≡ task t i .cost * releasedBy S i (suc n)
   ready-agrees n a never i l = go (finds t r rank quiet n i (sound t r rank quiet n) l)
     where
       kept : Kept t r rank quiet n i → ready t rank quiet n i + servedOf S n i ≡ task t i .cost * releasedBy S i (suc n)
@@ -86,13 +87,20 @@ module _ (t : Table) (r : Ranged t) (rank : Order) where
       → dueOf S i (at S n i) ≡ n + dueIn t (walkedBy t rank n) false i
   at-job n a never i l p =
       let (j, b, e, d) = ready-is t r rank quiet n i (sound t r rank quiet n) l p in
-      let q : at S n i ≡ j = div-eq-of-lt-le (task t i .cost) (omega (arith, ready-agrees n a never i l, released-le t (walkedBy t rank n) false (sound t r rank quiet n .belongs) i l, ap (λ (y : ℕ). task t i .cost * y) b)) (omega (arith, ready-agrees n a never i l, ap (λ (y : ℕ). task t i .cost * y) b)) in
+      let q : at S n i ≡ j = div-eq-of-lt-le (task t i .cost)
+      (omega (
+        arith,
+        ready-agrees n a never i l,
+        released-le t (walkedBy t rank n) false (sound t r rank quiet n .belongs) i l,
+        ap (λ (y : ℕ). task t i .cost * y) b,
+      )) (omega (arith, ready-agrees n a never i l, ap (λ (y : ℕ). task t i .cost * y) b)) in
       ap (dueOf S i) q ∙ e
 
   -- The dispatcher gives the slot to the task that the run gives it to.
   pub owner-agrees : (n : ℕ) → Agrees n → (T (lateAt t n) → ⊥) → ownerAtBy t rank quiet n ≡ owner t rank n
   owner-agrees n a never =
-      chosen-same (λ i. ltb 0 (ready t rank quiet n i)) _ (dueIn t (walkedBy t rank n) false) (λ i. dueOf S i (at S n i)) rank (t .count) (ownerAtBy t rank quiet n) (owner t rank n)
+      chosen-same (λ i. ltb 0 (ready t rank quiet n i)) _ (dueIn t (walkedBy t rank n) false) (λ i. dueOf S i (at S n i)) rank (t .count)
+      (ownerAtBy t rank quiet n) (owner t rank n)
       (r .few)
       (λ i l p. ready-iff S i n (servedOf S n i) l .1 (omega (arith, ready-agrees n a never i l, ltb→lt 0 (ready t rank quiet n i) p)))
       (λ i l p. lt→ltb 0 (ready t rank quiet n i) (omega (arith, ready-agrees n a never i l, ready-iff S i n (servedOf S n i) l .0 p)))
@@ -118,8 +126,10 @@ module _ (t : Table) (r : Ranged t) (rank : Order) where
           left-now : leftOf (walkedBy t rank (suc n)) i ≡ ready t rank quiet n i - cond (eqb (ownerAtBy t rank quiet n) i) 1 0
           left-now = left-next t r rank quiet n i (sound t r rank quiet n) l
 
-          at : Dec (ownerAtBy t rank quiet n ≡ i) → ownerAtBy t rank quiet n ≡ owner t rank n → leftOf (walkedBy t rank (suc n)) i + servedOf S (suc n) i ≡ task t i .cost * releasedBy S i (suc n)
-          at (no e) q = rw (left-now, ne-eqb (ownerAtBy t rank quiet n) i e, others-served S n i (λ x. e (q ∙ sym x))) (omega (arith, ready-agrees n a never i l))
+          at : Dec (ownerAtBy t rank quiet n ≡ i) → ownerAtBy t rank quiet n ≡ owner t rank n
+              → leftOf (walkedBy t rank (suc n)) i + servedOf S (suc n) i ≡ task t i .cost * releasedBy S i (suc n)
+          at (no e) q =
+              rw (left-now, ne-eqb (ownerAtBy t rank quiet n) i e, others-served S n i (λ x. e (q ∙ sym x))) (omega (arith, ready-agrees n a never i l))
           at (yes e) q =
               let o : owner t rank n ≡ i = sym q ∙ e in
               let p : 0 < ready t rank quiet n i = owner-ready t rank (walkedBy t rank n) false (r .few) i l e in

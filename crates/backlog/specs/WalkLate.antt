@@ -1,4 +1,5 @@
--- THE FIRST LATE DEADLINE (`late-iff`): in a walk without done reports, with no late deadline before n, some open job is at its deadline at n exactly if n is late.
+-- THE FIRST LATE DEADLINE (`late-iff`): in a walk without done reports, with no late deadline before n, some open job is at its deadline at n exactly
+-- if n is late.
 use mathlib.Core.Path.{_≡_, ap}
 use mathlib.Core.Logic.{_↔_}
 use mathlib.Core.Bool.{false}
@@ -43,11 +44,18 @@ module _ (t : Table) (r : Ranged t) (rank : Order) where
 
           -- Its deadline is n: missed before, it would have been late before.
           now : dueOf S i j ≡ n
-          now = elim (decLt (dueOf S i j) n) [ yes p ↦ absurd (c (dueOf S i j) p (missed-iff S (dueOf S i j) .0 (i, j, l, le-refl _, behind (dueOf S i j) d))) | no p ↦ omega arith ]
+          now =
+              elim (decLt (dueOf S i j) n) [
+                | yes p ↦ absurd
+                    (c (dueOf S i j) p (missed-iff S (dueOf S i j) .0 (i, j, l, le-refl _, behind (dueOf S i j) d)))
+                | no p ↦ omega arith
+              ]
 
           -- So it is the last one released.
           last : releasedBy S i n ≡ suc j
-          last = below-is (releaseOf S i) ((jobs S) .rel-grows i l) n j (omega (arith, now, r .each i l .deadline-pos)) (omega (arith, now, r .each i l .deadline-le))
+          last =
+              below-is (releaseOf S i) ((jobs S) .rel-grows i l) n j (omega (arith, now, r .each i l .deadline-pos))
+              (omega (arith, now, r .each i l .deadline-le))
 
           some : 0 < leftOf (walkedBy t rank n) i
           some = omega (arith, agrees t r rank n c i l, served-less, ap (λ (y : ℕ). task t i .cost * y) last)

@@ -1,4 +1,5 @@
--- WORST RESPONSES BY A WALK (`walk-worst`): in any order of the tasks, where the run meets every deadline, the largest responses that a walk to the horizon sees are the worst for ever.
+-- WORST RESPONSES BY A WALK (`walk-worst`): in any order of the tasks, where the run meets every deadline, the largest responses that a walk to the
+-- horizon sees are the worst for ever.
 use mathlib.Core.Path.{_≡_, refl, sym, ap, subst, _∙_}
 use mathlib.Core.Logic.{_⊎_, inl, inr}
 use mathlib.Core.List.{List}
@@ -48,7 +49,9 @@ noted w k x = set w k (max (getD w k 0) x)
 unfoldable pub worstSeen : Table → Order → ℕ → List ℕ
 worstSeen t rank zero = replicate taskLimit 0
 worstSeen t rank (suc n) =
-    cond (finishing t rank n) (noted (worstSeen t rank n) (ownerAtBy t rank quiet n) (task t (ownerAtBy t rank quiet n) .period - waitOf (stateAtBy t rank quiet (suc n)) (ownerAtBy t rank quiet n))) (worstSeen t rank n)
+    cond (finishing t rank n)
+    (noted (worstSeen t rank n) (ownerAtBy t rank quiet n)
+    (task t (ownerAtBy t rank quiet n) .period - waitOf (stateAtBy t rank quiet (suc n)) (ownerAtBy t rank quiet n))) (worstSeen t rank n)
 
 -- In our order.
 abbrev pub worstBy : Table → ℕ → List ℕ
@@ -59,7 +62,9 @@ unfolding worstSeen
 worst-length t rank zero = length-replicate {A = ℕ} taskLimit 0
 worst-length t rank (suc n) = go (finishing t rank n) (worst-length t rank n)
   where
-    go : (b : Bool) → length (worstSeen t rank n) ≡ taskLimit → length (cond b (noted (worstSeen t rank n) (ownerAtBy t rank quiet n) (task t (ownerAtBy t rank quiet n) .period - waitOf (stateAtBy t rank quiet (suc n)) (ownerAtBy t rank quiet n))) (worstSeen t rank n)) ≡ taskLimit
+    go : (b : Bool) → length (worstSeen t rank n) ≡ taskLimit → length
+        (cond b (noted (worstSeen t rank n) (ownerAtBy t rank quiet n)
+        (task t (ownerAtBy t rank quiet n) .period - waitOf (stateAtBy t rank quiet (suc n)) (ownerAtBy t rank quiet n))) (worstSeen t rank n)) ≡ taskLimit
     go true e = simp length-set e
     go false e = e
 
@@ -130,14 +135,22 @@ module _ (t : Table) (r : Ranged t) (rank : Order) where
       not-before : servedOf S n i < task t i .cost * suc j
       not-before = lt-of-not-le (f n (le-refl (suc n)))
 
-      go : Dec (owner-at n ≡ i) → (owner-at n ≡ i) × (leftOf (walkedBy t rank (suc n)) i ≡ 0) × (suc n - releaseOf S i j ≡ task t i .period - waitOf (walkedBy t rank (suc n)) i)
-      go (no e) = absurd (omega (arith, not-before, others-served S n i (λ q. e (owner-agrees t r rank n (agrees t r rank n (λ u m. c u (le-step m))) (c n (le-refl (suc n))) ∙ sym q))))
+      go : Dec (owner-at n ≡ i) → (owner-at n ≡ i) × (leftOf (walkedBy t rank (suc n)) i ≡ 0)
+          × (suc n - releaseOf S i j ≡ task t i .period - waitOf (walkedBy t rank (suc n)) i)
+      go (no e) =
+          absurd (omega (
+            arith,
+            not-before,
+            others-served S n i
+                (λ q. e (owner-agrees t r rank n (agrees t r rank n (λ u m. c u (le-step m))) (c n (le-refl (suc n))) ∙ sym q)),
+          ))
       go (yes e) =
           let v = serves n c i e l in
           let q : v .job ≡ j = same (v .job) (v .waits) (v .most) (v .some) (v .one) in
           (e, omega (arith, ap (λ (y : ℕ). task t i .cost * suc y) q), omega (arith, v .wait, v .early, ap (releaseOf S i) q))
         where
-          same : (m : ℕ) → ready t rank quiet n i + servedOf S n i ≡ task t i .cost * suc m → ready t rank quiet n i ≤ task t i .cost → 0 < ready t rank quiet n i → servedOf S (suc n) i ≡ servedOf S n i + 1 → m ≡ j
+          same : (m : ℕ) → ready t rank quiet n i + servedOf S n i ≡ task t i .cost * suc m → ready t rank quiet n i ≤ task t i .cost
+              → 0 < ready t rank quiet n i → servedOf S (suc n) i ≡ servedOf S n i + 1 → m ≡ j
           same m w x y z = elim (decLt m j) [
             | yes p ↦ absurd (omega (arith, mul-le-mul-left (task t i .cost) p))
             | no p ↦ elim (decLt j m) [ yes q ↦ absurd (omega (arith, not-before, mul-le-mul-left (task t i .cost) q)) | no q ↦ omega arith ]
@@ -146,11 +159,13 @@ module _ (t : Table) (r : Ranged t) (rank : Order) where
   -- What the walk has noted of task i before slot n: no response seen is larger, and it is one of them, or none was seen.
   record Noted (n i : ℕ) : Type 0 where
     bound : (j f : ℕ) → DoneFirst (jobs S) (servedOf S) i j f → f ≤ n → f - releaseOf S i j ≤ getD (worstSeen t rank n) i 0
-    attained : (getD (worstSeen t rank n) i 0 ≡ 0) ⊎ ((j : ℕ) × (f : ℕ) × DoneFirst (jobs S) (servedOf S) i j f × (f - releaseOf S i j ≡ getD (worstSeen t rank n) i 0))
+    attained : (getD (worstSeen t rank n) i 0 ≡ 0) ⊎
+        ((j : ℕ) × (f : ℕ) × DoneFirst (jobs S) (servedOf S) i j f × (f - releaseOf S i j ≡ getD (worstSeen t rank n) i 0))
 
   -- Slot n notes a response of task i, or leaves what was noted of it.
   pub data Noting (n i : ℕ) : Type 0 where
-    noting : owner-at n ≡ i → leftOf (walkedBy t rank (suc n)) i ≡ 0 → getD (worstSeen t rank (suc n)) i 0 ≡ max (getD (worstSeen t rank n) i 0) (task t i .period - waitOf (walkedBy t rank (suc n)) i) → Noting n i
+    noting : owner-at n ≡ i → leftOf (walkedBy t rank (suc n)) i ≡ 0 → getD (worstSeen t rank (suc n)) i 0 ≡ max (getD (worstSeen t rank n) i 0)
+        (task t i .period - waitOf (walkedBy t rank (suc n)) i) → Noting n i
     leaving : (owner-at n ≡ i → leftOf (walkedBy t rank (suc n)) i ≡ 0 → ⊥) → getD (worstSeen t rank (suc n)) i 0 ≡ getD (worstSeen t rank n) i 0 → Noting n i
 
   pub notes : (n i : ℕ) → i < t .count → Noting n i
@@ -166,10 +181,17 @@ module _ (t : Table) (r : Ranged t) (rank : Order) where
       go false e d = leaving (λ x y. left-open x y) (rw e refl)
         where
           left-open : owner-at n ≡ i → leftOf (walkedBy t rank (suc n)) i ≡ 0 → ⊥
-          left-open x y = subst T e (and-iff (ltb (owner-at n) (t .count)) (eqb (leftOf (walkedBy t rank (suc n)) (owner-at n)) 0) .1 (lt→ltb (owner-at n) (t .count) (omega arith), eq→eqb (leftOf (walkedBy t rank (suc n)) (owner-at n)) 0 (rw x y)))
+          left-open x y =
+              subst T e (and-iff (ltb (owner-at n) (t .count)) (eqb (leftOf (walkedBy t rank (suc n)) (owner-at n)) 0) .1
+              (lt→ltb (owner-at n) (t .count) (omega arith), eq→eqb (leftOf (walkedBy t rank (suc n)) (owner-at n)) 0 (rw x y)))
 
   seen : (n : ℕ) → Clear t n → (i : ℕ) → i < t .count → Noted n i
-  seen zero c i l = record { bound = λ j f d m. (let z : servedOf S f i ≡ 0 = ap (λ (x : ℕ). servedOf S x i) (le-zero m) ∙ (model-run S) .start i l in absurd (omega (arith, d .0, r .each i l .cost-pos))); attained = inl (none-noted t rank i) }
+  seen zero c i l =
+      record {
+        bound = λ j f d m. (let z : servedOf S f i ≡ 0 = ap (λ (x : ℕ). servedOf S x i) (le-zero m)
+            ∙ (model-run S) .start i l in absurd (omega (arith, d .0, r .each i l .cost-pos)));
+        attained = inl (none-noted t rank i);
+      }
   seen (suc n) c i l = go (notes n i l) (seen n (λ u m. c u (le-step m)) i l)
     where
       now : (f : ℕ) → f ≤ suc n → ¬ (f ≤ n) → f ≡ suc n
@@ -204,12 +226,17 @@ module _ (t : Table) (r : Ranged t) (rank : Order) where
         noted-then : Noted (horizon t) i
         noted-then = seen (horizon t) clear i l
 
-        go : (getD (worstSeen t rank (horizon t)) i 0 ≡ 0) ⊎ ((j : ℕ) × (f : ℕ) × DoneFirst (jobs S) (servedOf S) i j f × (f - releaseOf S i j ≡ getD (worstSeen t rank (horizon t)) i 0)) → Worst t rank i (getD (worstSeen t rank (horizon t)) i 0)
-        go (inr (j, f, d, e)) = worst-is S met i l (cycleOf t r rank) _ j f (finishes-iff S i j f l .1 d) e (λ j f d m. noted-then .bound j f (finishes-iff S i j f l .0 d) (omega (arith, horizon-is t r rank)))
+        go : (getD (worstSeen t rank (horizon t)) i 0 ≡ 0) ⊎
+            ((j : ℕ) × (f : ℕ) × DoneFirst (jobs S) (servedOf S) i j f × (f - releaseOf S i j ≡ getD (worstSeen t rank (horizon t)) i 0))
+            → Worst t rank i (getD (worstSeen t rank (horizon t)) i 0)
+        go (inr (j, f, d, e)) =
+            worst-is S met i l (cycleOf t r rank) _ j f (finishes-iff S i j f l .1 d) e
+            (λ j f d m. noted-then .bound j f (finishes-iff S i j f l .0 d) (omega (arith, horizon-is t r rank)))
         go (inl z) =
             let (f, d, a, b) = first-ends S met i l (cycleOf t r rank) in
             absurd (omega (arith, noted-then .bound 0 f (finishes-iff S i 0 f l .0 d) (omega (arith, horizon-is t r rank))))
 
 -- In our order they are the answer's.
 pub walk-worsts : (t : Table) (r : Ranged t) → Met (jobs (tieSystem t r)) (dues (tieSystem t r)) (servedOf (tieSystem t r)) → Worsts t (worstBy t (horizon t))
-walk-worsts t r met = record { size = worst-length t (tieOrder t) (horizon t); worst = walk-worst t r (tieOrder t) met; past = none-past t (tieOrder t) (horizon t) }
+walk-worsts t r met =
+    record { size = worst-length t (tieOrder t) (horizon t); worst = walk-worst t r (tieOrder t) met; past = none-past t (tieOrder t) (horizon t) }

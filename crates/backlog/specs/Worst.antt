@@ -67,10 +67,12 @@ module _ (S : System) (Y : Cycle S) (s : ℕ → ℕ → ℕ) (R : Run (jobs S) 
 
           go : Dec (f ≤ horizonOf S Y) → Seen j f
           go (yes p) = (j, f, d, p, le-refl _)
-          go (no p) = let h : horizonOf S Y < f = omega arith in back h (j - Y .times i) (sub-add-cancel {n = j} {m = Y .times i} (late-number (far h) (decLe _ _)))
+          go (no p) =
+              let h : horizonOf S Y < f = omega arith in back h (j - Y .times i) (sub-add-cancel {n = j} {m = Y .times i} (late-number (far h) (decLe _ _)))
 
   -- A bound of the responses that are seen by the horizon is one for ever.
-  pub worst-for-ever : (w : ℕ) → ((j f : ℕ) → DoneFirst (jobs S) s i j f → f ≤ horizonOf S Y → f - releaseOf S i j ≤ w) → (j f : ℕ) → DoneFirst (jobs S) s i j f → f - releaseOf S i j ≤ w
+  pub worst-for-ever : (w : ℕ) → ((j f : ℕ) → DoneFirst (jobs S) s i j f → f ≤ horizonOf S Y → f - releaseOf S i j ≤ w) → (j f : ℕ)
+      → DoneFirst (jobs S) s i j f → f - releaseOf S i j ≤ w
   worst-for-ever w h j f d = let (k, g, q, a, b) = worst-seen j f d in omega (arith, h k g q a)
 
 -- A job finishes once.

@@ -21,7 +21,8 @@ use Rattle.walks.specs.Tally.{idle-by, idle-is}
 use Rattle.leaps.specs.Leaping.{Ended}
 use Rattle.leaps.specs.declared.Landed.{Landed}
 
-module _ (t : Table) (r : Ranged t) (light : load t ≤ round t) {end : ℕ} (far : round t ≤ end) {x : Landed} {worst : List ℕ} (w : Ended t end true x worst) where
+module _ (t : Table) (r : Ranged t) (light : load t ≤ round t) {end : ℕ} (far : round t ≤ end) {x : Landed} {worst : List ℕ}
+    (w : Ended t end true x worst) where
   pub calmed : (found : Bool) → (T found → 0 < x .idle) → (0 < x .idle → T found) → found ≡ calm t
   calmed found one all =
       same-test found (calm t)
@@ -30,7 +31,12 @@ module _ (t : Table) (r : Ranged t) (light : load t ≤ round t) {end : ℕ} (fa
     where
       -- It is before the first idle instant, and so ended at a late deadline.
       early : ¬ (0 < x .idle) → x .time < firstIdle t (tieOrder t)
-      early p = elim (decLt (x .time) (firstIdle t (tieOrder t))) [ yes l ↦ l | no l ↦ absurd (omega (arith, w .tally .idles, idle-is t (x .time) (omega arith), first-idle t r (tieOrder t) light .0 .0 .0)) ]
+      early p =
+          elim (decLt (x .time) (firstIdle t (tieOrder t))) [
+            | yes l ↦ l
+            | no l ↦ absurd
+                (omega (arith, w .tally .idles, idle-is t (x .time) (omega arith), first-idle t r (tieOrder t) light .0 .0 .0))
+          ]
 
       missed : ¬ (0 < x .idle) → T (calm t) → (late : Bool) → x .late ≡ late → ⊥
       missed p h true e = calm-iff t r .0 h (x .time) (omega (arith, early p)) (w .late e)

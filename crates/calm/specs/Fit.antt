@@ -12,7 +12,8 @@ use Rattle.wellformed.specs.Ranges.{Ranged}
 use Rattle.wellformed.specs.WellFormed.{mixed-iff, well-mixed}
 use Rattle.patterns.specs.Starting.{starting-mixed}
 
-pub starting-fits : (t : Table) {m : Measure} → judgedMixed t ≡ Judgement.WellFormed m → m .load ≤ m .round → (start : ℕ → ℕ) → ((i : ℕ) → i < t .count → start i ≤ slotLimit)
+pub starting-fits : (t : Table) {m : Measure} → judgedMixed t ≡ Judgement.WellFormed m → m .load ≤ m .round → (start : ℕ → ℕ)
+    → ((i : ℕ) → i < t .count → start i ≤ slotLimit)
     → let s = startingAt t start in Ranged s × ((load s ≤ round s) × (round s ≤ roundLimit))
 starting-fits t {m} well light start low =
     let e = starting-mixed t m start well low in

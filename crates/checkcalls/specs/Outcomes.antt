@@ -21,5 +21,6 @@ TableExported buffer = TableTold (λ r. refused r buffer) (λ report. written re
 abbrev pub exportOf : ℕ → Bool → Answer → List ℕ → Outcome → Exported
 exportOf n quick a buffer = outcomeTold (λ r. refused r buffer) (λ report. written report buffer) n quick a
 
-pub by-outcome : {e : Exported} (n : ℕ) (quick : Bool) (a : Answer) (buffer : List ℕ) {o : Outcome} → a .outcome ≡ o → e ≡ exportOf n quick a buffer o → e ≡ exportOf n quick a buffer (a .outcome)
+pub by-outcome : {e : Exported} (n : ℕ) (quick : Bool) (a : Answer) (buffer : List ℕ) {o : Outcome} → a .outcome ≡ o → e ≡ exportOf n quick a buffer o
+    → e ≡ exportOf n quick a buffer (a .outcome)
 by-outcome n quick a buffer same h = h ∙ ap (λ (o : Outcome). exportOf n quick a buffer o) (sym same)

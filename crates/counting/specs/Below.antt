@@ -118,16 +118,20 @@ count-between f g p q x y m = count-from _ (below f x) (below g (suc y)) m (λ j
 ))
 
 -- Where each g j is above f j, the j that count are below y, and so the first y are enough.
-pub count-inside : (f g : ℕ → ℕ) → Grows f → Grows g → ((j : ℕ) → f j < g j) → (x y : ℕ) → count (λ j. leb x (f j) && leb (g j) y) y ≡ below g (suc y) - below f x
+pub count-inside : (f g : ℕ → ℕ) → Grows f → Grows g → ((j : ℕ) → f j < g j) → (x y : ℕ)
+    → count (λ j. leb x (f j) && leb (g j) y) y ≡ below g (suc y) - below f x
 count-inside f g p q h x y = omega (arith, count-between f g p q x y y, below-most g q (suc y) y (λ j l. omega (arith, h j, grows-ge f p j)))
 
 -- Closed forms for a period p from o on: how many lie below x; how many, moved on by d, lie up to x.
 module _ (o p : ℕ) (pos : 0 < p) where
   pub below-period : (x : ℕ) → below (λ j. o + j * p) x ≡ (x - o + (p - 1)) / p
-  below-period x = below-unique (λ j. o + j * p) (λ j. omega arith) x _ (λ j. (λ a. omega (arith, le-div-iff-mul-le pos .0 a), λ a. le-div-iff-mul-le pos .1 (omega arith)))
+  below-period x =
+      below-unique (λ j. o + j * p) (λ j. omega arith) x _ (λ j. (λ a. omega (arith, le-div-iff-mul-le pos .0 a), λ a. le-div-iff-mul-le pos .1 (omega arith)))
 
   pub upto-period : (d x : ℕ) → below (λ j. o + j * p + d) (suc x) ≡ (x + p - (o + d)) / p
-  upto-period d x = below-unique (λ j. o + j * p + d) (λ j. omega arith) (suc x) _ (λ j. (λ a. omega (arith, le-div-iff-mul-le pos .0 a), λ a. le-div-iff-mul-le pos .1 (omega arith)))
+  upto-period d x =
+      below-unique (λ j. o + j * p + d) (λ j. omega arith) (suc x) _
+      (λ j. (λ a. omega (arith, le-div-iff-mul-le pos .0 a), λ a. le-div-iff-mul-le pos .1 (omega arith)))
 
 -- An f that is h higher m steps later.
 module _ (f : ℕ → ℕ) (g : Grows f) (m h : ℕ) (later : (j : ℕ) → f (j + m) ≡ f j + h) where

@@ -60,7 +60,8 @@ unfolding first trailingZeros
 trailing-bits p zero = refl
 trailing-bits p (suc n) = rw bits-low (go (p 0) (bits (λ k. p (suc k)) n) (trailing-bits (λ k. p (suc k)) n))
   where
-    go : (b : Bool) (m : ℕ) → trailingZeros n m ≡ first (λ k. p (suc k)) 0 n → under ((m * 2 + bit b) % 2) (trailingZeros n ((m * 2 + bit b) / 2)) ≡ elim b [ true ↦ 0 | false ↦ first p 1 n ]
+    go : (b : Bool) (m : ℕ) → trailingZeros n m ≡ first (λ k. p (suc k)) 0 n → under ((m * 2 + bit b) % 2)
+        (trailingZeros n ((m * 2 + bit b) / 2)) ≡ elim b [ true ↦ 0 | false ↦ first p 1 n ]
     go true m e = let r : (m * 2 + 1) % 2 ≡ 1 = omega arith in rw r
     go false m e =
         let r : (m * 2 + 0) % 2 ≡ 0 = omega arith in
@@ -70,7 +71,8 @@ trailing-bits p (suc n) = rw bits-low (go (p 0) (bits (λ k. p (suc k)) n) (trai
 -- Numbers that do not pass add nothing to the set.
 pub bits-past : (p : ℕ → Bool) (n m : ℕ) → n ≤ m → NoneFrom p n m → bits p m ≡ bits p n
 unfolding bits sum
-bits-past p n m h = le-ind (λ (k : ℕ). NoneFrom p n k → bits p k ≡ bits p n) (λ f. refl) (λ k l e f. go k (p k) (f k l (le-refl (suc k))) (e (λ j a b. f j a (le-step b)))) m h
+bits-past p n m h =
+    le-ind (λ (k : ℕ). NoneFrom p n k → bits p k ≡ bits p n) (λ f. refl) (λ k l e f. go k (p k) (f k l (le-refl (suc k))) (e (λ j a b. f j a (le-step b)))) m h
   where
     go : (k : ℕ) (b : Bool) → (T b → ⊥) → bits p k ≡ bits p n → bits p k + bit b * 2 ^ k ≡ bits p n
     go k true x e = absurd (x tt)

@@ -115,7 +115,8 @@ euclid-ahead zero a b l = inl (1, 0, omega arith)
 euclid-ahead (suc n) a zero l = inl (1, 0, omega arith)
 euclid-ahead (suc n) a (suc b) l = go (euclid-ahead n (suc b) (a % suc b) (omega (arith, mod-lt a (zero-lt-suc b))))
   where
-    go : Ahead (suc b) (a % suc b) (euclid n (suc b) (a % suc b)) ⊎ Ahead (a % suc b) (suc b) (euclid n (suc b) (a % suc b)) → Ahead a (suc b) (euclid n (suc b) (a % suc b)) ⊎ Ahead (suc b) a (euclid n (suc b) (a % suc b))
+    go : Ahead (suc b) (a % suc b) (euclid n (suc b) (a % suc b)) ⊎ Ahead (a % suc b) (suc b) (euclid n (suc b) (a % suc b))
+        → Ahead a (suc b) (euclid n (suc b) (a % suc b)) ⊎ Ahead (suc b) a (euclid n (suc b) (a % suc b))
     go (inl (x, y, e)) = inr (y * (a / suc b) + x, y, omega (arith, ap (λ (z : ℕ). y * z) (mod-add-div' a (suc b))))
     go (inr (x, y, e)) = inl (x, x * (a / suc b) + y, omega (arith, ap (λ (z : ℕ). x * z) (mod-add-div' a (suc b))))
 
@@ -148,7 +149,8 @@ unfolding lcm
 divides-lcm a b =
     let g = gcd a b in
     let d = gcd-is a b in
-    let e : a / g * b ≡ a * (b / g) = mul-comm (a / g) b ∙ sym (mul-div-assoc g b (d .divides-left)) ∙ ap (λ (x : ℕ). x / g) (mul-comm b a) ∙ mul-div-assoc g a (d .divides-right) in
+    let e : a / g * b ≡ a * (b / g) = mul-comm (a / g) b ∙ sym (mul-div-assoc g b (d .divides-left)) ∙ ap (λ (x : ℕ). x / g) (mul-comm b a)
+    ∙ mul-div-assoc g a (d .divides-right) in
     (rw e (dvd-mul-right a (b / g)), dvd-mul-left b (a / g))
 
 -- It divides every number that both divide.
@@ -179,7 +181,8 @@ unfolding lcmAll
 lcmAll-iff zero f x = (λ h i l. absurd (omega arith), λ h. one-dvd x)
 lcmAll-iff (suc n) f x = go (lcm-iff (lcmAll n f) (f n) x) (lcmAll-iff n f x)
   where
-    go : (lcm (lcmAll n f) (f n) ∣ x) ↔ ((lcmAll n f ∣ x) × (f n ∣ x)) → (lcmAll n f ∣ x) ↔ ((i : ℕ) → i < n → f i ∣ x) → (lcm (lcmAll n f) (f n) ∣ x) ↔ ((i : ℕ) → i < suc n → f i ∣ x)
+    go : (lcm (lcmAll n f) (f n) ∣ x) ↔ ((lcmAll n f ∣ x) × (f n ∣ x)) → (lcmAll n f ∣ x) ↔ ((i : ℕ) → i < n → f i ∣ x) → (lcm (lcmAll n f) (f n) ∣ x)
+        ↔ ((i : ℕ) → i < suc n → f i ∣ x)
     go s r = (
       λ h. below-suc (λ i. f i ∣ x) n (r .0 (s .0 h .0)) (s .0 h .1),
       λ h. s .1 (r .1 (λ i l. h i (le-step l)), h n (le-refl (suc n))),
@@ -212,7 +215,8 @@ product (suc n) f = product n f * f n
 divides-product : (n : ℕ) (f : ℕ → ℕ) (i : ℕ) → i < n → f i ∣ product n f
 unfolding product
 divides-product zero f = λ i l. absurd (omega arith)
-divides-product (suc n) f = below-suc (λ i. f i ∣ product (suc n) f) n (λ i l. dvd-mul-right-of-dvd (f i) (divides-product n f i l) (f n)) (dvd-mul-left (f n) (product n f))
+divides-product (suc n) f =
+    below-suc (λ i. f i ∣ product (suc n) f) n (λ i l. dvd-mul-right-of-dvd (f i) (divides-product n f i l) (f n)) (dvd-mul-left (f n) (product n f))
 
 -- The least common multiple divides the product.
 lcmAll-product : (n : ℕ) (f : ℕ → ℕ) → lcmAll n f ∣ product n f

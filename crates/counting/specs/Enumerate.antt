@@ -48,25 +48,52 @@ count-window p from d to zero = rw (min-eq-left {n = 0} {m = suc to - d} (omega 
 count-window p from d to (suc m) = go (decLe from m) (decLt m (suc to - d)) (count-window p from d to m)
   where
     now : T (p m && (leb from m && leb (m + d) to)) → T (p m) × (from ≤ m) × (m < suc to - d)
-    now t = let (x, y) = and-iff (p m) (leb from m && leb (m + d) to) .0 t in let (v, w) = and-iff (leb from m) (leb (m + d) to) .0 y in (x, omega tests, omega tests)
+    now t =
+        let (x, y) = and-iff (p m) (leb from m && leb (m + d) to) .0 t in
+        let (v, w) = and-iff (leb from m) (leb (m + d) to) .0 y in (x, omega tests, omega tests)
 
     same : from ≤ m → m < suc to - d → (p m && (leb from m && leb (m + d) to)) ≡ p m
-    same x y = same-test _ _ (λ t. now t .0) (λ t. and-iff (p m) (leb from m && leb (m + d) to) .1 (t, and-iff (leb from m) (leb (m + d) to) .1 (omega tests, omega tests)))
+    same x y =
+        same-test _ _ (λ t. now t .0) (λ t. and-iff (p m) (leb from m && leb (m + d) to) .1 (
+          t,
+          and-iff (leb from m) (leb (m + d) to) .1 (omega tests, omega tests),
+        ))
 
     go : Dec (from ≤ m) → Dec (m < suc to - d) → count (λ u. p u && (leb from u && leb (u + d) to)) m ≡ count p (min m (suc to - d)) - count p (min m from)
-        → count (λ u. p u && (leb from u && leb (u + d) to)) m + bit (p m && (leb from m && leb (m + d) to)) ≡ count p (min (suc m) (suc to - d)) - count p (min (suc m) from)
+        → count (λ u. p u && (leb from u && leb (u + d) to)) m + bit (p m && (leb from m && leb (m + d) to))
+        ≡ count p (min (suc m) (suc to - d)) - count p (min (suc m) from)
     go (yes x) (yes y) ih =
-        rw (same x y, min-eq-left {n = suc m} {m = suc to - d} y, min-eq-right {n = from} {m = suc m} (omega arith), ih, min-eq-left {n = m} {m = suc to - d} (omega arith), min-eq-right {n = from} {m = m} x) (omega (arith, count-more p from m x))
+        rw (
+          same x y,
+          min-eq-left {n = suc m} {m = suc to - d} y,
+          min-eq-right {n = from} {m = suc m} (omega arith),
+          ih,
+          min-eq-left {n = m} {m = suc to - d} (omega arith),
+          min-eq-right {n = from} {m = m} x,
+        ) (omega (arith, count-more p from m x))
     go (yes x) (no y) ih =
-        rw (min-eq-right {n = suc to - d} {m = suc m} (omega arith), min-eq-right {n = from} {m = suc m} (omega arith), ih, min-eq-right {n = suc to - d} {m = m} (omega arith), min-eq-right {n = from} {m = m} x) (omega (arith, bit-no (p m && (leb from m && leb (m + d) to)) (λ t. y (now t .2))))
+        rw (
+          min-eq-right {n = suc to - d} {m = suc m} (omega arith),
+          min-eq-right {n = from} {m = suc m} (omega arith),
+          ih,
+          min-eq-right {n = suc to - d} {m = m} (omega arith),
+          min-eq-right {n = from} {m = m} x,
+        ) (omega
+        (arith, bit-no (p m && (leb from m && leb (m + d) to)) (λ t. y (now t .2))))
     go (no x) y ih =
         rw (min-eq-left {n = suc m} {m = from} (omega arith), ih, min-eq-left {n = m} {m = from} (omega arith))
-        (omega (arith, bit-no (p m && (leb from m && leb (m + d) to)) (λ t. x (now t .1)), count-more p (min m (suc to - d)) m (omega arith), count-more p (min (suc m) (suc to - d)) (suc m) (omega arith)))
+        (omega (
+          arith,
+          bit-no (p m && (leb from m && leb (m + d) to)) (λ t. x (now t .1)),
+          count-more p (min m (suc to - d)) m (omega arith),
+          count-more p (min (suc m) (suc to - d)) (suc m) (omega arith),
+        ))
 
 -- So of those that are the values of f as many lie in a window as values of f.
 pub count-inside-enumerated : (p : ℕ → Bool) (f : ℕ → ℕ) (g : Grows f) (from d to : ℕ) → Enumerates p f to → 0 < d
     → count (λ u. p u && (leb from u && leb (u + d) to)) to ≡ count (λ j. leb from (f j) && leb (f j + d) to) to
-count-inside-enumerated p f g from d to e pos = count-window p from d to to ∙ at (decLe from to) ∙ sym (count-inside f (λ j. f j + d) g (λ j. omega (arith, g j)) (λ j. omega arith) from to)
+count-inside-enumerated p f g from d to e pos =
+    count-window p from d to to ∙ at (decLe from to) ∙ sym (count-inside f (λ j. f j + d) g (λ j. omega (arith, g j)) (λ j. omega arith) from to)
   where
     earlier : below (λ j. f j + d) (suc to) ≡ below f (suc to - d)
     earlier =
@@ -78,9 +105,22 @@ count-inside-enumerated p f g from d to e pos = count-window p from d to to ∙ 
     upto = count-enumerated p f g to e
 
     at : Dec (from ≤ to) → count p (min to (suc to - d)) - count p (min to from) ≡ below (λ j. f j + d) (suc to) - below f from
-    at (yes h) = rw (min-eq-right {n = suc to - d} {m = to} (omega arith), min-eq-right {n = from} {m = to} h, upto (suc to - d) (omega arith), upto from h, earlier) refl
+    at (yes h) =
+        rw (
+          min-eq-right {n = suc to - d} {m = to} (omega arith),
+          min-eq-right {n = from} {m = to} h,
+          upto (suc to - d) (omega arith),
+          upto from h,
+          earlier,
+        ) refl
     at (no h) =
-        rw (min-eq-right {n = suc to - d} {m = to} (omega arith), min-eq-left {n = to} {m = from} (omega arith), upto (suc to - d) (omega arith), upto to (le-refl to), earlier)
+        rw (
+          min-eq-right {n = suc to - d} {m = to} (omega arith),
+          min-eq-left {n = to} {m = from} (omega arith),
+          upto (suc to - d) (omega arith),
+          upto to (le-refl to),
+          earlier,
+        )
         (omega (arith, below-mono f g (suc to - d) to (omega arith), below-mono f g (suc to - d) from (omega arith)))
 
 -- Of the numbers below n that pass one has j before it, if more than j pass.
@@ -89,7 +129,8 @@ unfolding count
 passed-at p zero j l = absurd (omega arith)
 passed-at p (suc n) j l = go (decT (p n)) (decLt j (count p n)) (passed-at p n j)
   where
-    go : Dec (T (p n)) → Dec (j < count p n) → (j < count p n → (u : ℕ) × (u < n) × T (p u) × (count p u ≡ j)) → (u : ℕ) × (u < suc n) × T (p u) × (count p u ≡ j)
+    go : Dec (T (p n)) → Dec (j < count p n) → (j < count p n → (u : ℕ) × (u < n) × T (p u) × (count p u ≡ j)) → (u : ℕ) × (u < suc n) × T (p u)
+        × (count p u ≡ j)
     go t (yes h) ih = let (u, a, b, c) = ih h in (u, le-step a, b, c)
     go (yes t) (no h) ih = (n, le-refl (suc n), t, omega (arith, bit-yes (p n) t))
     go (no t) (no h) ih = absurd (omega (arith, bit-no (p n) t))

@@ -87,7 +87,8 @@ module _ {A : Type 0} where
       ])
 
   -- A store into a filled list, as one fill.
-  pub fill-set : (n : ℕ) (f g : ℕ → A) (w : List A) (k : ℕ) {v : A} → k < n → v ≡ g k → ((i : ℕ) → i < n → i ≢ k → f i ≡ g i) → set (fill n f w) k v ≡ fill n g w
+  pub fill-set : (n : ℕ) (f g : ℕ → A) (w : List A) (k : ℕ) {v : A} → k < n → v ≡ g k → ((i : ℕ) → i < n → i ≢ k → f i ≡ g i)
+      → set (fill n f w) k v ≡ fill n g w
   unfolding fill
   fill-set zero f g w k l e h = absurd (omega arith)
   fill-set (suc n) f g w k {v} l e h = go (ℕ-discrete n k) (λ a. fill-set n f g w k a e (λ i b. h i (le-step b)))

@@ -24,6 +24,7 @@ nothing at l = record { bytes = refl; place = omega arith }
 pub byte : (x at : ℕ) (l : List ℕ) → Put (x ∷ []) at l (set l at x) (at + 1)
 byte x at l = record { bytes = refl; place = omega arith }
 
-pub join : {a b before between after : List ℕ} {at middle next : ℕ} → Put a at before between middle → Put b middle between after next → Put (a ++ b) at before after next
+pub join : {a b before between after : List ℕ} {at middle next : ℕ} → Put a at before between middle → Put b middle between after next
+    → Put (a ++ b) at before after next
 join {a} {b} {before} {at = at} p q =
     record { bytes = q .bytes ∙ rw (p .place, p .bytes) (sym (sets-append a b before at)); place = omega (arith, length-append a b) }

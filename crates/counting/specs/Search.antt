@@ -101,7 +101,8 @@ unfolding first
 first-shift p n zero = refl
 first-shift p n (suc m) = go (p (suc n)) (first-shift p (suc n) m)
   where
-    go : (b : Bool) → first p (suc (suc n)) m ≡ suc (first (λ k. p (suc k)) (suc n) m) → elim b [ true ↦ suc n | false ↦ first p (suc (suc n)) m ] ≡ suc (elim b [ true ↦ n | false ↦ first (λ k. p (suc k)) (suc n) m ])
+    go : (b : Bool) → first p (suc (suc n)) m ≡ suc (first (λ k. p (suc k)) (suc n) m)
+        → elim b [ true ↦ suc n | false ↦ first p (suc (suc n)) m ] ≡ suc (elim b [ true ↦ n | false ↦ first (λ k. p (suc k)) (suc n) m ])
     go true e = refl
     go false e = e
 

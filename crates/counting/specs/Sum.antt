@@ -25,7 +25,8 @@ sum-le (suc n) f g h = omega (arith, sum-le n f g (λ i l. h i (le-step l)), h n
 pub sum-longer : (f : ℕ → ℕ) (a b : ℕ) → a ≤ b → sum a f ≤ sum b f
 unfolding sum
 sum-longer f a zero l = let e : a ≡ 0 = omega arith in rw e (omega arith)
-sum-longer f a (suc b) l = elim (decLt b a) [ yes x ↦ (let e : a ≡ suc b = omega arith in rw e (omega arith)) | no x ↦ omega (arith, sum-longer f a b (omega arith)) ]
+sum-longer f a (suc b) l =
+    elim (decLt b a) [ yes x ↦ (let e : a ≡ suc b = omega arith in rw e (omega arith)) | no x ↦ omega (arith, sum-longer f a b (omega arith)) ]
 
 -- A sum of sums.
 pub sum-add : (n : ℕ) (f g : ℕ → ℕ) → sum n (λ i. f i + g i) ≡ sum n f + sum n g

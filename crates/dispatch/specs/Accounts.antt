@@ -80,8 +80,10 @@ unfolding counted
 counted-owner given owner slots l e = rw (lt-ltb owner taskLimit l, e)
 
 -- A slot that is counted, among the n tasks.
-pub counted-fill : (n : ℕ) (given : List ℕ) (owner : ℕ) → n ≤ taskLimit → (owner ≡ taskLimit) ⊎ (owner < n) → counted given owner ≡ fill n (λ i. getD given i 0 + bit (eqb owner i)) given
+pub counted-fill : (n : ℕ) (given : List ℕ) (owner : ℕ) → n ≤ taskLimit → (owner ≡ taskLimit) ⊎ (owner < n)
+    → counted given owner ≡ fill n (λ i. getD given i 0 + bit (eqb owner i)) given
 unfolding counted
 counted-fill n given owner few r =
     ap (λ (l : List ℕ). cond (ltb owner taskLimit) (set l owner (getD given owner 0 + 1)) l) (sym (fill-same n given 0))
-    ∙ store-fill n (λ i. getD given i 0) (λ i. getD given i 0 + bit (eqb owner i)) given owner (getD given owner 0 + 1) few r (λ l. rw (eq-eqb owner owner refl)) (λ i l q. rw (ne-eqb owner i (λ e. q (sym e))) (omega arith))
+    ∙ store-fill n (λ i. getD given i 0) (λ i. getD given i 0 + bit (eqb owner i)) given owner (getD given owner 0 + 1) few r
+    (λ l. rw (eq-eqb owner owner refl)) (λ i l q. rw (ne-eqb owner i (λ e. q (sym e))) (omega arith))

@@ -19,7 +19,8 @@ use Rattle.model.specs.Limits.{taskLimit, slotCountLimit}
 use Rattle.model.specs.Notation.{bit, bits, fill}
 use Rattle.model.specs.Tasks.{task, measure}
 use Rattle.model.specs.Run.{tieOrder}
-use Rattle.model.specs.Dispatcher.{State, Stepped, waitOf, givenOf, slotCount, admittedBy, leftDone, isLate, leftLate, leftReleased, ownerNow, ownerNowBy, after, afterBy, turn, turnBy, stepAdmittedBy}
+use Rattle.model.specs.Dispatcher.{State, Stepped, waitOf, givenOf, slotCount, admittedBy, leftDone, isLate, leftLate, leftReleased, ownerNow}
+use Rattle.model.specs.Dispatcher.{ownerNowBy, after, afterBy, turn, turnBy, stepAdmittedBy}
 use Rattle.counting.specs.Count.{and-iff, one-of-iff}
 use Rattle.counting.specs.Sum.{sum-member}
 use Rattle.counting.specs.Fill.{fill-eq, fill-same, fill-again}
@@ -54,7 +55,8 @@ pub record Unrefused (t : Table) (d : State) : Type 0 where
   pub ran : (d .last ≡ taskLimit) ⊎ (d .last < t .count)
   pub room : slotCount t d < slotCountLimit
 
-pub unrefused : (t : Table) (d : State) → Ranged t → admittedBy t d (Judgement.WellFormed (measure t)) ≡ Admission.Admitted → slotCount t d < slotCountLimit → Unrefused t d
+pub unrefused : (t : Table) (d : State) → Ranged t → admittedBy t d (Judgement.WellFormed (measure t)) ≡ Admission.Admitted
+    → slotCount t d < slotCountLimit → Unrefused t d
 unrefused t d r e l =
     record { ranged = r; ran = one-of-iff (d .last) taskLimit (t .count) .0 (fitting t d (measure t) e .ran); room = l }
 
@@ -91,18 +93,24 @@ module _ (t : Table) (d : State) (done : Bool) (unrefused : Unrefused t d) (whol
   filled-has f e i l = rw e (fill-has (t .count) f (d .left) (omega (arith, unrefused .ranged .few, whole .lefts)) i l)
 
   -- Rule 2.
-  pub late-bits : {left : List ℕ} {late : ℕ} → left ≡ fill (t .count) (leftDone t d done) (d .left) → late ≡ bits (isLateIn (d .wait) left (columnsOf t .slack) (t .count)) taskLimit → late ≡ bits (isLate t d done) taskLimit
+  pub late-bits : {left : List ℕ} {late : ℕ} → left ≡ fill (t .count) (leftDone t d done) (d .left)
+      → late ≡ bits (isLateIn (d .wait) left (columnsOf t .slack) (t .count)) taskLimit → late ≡ bits (isLate t d done) taskLimit
   late-bits {left} e q = q ∙ bits-eq _ _ taskLimit (λ i l. same i (decLt i (t .count)))
     where
       same : (i : ℕ) → Dec (i < t .count) → isLateIn (d .wait) left (columnsOf t .slack) (t .count) i ≡ isLate t d done i
       same i (yes l) = rw (filled-has (leftDone t d done) e i l, slack-has t (unrefused .ranged .few) i l)
       same i (no l) = rw (le-ltb i (t .count) (omega arith))
 
-  pub late-fill : {left left′ : List ℕ} {late : ℕ} → left ≡ fill (t .count) (leftDone t d done) (d .left) → late ≡ bits (isLate t d done) taskLimit → left′ ≡ putAll left late 0 (t .count) → left′ ≡ fill (t .count) (leftLate t d done) (d .left)
+  pub late-fill : {left left′ : List ℕ} {late : ℕ} → left ≡ fill (t .count) (leftDone t d done) (d .left) → late ≡ bits (isLate t d done) taskLimit
+      → left′ ≡ putAll left late 0 (t .count) → left′ ≡ fill (t .count) (leftLate t d done) (d .left)
   unfolding putAll
   late-fill e q s =
       s ∙ ap (fill (t .count) _) e ∙ fill-again (t .count) _ _ (d .left)
-      ∙ fill-eq (t .count) _ _ (d .left) (λ i l. rw (q, in-bits (isLate t d done) taskLimit i (omega (arith, unrefused .ranged .few)), filled-has (leftDone t d done) e i l))
+      ∙ fill-eq (t .count) _ _ (d .left) (λ i l. rw (
+        q,
+        in-bits (isLate t d done) taskLimit i (omega (arith, unrefused .ranged .few)),
+        filled-has (leftDone t d done) e i l,
+      ))
 
   -- Rules 3 and 4.
   module _ {left wait′ left′ : List ℕ} {seen : Seen} (e : left ≡ fill (t .count) (leftLate t d done) (d .left))
@@ -111,7 +119,8 @@ module _ (t : Table) (d : State) (done : Bool) (unrefused : Unrefused t d) (whol
     calm : (i : ℕ) → i < t .count → T (isLateIn (d .wait) left (columnsOf t .slack) (t .count) i) → ⊥
     calm i l h = go (isLate t d done i) refl (rw (filled-has (leftLate t d done) e i l, slack-has t (unrefused .ranged .few) i l) at h)
       where
-        go : (b : Bool) → isLate t d done i ≡ b → T (ltb i (t .count) && (ltb 0 (cond b 0 (leftDone t d done i)) && eqb (waitOf d i) (task t i .period - task t i .deadline))) → ⊥
+        go : (b : Bool) → isLate t d done i ≡ b → T
+            (ltb i (t .count) && (ltb 0 (cond b 0 (leftDone t d done i)) && eqb (waitOf d i) (task t i .period - task t i .deadline))) → ⊥
         go true q x = and-iff (ltb i (t .count)) false .0 x .1
         go false q x = subst T q x
 
@@ -122,8 +131,11 @@ module _ (t : Table) (d : State) (done : Bool) (unrefused : Unrefused t d) (whol
         go true q = let (i, l, h) = s .found q in absurd (calm i l h)
         go false q = q
 
-    slot : Slotted (t .count) (waitOf d) (leftLate t d done) (λ i. task t i .period) (λ i. task t i .cost) (λ i. task t i .period - task t i .deadline) (tieOrder t) (d .wait) left wait′ left′ (seen .owner)
-    slot = table-served t (unrefused .ranged .few) (d .wait) left (waitOf d) (leftLate t d done) (λ i l. refl) (filled-has (leftLate t d done) e) (s .slot none-late)
+    slot : Slotted (t .count) (waitOf d) (leftLate t d done) (λ i. task t i .period) (λ i. task t i .cost)
+        (λ i. task t i .period - task t i .deadline) (tieOrder t) (d .wait) left wait′ left′ (seen .owner)
+    slot =
+        table-served t (unrefused .ranged .few) (d .wait) left (waitOf d) (leftLate t d done) (λ i l. refl) (filled-has (leftLate t d done) e)
+        (s .slot none-late)
 
     owner-is : seen .owner ≡ ownerNow t d done
     unfolding ownerNowBy
@@ -163,13 +175,16 @@ module _ (t : Table) (d : State) (done : Bool) (unrefused : Unrefused t d) (m : 
   unfolding slotCount
   owner-room l = elim one [ inl e ↦ absurd (omega arith) | inr k ↦ omega (arith, unrefused .room, sum-member (t .count) (givenOf d) (m .owner) k) ]
 
-  pub state-is : {given : List ℕ} {empty : ℕ} → given ≡ counted (d .given) (m .owner) → empty ≡ d .empty + bit (eqb (m .owner) taskLimit) → stateWith (m .wait) (m .left) (m .owner) given empty ≡ after t d done
+  pub state-is : {given : List ℕ} {empty : ℕ} → given ≡ counted (d .given) (m .owner) → empty ≡ d .empty + bit (eqb (m .owner) taskLimit)
+      → stateWith (m .wait) (m .left) (m .owner) given empty ≡ after t d done
   unfolding afterBy
   state-is g h =
-      let gives : counted (d .given) (m .owner) ≡ fill (t .count) (λ i. givenOf d i + bit (eqb (ownerNow t d done) i)) (d .given) = counted-fill (t .count) (d .given) (m .owner) (unrefused .ranged .few) one ∙ rw (a .owned) in
+      let gives : counted (d .given) (m .owner) ≡ fill (t .count) (λ i. givenOf d i + bit (eqb (ownerNow t d done) i)) (d .given) = counted-fill
+      (t .count) (d .given) (m .owner) (unrefused .ranged .few) one ∙ rw (a .owned) in
       rw (g, h, gives, a .waits, a .lefts, a .owned)
 
-  pub taken-is : {answer : Turn} {given : List ℕ} {empty : ℕ} → given ≡ counted (d .given) (m .owner) → answer ≡ turnOf (m .owner) (m .late) → empty ≡ d .empty + bit (eqb (m .owner) taskLimit)
+  pub taken-is : {answer : Turn} {given : List ℕ} {empty : ℕ} → given ≡ counted (d .given) (m .owner) → answer ≡ turnOf (m .owner) (m .late)
+      → empty ≡ d .empty + bit (eqb (m .owner) taskLimit)
       → record { answer = SlotAnswer.Slot answer; state = stateWith (m .wait) (m .left) (m .owner) given empty } ≡ taken t d done
   unfolding turnBy
   taken-is g w h = rw (w, state-is g h, a .owned, a .lates, ones-bits, trailing-bits)

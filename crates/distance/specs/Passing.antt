@@ -38,7 +38,8 @@ module _ (t : Table) {m : Measure} (well : judgedMixed t ≡ Judgement.WellForme
   pattern-is i = starting-eq t _ _ (fill-has (t .count) (λ k. distance (task t i) (task t k)) (replicate taskLimit 0) (facts .ranged .few))
 
   -- It is one to walk.
-  pub pattern-fits : m .load ≤ m .round → (i : ℕ) → i < t .count → Ranged (pattern t i) × ((load (pattern t i) ≤ round (pattern t i)) × (round (pattern t i) ≤ roundLimit))
+  pub pattern-fits : m .load ≤ m .round → (i : ℕ) → i < t .count → Ranged (pattern t i)
+      × ((load (pattern t i) ≤ round (pattern t i)) × (round (pattern t i) ≤ roundLimit))
   pattern-fits h i l = starting-fits t well h (λ k. distance (task t i) (task t k)) (pattern-low t (facts .ranged) i l)
 
   -- Overload, by what was measured.

@@ -150,13 +150,16 @@ gcd-difference {x} {d} {y} {g} e p = record {
 
 -- Where both are doubled, and the first not more often, each of its doublings is one of the divisor too.
 gcd-shared-left : {a b u v i j g : ℕ} → i ≤ j → OddPart a u i → OddPart b v j → IsGcd u v g → IsGcd a b (2 ^ i * g)
-gcd-shared-left {a} {b} {u} {v} {i} {j} {g} l p q h = subst (λ (z : ℕ). IsGcd z b (2 ^ i * g)) (p .whole) (subst (λ (z : ℕ). IsGcd (2 ^ i * u) z (2 ^ i * g)) right (gcd-doubled i odd))
+gcd-shared-left {a} {b} {u} {v} {i} {j} {g} l p q h =
+    subst (λ (z : ℕ). IsGcd z b (2 ^ i * g)) (p .whole) (subst (λ (z : ℕ). IsGcd (2 ^ i * u) z (2 ^ i * g)) right (gcd-doubled i odd))
   where
     odd : IsGcd u (2 ^ (j - i) * v) g
     odd = gcd-odd-part (p .odd) (record { odd = q .odd; whole = refl }) h
 
     right : 2 ^ i * (2 ^ (j - i) * v) ≡ b
-    right = let e : i + (j - i) ≡ j = omega arith in sym (mul-assoc (2 ^ i) (2 ^ (j - i)) v) ∙ ap (λ (x : ℕ). x * v) (sym (pow-add 2 i (j - i)) ∙ ap (λ (x : ℕ). 2 ^ x) e) ∙ q .whole
+    right =
+        let e : i + (j - i) ≡ j = omega arith in
+        sym (mul-assoc (2 ^ i) (2 ^ (j - i)) v) ∙ ap (λ (x : ℕ). x * v) (sym (pow-add 2 i (j - i)) ∙ ap (λ (x : ℕ). 2 ^ x) e) ∙ q .whole
 
 -- The divisor of two numbers is that of their odd parts, doubled as often as both are.
 gcd-shared : {a b u v i j g : ℕ} → OddPart a u i → OddPart b v j → IsGcd u v g → IsGcd a b (2 ^ min i j * g)

@@ -66,7 +66,10 @@ module _ (before after : Table) where
       from-is = rw (add-one i) (omega arith);
       within = omega arith;
       all = below-more (λ (j : ℕ). keptAs before after j < before .count) i (s .all) (omega arith);
-      kept-is = rw behind-it (bits-more (foundBy before after (i + 1)) k (kept-below e ∙ bits-eq (foundBy before after i) (foundBy before after (i + 1)) k same) (rw (bit-yes (foundBy before after (i + 1) k) here) (omega arith)));
+      kept-is =
+          rw behind-it (bits-more (foundBy before after (i + 1)) k
+          (kept-below e ∙ bits-eq (foundBy before after i) (foundBy before after (i + 1)) k same)
+          (rw (bit-yes (foundBy before after (i + 1) k) here) (omega arith)));
     }
       where
         here : T (foundBy before after (i + 1) k)
@@ -75,8 +78,10 @@ module _ (before after : Table) where
         same : (x : ℕ) → x < k → foundBy before after i x ≡ foundBy before after (i + 1) x
         same x below =
             same-test _ _
-            (λ h. let (j, l, q) = some-iff (λ j. eqb (keptAs before after j) x) i .0 h in some-iff (λ j. eqb (keptAs before after j) x) (i + 1) .1 (j, omega arith, q))
-            (λ h. let (j, l, q) = some-iff (λ j. eqb (keptAs before after j) x) (i + 1) .0 h in some-iff (λ j. eqb (keptAs before after j) x) i .1 (j, earlier j l q (ℕ-discrete j i), q))
+            (λ h. let (j, l, q) = some-iff (λ j. eqb (keptAs before after j) x) i .0 h in some-iff (λ j. eqb (keptAs before after j) x) (i + 1) .1
+            (j, omega arith, q))
+            (λ h. let (j, l, q) = some-iff (λ j. eqb (keptAs before after j) x) (i + 1) .0 h in some-iff (λ j. eqb (keptAs before after j) x) i .1
+            (j, earlier j l q (ℕ-discrete j i), q))
           where
             earlier : (j : ℕ) → j < i + 1 → T (eqb (keptAs before after j) x) → Dec (j ≡ i) → j < i
             earlier j l q (yes p) = absurd (omega (tests, rw p at q))
@@ -88,7 +93,9 @@ module _ (before after : Table) where
     ended-none e l none = rw (here, lt-ltb i (after .count) l)
       where
         here : unmatched before after ≡ i
-        here = first-is (λ j. leb (before .count) (keptAs before after j)) 0 (after .count) i (omega arith) (omega arith) (omega tests) (λ j a b h. absurd (omega (tests, s .all j b)))
+        here =
+            first-is (λ j. leb (before .count) (keptAs before after j)) 0 (after .count) i (omega arith) (omega arith) (omega tests)
+            (λ j a b h. absurd (omega (tests, s .all j b)))
 
     -- So do all tasks.
     pub ended-all : i ≡ after .count → easing before after ≡ Easing.Kept kept
@@ -96,7 +103,12 @@ module _ (before after : Table) where
     ended-all e = rw (here, le-ltb (after .count) (after .count) (omega arith), ← set)
       where
         here : unmatched before after ≡ after .count
-        here = omega (arith, first-none (λ j. leb (before .count) (keptAs before after j)) 0 (after .count) (λ j a b h. absurd (omega (tests, s .all j (omega arith)))))
+        here =
+            omega (
+              arith,
+              first-none (λ j. leb (before .count) (keptAs before after j)) 0 (after .count)
+                  (λ j a b h. absurd (omega (tests, s .all j (omega arith)))),
+            )
 
         set : kept ≡ keptSet before after
         set = past (s .within) ∙ rw e

@@ -88,12 +88,14 @@ module _ (t : Table) (m : Measure) (budget : ℕ) (well : judged t ≡ Judgement
     permitted-late from asked b clear h l e o none =
         let a : needed t ≡ n = needed-is t n (omega (arith, facts .horizon-is)) clear (λ x. h) in
         let u = is-late t budget fits (omega arith) (rw a h) in
-        let f : lateStart t n ≡ from = start-is t n from (too-much-iff t from n .1 (l, omega arith)) (λ later x y. none later x (too-much-iff t later n .0 y .0) y) in
+        let f : lateStart t n ≡ from = start-is t n from (too-much-iff t from n .1 (l, omega arith))
+        (λ later x y. none later x (too-much-iff t later n .0 y .0) y) in
         let v : verdict t budget ≡ Verdict.Late from n asked = u .0 ∙ rw (a, f, e) in
         permitted _ (Verdict.Late from n asked) v (rw (lt-ltb 0 asked (omega arith), u .1, a))
 
   -- So it is permitted, however it ended.
-  pub permitted-course : m .load ≤ m .round → {c : Course} → Ends t m budget c → Permitted t budget (concluded m (c .from) (c .asked) (c .at) (c .worst) (c .idle))
+  pub permitted-course : m .load ≤ m .round → {c : Course} → Ends t m budget c
+      → Permitted t budget (concluded m (c .from) (c .asked) (c .at) (c .worst) (c .idle))
   permitted-course light {c} e = elim (e .way) [
     | inl q ↦ rw (q .none) (permitted-quiet light (e .tally) (c .from) (q .clear) (q .ends))
     | inr l ↦ permitted-late light (e .tally) (c .from) (c .asked) (l .upto) (l .clear) (l .late) (l .before) (l .asks) (l .much) (l .last)

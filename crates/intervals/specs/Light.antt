@@ -18,7 +18,14 @@ pub shares-le : (t : Table) → Ranged t → load t ≤ round t → (x : ℕ) �
 unfolding load
 shares-le t r light x =
     le-of-mul-le-mul-left {k = round t}
-    (omega (arith, sum-mul (t .count) (round t) (share t x), sum-le (t .count) (λ i. round t * share t x i) (λ i. x * share t (round t) i) each, sum-mul (t .count) x (share t (round t)), mul-le-mul-left x light, mul-comm x (round t)))
+    (omega (
+      arith,
+      sum-mul (t .count) (round t) (share t x),
+      sum-le (t .count) (λ i. round t * share t x i) (λ i. x * share t (round t) i) each,
+      sum-mul (t .count) x (share t (round t)),
+      mul-le-mul-left x light,
+      mul-comm x (round t),
+    ))
     (round-pos t r)
   where
     each : (i : ℕ) → i < t .count → round t * share t x i ≤ x * share t (round t) i

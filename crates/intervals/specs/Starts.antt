@@ -31,18 +31,25 @@ module _ (k : Task) (r : InRange k) where
   before-from from h = omega (arith, div-mul-le-self (from - offset k - 1) (k .period))
 
   pub no-release : (from : ℕ) → NoRelease k (offset k + (from - offset k - 1) / k .period * k .period) from
-  no-release from j h = omega (arith, mul-le-mul {n₁ = j} {n₂ = (from - offset k - 1) / k .period} {m₂ = k .period} (le-div-iff-mul-le (r .period-pos) .1 (omega arith)) (le-refl (k .period)))
+  no-release from j h =
+      omega (
+        arith,
+        mul-le-mul {n₁ = j} {n₂ = (from - offset k - 1) / k .period} {m₂ = k .period} (le-div-iff-mul-le (r .period-pos) .1 (omega arith))
+            (le-refl (k .period)),
+      )
 
   -- An interval that starts between has the same jobs; one that starts at any earlier instant has at most one more, and one for
   -- each whole period between.
   jobs-same : (start later from to : ℕ) → NoRelease k start from → start < later → later ≤ from → jobsIn k later to ≡ jobsIn k from to
-  jobs-same start later from to q a b = rw (jobs-inside k r later to, jobs-inside k r from to, below-same (release k) (releases k r) later from b (λ j l. omega (arith, q j l)))
+  jobs-same start later from to q a b =
+      rw (jobs-inside k r later to, jobs-inside k r from to, below-same (release k) (releases k r) later from b (λ j l. omega (arith, q j l)))
 
   jobs-more : (later from to : ℕ) → later < from → jobsIn k later to ≤ jobsIn k from to + (1 + (from - later - 1) / k .period)
   jobs-more later from to h = omega (arith, jobs-inside k r later to, jobs-inside k r from to, new-le k r later from h)
 
   jobs-none : (to : ℕ) → jobsIn k to to ≡ 0
-  jobs-none to = omega (arith, jobs-inside k r to to, below-below (due k) (release k) (dues k r) (releases k r) (suc to) to (λ j h. omega (arith, r .deadline-pos)))
+  jobs-none to =
+      omega (arith, jobs-inside k r to to, below-below (due k) (release k) (dues k r) (releases k r) (suc to) to (λ j h. omega (arith, r .deadline-pos)))
 
 -- An interval of no slots asks for none.
 pub demand-none : (t : Table) → Ranged t → (to : ℕ) → demand t to to ≡ 0
@@ -54,13 +61,19 @@ abbrev pub PassedOver : Table → ℕ → ℕ → ℕ → ℕ → Type 0
 PassedOver t spare start from i = (t .count * task t i .cost ≤ spare) ⊎ NoRelease (task t i) start from
 
 -- Where the load is at most 1 and the interval from `from` leaves some slots to spare, no start between the two asks too much.
-module _ (t : Table) (r : Ranged t) (light : load t ≤ round t) {start from to spare : ℕ} (h : from ≤ to) (left : demand t from to + spare ≡ to - from) (passed : (i : ℕ) → i < t .count → PassedOver t spare start from i) where
+module _ (t : Table) (r : Ranged t) (light : load t ≤ round t) {start from to spare : ℕ} (h : from ≤ to) (left : demand t from to + spare ≡ to - from)
+    (passed : (i : ℕ) → i < t .count → PassedOver t spare start from i) where
   -- A light task's one job.
   abbrev once : ℕ → ℕ
   once i = cond (leb (t .count * task t i .cost) spare) (task t i .cost) 0
 
   once-le : sum (t .count) once ≤ spare
-  once-le = le-of-mul-le-mul-left {k = t .count} (omega (arith, sum-mul (t .count) (t .count) once, sum-bound (t .count) (λ i. t .count * once i) spare each)) (r .some)
+  once-le =
+      le-of-mul-le-mul-left {k = t .count} (omega (
+        arith,
+        sum-mul (t .count) (t .count) once,
+        sum-bound (t .count) (λ i. t .count * once i) spare each,
+      )) (r .some)
     where
       each : (i : ℕ) → i < t .count → t .count * once i ≤ spare
       each i l = elim (decLe (t .count * task t i .cost) spare) [
@@ -69,10 +82,12 @@ module _ (t : Table) (r : Ranged t) (light : load t ≤ round t) {start from to 
       ]
 
   module _ (later : ℕ) (a : start < later) (b : later < from) where
-    asks-more : (i : ℕ) → i < t .count → task t i .cost * jobsIn (task t i) later to ≤ task t i .cost * jobsIn (task t i) from to + (once i + share t (from - later - 1) i)
+    asks-more : (i : ℕ) → i < t .count → task t i .cost * jobsIn (task t i) later to ≤ task t i .cost * jobsIn (task t i) from to +
+        (once i + share t (from - later - 1) i)
     asks-more i l = go (passed i l)
       where
-        go : PassedOver t spare start from i → task t i .cost * jobsIn (task t i) later to ≤ task t i .cost * jobsIn (task t i) from to + (once i + share t (from - later - 1) i)
+        go : PassedOver t spare start from i → task t i .cost * jobsIn (task t i) later to ≤ task t i .cost * jobsIn (task t i) from to +
+            (once i + share t (from - later - 1) i)
         go (inl q) =
             rw (le-leb (t .count * task t i .cost) spare q)
             (omega (
@@ -89,7 +104,8 @@ module _ (t : Table) (r : Ranged t) (light : load t ≤ round t) {start from to 
         omega (
           arith,
           left,
-          sum-le (t .count) (λ i. task t i .cost * jobsIn (task t i) later to) (λ i. task t i .cost * jobsIn (task t i) from to + (once i + share t (from - later - 1) i)) asks-more,
+          sum-le (t .count) (λ i. task t i .cost * jobsIn (task t i) later to)
+              (λ i. task t i .cost * jobsIn (task t i) from to + (once i + share t (from - later - 1) i)) asks-more,
           sum-add (t .count) (λ i. task t i .cost * jobsIn (task t i) from to) (λ i. once i + share t (from - later - 1) i),
           sum-add (t .count) once (share t (from - later - 1)),
           once-le,
@@ -97,7 +113,8 @@ module _ (t : Table) (r : Ranged t) (light : load t ≤ round t) {start from to 
         )
 
   -- So none of them asks too much, if no later one does.
-  pub none-between : ((later : ℕ) → from < later → later < to → T (asksTooMuch t later to) → ⊥) → (later : ℕ) → start < later → later < to → T (asksTooMuch t later to) → ⊥
+  pub none-between : ((later : ℕ) → from < later → later < to → T (asksTooMuch t later to) → ⊥) → (later : ℕ) → start < later → later < to
+      → T (asksTooMuch t later to) → ⊥
   none-between none later a b x = go (decLt from later) (decLt later from)
     where
       y : to - later < demand t later to

@@ -34,7 +34,8 @@ ranged-of t w = judged-iff t (measure t) .0 w .0
 pub well-with : (t : Table) → Well t → (i c : ℕ) → i < t .count → 1 ≤ c → c ≤ task t i .deadline → Well (withCost t i c)
 well-with t w i c l a b =
     let (r, h, same, none) = judged-iff t (measure t) .0 w in
-    judged-iff (withCost t i c) (measure (withCost t i c)) .1 (ranged-with t r i l c a b, omega (arith, round-with t r i l c a b), refl, buttonless-with t r i l c none)
+    judged-iff (withCost t i c) (measure (withCost t i c)) .1
+    (ranged-with t r i l c a b, omega (arith, round-with t r i l c a b), refl, buttonless-with t r i l c none)
 
 -- The test says the verdict of such a table.
 pub says : (t : Table) → Well t → (budget : ℕ) (a : Answer) → Permitted t budget a → a .outcome ≡ Outcome.Tested (verdict t budget)
@@ -54,7 +55,13 @@ module _ (t : Table) (w : Well t) (i budget : ℕ) (l : i < t .count) (pass : ve
   pub halving-start : (fails : ℕ) → fails ≡ task t i .deadline + 1 → Halving t i budget (task t i .cost) fails
   halving-start fails e =
       let k = ranged-of t w .each i l in
-      record { some = k .cost-pos; apart = omega (arith, k .cost-le); upto = omega arith; passed = own-passes t (ranged-of t w) i l budget pass; failed = λ h. absurd (omega arith) }
+      record {
+        some = k .cost-pos;
+        apart = omega (arith, k .cost-le);
+        upto = omega arith;
+        passed = own-passes t (ranged-of t w) i l budget pass;
+        failed = λ h. absurd (omega arith);
+      }
 
   -- At the end: the cost that passes is the largest.
   pub halving-end : (passes fails : ℕ) → Halving t i budget passes fails → fails ≤ suc passes → passes ≡ largestCost t i budget

@@ -72,7 +72,9 @@ module _ (t : Table) (r : Ranged t) (to : ℕ) where
   asks-least J from h = sum-le (t .count) _ _ each
     where
       fewer : (i : ℕ) → i < t .count → J i < dueBy t to i → below (release (task t i)) from ≤ J i
-      fewer i l m = below-most (release (task t i)) (releases (task t i) (r .each i l)) from (J i) (λ j x. grows-lt (release (task t i)) (releases (task t i) (r .each i l)) j (J i) (omega (arith, h i l m)))
+      fewer i l m =
+          below-most (release (task t i)) (releases (task t i) (r .each i l)) from (J i)
+          (λ j x. grows-lt (release (task t i)) (releases (task t i) (r .each i l)) j (J i) (omega (arith, h i l m)))
 
       each : (i : ℕ) → i < t .count → task t i .cost * (dueBy t to i - J i) ≤ task t i .cost * jobsIn (task t i) from to
       each i l = mul-le-mul-left (task t i .cost) (elim (decLt (J i) (dueBy t to i)) [
@@ -104,7 +106,8 @@ module _ (t : Table) (r : Ranged t) (to : ℕ) where
     some-left late = elim (decLt 0 jobs) [ yes p ↦ p | no p ↦ absurd (never p (late-at-iff t to .0 late)) ]
       where
         never : (0 < jobs → ⊥) → (from : ℕ) × T (asksTooMuch t from to) → ⊥
-        never p (from, x) = v .none from (too-much-iff t from to .0 x .0) (λ i j l e. let (a, m, f) = v .queued .found _ (i, j, l, e, refl) in absurd (omega arith)) x
+        never p (from, x) =
+            v .none from (too-much-iff t from to .0 x .0) (λ i j l e. let (a, m, f) = v .queued .found _ (i, j, l, e, refl) in absurd (omega arith)) x
 
     module _ (busy : 0 < jobs) where
       abbrev key : ℕ
@@ -140,10 +143,18 @@ module _ (t : Table) (r : Ranged t) (to : ℕ) where
 
       -- No job that is not counted is released after it.
       latest : (k m : ℕ) → k < t .count → v .J k ≡ suc m → release (task t k) m ≤ here
-      latest k m l e = omega (arith, here-lt, released-before k m l (omega (arith, e, v .most k l)), entry-le t r _ _ i k task-lt l (rw (first .3) at (last-least (v .queued) busy (entry t (to - release (task t k) m) k) (k, m, l, e, refl))))
+      latest k m l e =
+          omega (
+            arith,
+            here-lt,
+            released-before k m l (omega (arith, e, v .most k l)),
+            entry-le t r _ _ i k task-lt l (rw (first .3) at (last-least (v .queued) busy (entry t (to - release (task t k) m) k) (k, m, l, e, refl))),
+          )
 
       counted-more : counted t to (but (v .J) i j) ≡ counted t to (v .J) + task t i .cost
-      counted-more = sum-by (t .count) _ _ i (task t i .cost) task-lt one (λ k l q. ap (λ (x : ℕ). task t k .cost * (dueBy t to k - x)) (but-other (v .J) i j k (λ e. q (sym e))))
+      counted-more =
+          sum-by (t .count) _ _ i (task t i .cost) task-lt one
+          (λ k l q. ap (λ (x : ℕ). task t k .cost * (dueBy t to k - x)) (but-other (v .J) i j k (λ e. q (sym e))))
         where
           one : task t i .cost * (dueBy t to i - but (v .J) i j i) ≡ task t i .cost * (dueBy t to i - v .J i) + task t i .cost
           one =
@@ -158,24 +169,36 @@ module _ (t : Table) (r : Ranged t) (to : ℕ) where
 
       -- It asks too much: it is the largest such start.
       pub found : (length : ℕ) → length ≡ key / span → length < asked + task t i .cost
-          → (to - length < to) × (length ≤ to) × (to - (to - length) < demand t (to - length) to) × ((later : ℕ) → to - length < later → later < to → T (asksTooMuch t later to) → ⊥)
+          → (to - length < to) × (length ≤ to) × (to - (to - length) < demand t (to - length) to)
+          × ((later : ℕ) → to - length < later → later < to → T (asksTooMuch t later to) → ⊥)
       found length e h =
           let f : to - length ≡ here = omega (arith, e, length-is, here-lt) in
-          let g : to - here ≡ length = omega (arith, e, length-is) in
-          (omega (arith, here-lt), omega (arith, g), rw f (omega (arith, g, v .asks, counted-more, asks-least (but (v .J) i j) here counted-here)), λ later a b. v .none later b (λ k m l x. omega (arith, latest k m l x)))
+          let g : to - here ≡ length = omega (arith, e, length-is) in (
+            omega (arith, here-lt),
+            omega (arith, g),
+            rw f (omega (arith, g, v .asks, counted-more, asks-least (but (v .J) i j) here counted-here)),
+            λ later a b. v .none later b (λ k m l x. omega (arith, latest k m l x)),
+          )
 
       -- It does not, and the search goes on with what is then queued.
-      onward : {queue′ : List ℕ} {jobs′ : ℕ} → asked + task t i .cost ≤ to - here → Queue (Last t to (t .count) (but (v .J) i j)) queue′ jobs′ → Searching t to queue′ jobs′ (asked + task t i .cost)
+      onward : {queue′ : List ℕ} {jobs′ : ℕ} → asked + task t i .cost ≤ to - here → Queue (Last t to (t .count) (but (v .J) i j)) queue′ jobs′
+          → Searching t to queue′ jobs′ (asked + task t i .cost)
       onward h q = record {
         J = but (v .J) i j;
         start = here;
-        most = λ k l. elim (ℕ-discrete i k) [ yes e ↦ rw (← e) (omega (arith, but-here (v .J) i j, first .2, v .most i task-lt)) | no e ↦ omega (arith, but-other (v .J) i j k e, v .most k l) ];
+        most =
+            λ k l. elim (ℕ-discrete i k) [
+              | yes e ↦ rw (← e) (omega (arith, but-here (v .J) i j, first .2, v .most i task-lt))
+              | no e ↦ omega (arith, but-other (v .J) i j k e, v .most k l)
+            ];
         queued = q;
         asks = omega (arith, v .asks, counted-more);
         upto = omega (arith, here-lt);
         fits = h;
         rest = λ k m l e. elim (ℕ-discrete i k) [
-          | yes q ↦ (let f : j ≡ suc m = sym (but-here (v .J) i j) ∙ ap (but (v .J) i j) q ∙ e in subst (λ (x : ℕ). release (task t x) m ≤ here) q (omega (arith, releases (task t i) (r .each i task-lt) m, ap (release (task t i)) f)))
+          | yes q ↦
+              (let f : j ≡ suc m = sym (but-here (v .J) i j) ∙ ap (but (v .J) i j) q
+              ∙ e in subst (λ (x : ℕ). release (task t x) m ≤ here) q (omega (arith, releases (task t i) (r .each i task-lt) m, ap (release (task t i)) f)))
           | no q ↦ latest k m l (sym (but-other (v .J) i j k q) ∙ e)
         ];
         taken = counted-here;
@@ -192,14 +215,17 @@ module _ (t : Table) (r : Ranged t) (to : ℕ) where
           omega (arith, y, f, first .3, ap (λ (z : ℕ). entry t (to - release (task t z) j) z) q, ap (λ (z : ℕ). entry t (to - release (task t k) z) k) g)
 
       larger : (k m x : ℕ) → k < t .count → v .J k ≡ suc m → x ≡ entry t (to - release (task t k) m) k → (i ≡ k → ⊥) → key < x
-      larger k m x l e f q = strict key x (λ y. q (entry-same t r _ _ i k task-lt l (sym (first .3) ∙ y ∙ f) .0)) (last-least (v .queued) busy x (k, m, l, e, f))
+      larger k m x l e f q =
+          strict key x (λ y. q (entry-same t r _ _ i k task-lt l (sym (first .3) ∙ y ∙ f) .0)) (last-least (v .queued) busy x (k, m, l, e, f))
 
       dropped : j ≡ 0 → Queue (Last t to (t .count) (but (v .J) i j)) queue (jobs - 1)
       dropped z = alike (but-last (v .queued) busy)
           (λ x ((k, m, l, e, f), y). (k, m, l, but-other (v .J) i j k (other k m x l e f y) ∙ e, f))
-          (λ x (k, m, l, e, f). let q : i ≡ k → ⊥ = λ q. absurd (omega (arith, z, but-here (v .J) i j, ap (but (v .J) i j) q, e)) in let g = sym (but-other (v .J) i j k q) ∙ e in ((k, m, l, g, f), larger k m x l g f q))
+          (λ x (k, m, l, e, f). let q : i ≡ k → ⊥ = λ q. absurd (omega (arith, z, but-here (v .J) i j, ap (but (v .J) i j) q, e)) in let g = sym
+          (but-other (v .J) i j k q) ∙ e in ((k, m, l, g, f), larger k m x l g f q))
 
-      moved : (n : ℕ) → j ≡ suc n → jobs ≤ taskLimit → Queue (Last t to (t .count) (but (v .J) i j)) (inserted queue (jobs - 1) (entry t (to - release (task t i) n) i)) jobs
+      moved : (n : ℕ) → j ≡ suc n → jobs ≤ taskLimit → Queue (Last t to (t .count) (but (v .J) i j))
+          (inserted queue (jobs - 1) (entry t (to - release (task t i) n) i)) jobs
       moved n z few = alike (put-in (but-last (v .queued) busy) (omega arith) (entry t (to - release (task t i) n) i) fresh jobs (omega arith)) forth back
         where
           fresh : Last t to (t .count) (v .J) (entry t (to - release (task t i) n) i) × (key < entry t (to - release (task t i) n) i) → ⊥
@@ -227,9 +253,11 @@ module _ (t : Table) (r : Ranged t) (to : ℕ) where
           fits′ = omega (arith, e, length-is)
 
           by : (n : ℕ) → j ≡ n
-              → (longer + offset (task t i) ≤ to → jobs ≤ taskLimit → Searching t to (inserted queue (jobs - 1) (entry t longer i)) jobs (asked + task t i .cost))
+              → (longer + offset (task t i) ≤ to → jobs ≤ taskLimit → Searching t to (inserted queue (jobs - 1) (entry t longer i)) jobs
+              (asked + task t i .cost))
               × (to < longer + offset (task t i) → Searching t to queue (jobs - 1) (asked + task t i .cost))
-          by zero z = (λ x few. absurd (omega (arith, e, length-is, here-lt, ap (release (task t i)) z, r .each i task-lt .period-pos)), λ x. onward fits′ (dropped z))
+          by zero z =
+              (λ x few. absurd (omega (arith, e, length-is, here-lt, ap (release (task t i)) z, r .each i task-lt .period-pos)), λ x. onward fits′ (dropped z))
           by (suc n) z =
               let g : longer ≡ to - release (task t i) n = omega (arith, e, f, length-is, here-lt, ap (release (task t i)) z) in
               (λ x few. rw g (onward fits′ (moved n z few)), λ x. absurd (omega (arith, g, here-lt, ap (release (task t i)) z)))
@@ -242,7 +270,8 @@ module _ (t : Table) (r : Ranged t) (to : ℕ) where
     pub crowded : jobs ≤ t .count
     crowded = at-most (t .count) jobs (λ a. at queue a % places) (λ a l. of a l .1) apart
       where
-        of : (a : ℕ) → a < jobs → (m : ℕ) × (at queue a % places < t .count) × (v .J (at queue a % places) ≡ suc m) × (at queue a ≡ entry t (to - release (task t (at queue a % places)) m) (at queue a % places))
+        of : (a : ℕ) → a < jobs → (m : ℕ) × (at queue a % places < t .count) × (v .J (at queue a % places) ≡ suc m)
+            × (at queue a ≡ entry t (to - release (task t (at queue a % places)) m) (at queue a % places))
         of a l =
             let (k, m, b, e, f) = v .queued .sound a l in
             let q : at queue a % places ≡ k = ap (λ (x : ℕ). x % places) f ∙ entry-task t r _ k b in
@@ -253,7 +282,12 @@ module _ (t : Table) (r : Ranged t) (to : ℕ) where
             let (m, x, e, f) = of a (omega arith) in
             let (n, y, g, z) = of b l in
             let s : m ≡ n = omega (arith, e, g, ap (v .J) q) in
-            omega (arith, v .queued .falls a b h l, f ∙ ap (λ (k : ℕ). entry t (to - release (task t k) m) k) q ∙ ap (λ (k : ℕ). entry t (to - release (task t (at queue b % places)) k) (at queue b % places)) s ∙ sym z)
+            omega (
+              arith,
+              v .queued .falls a b h l,
+              f ∙ ap (λ (k : ℕ). entry t (to - release (task t k) m) k) q
+                  ∙ ap (λ (k : ℕ). entry t (to - release (task t (at queue b % places)) k) (at queue b % places)) s ∙ sym z,
+            )
 
 -- The last jobs of the tasks below i.
 pub lasts-none : (t : Table) (to : ℕ) → Queue (Last t to 0 (dueBy t to)) (replicate taskLimit 0) 0
@@ -274,7 +308,8 @@ module _ (t : Table) (r : Ranged t) (to : ℕ) where
         (λ x (k, j, m, e, f). (k, j, omega arith, e, f))
         (λ x (k, j, m, e, f). (k, j, (let p : k ≢ i = λ y. absurd (omega (arith, e, ap (dueBy t to) y)) in omega arith), e, f))
 
-    pub lasts-more : (j : ℕ) → dueBy t to i ≡ suc j → jobs < taskLimit → Queue (Last t to (i + 1) (dueBy t to)) (inserted queue jobs (entry t (to - release (task t i) j) i)) (jobs + 1)
+    pub lasts-more : (j : ℕ) → dueBy t to i ≡ suc j → jobs < taskLimit → Queue (Last t to (i + 1) (dueBy t to))
+        (inserted queue jobs (entry t (to - release (task t i) j) i)) (jobs + 1)
     lasts-more j e few = alike (put-in q few (entry t (to - release (task t i) j) i) fresh (jobs + 1) (omega arith)) forth back
       where
         fresh : Last t to i (dueBy t to) (entry t (to - release (task t i) j) i) → ⊥

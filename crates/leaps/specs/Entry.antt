@@ -41,10 +41,12 @@ module _ (t : Table) (r : Ranged t) where
 
   -- Two entries are of one task only at one time.
   pub entry-same : (u v i k : ℕ) → i < t .count → k < t .count → entry t u i ≡ entry t v k → (i ≡ k) × (u ≡ v)
-  entry-same u v i k l m e = (sym (entry-task u i l) ∙ ap (λ (x : ℕ). x % places) e ∙ entry-task v k m, sym (entry-time u i l) ∙ ap (λ (x : ℕ). x / span) e ∙ entry-time v k m)
+  entry-same u v i k l m e =
+      (sym (entry-task u i l) ∙ ap (λ (x : ℕ). x % places) e ∙ entry-task v k m, sym (entry-time u i l) ∙ ap (λ (x : ℕ). x / span) e ∙ entry-time v k m)
 
   pub entry-order : (u v i k : ℕ) → i < t .count → k < t .count → entry t u i ≤ entry t v k → Ahead u (standing (tieOrder t) i) v (standing (tieOrder t) k)
-  entry-order u v i k l m x = elim (decLt u v) [ yes p ↦ inl p | no p ↦ inr (omega (arith, mark-small i l, mark-small k m), omega (arith, mark-small i l, mark-small k m, r .few)) ]
+  entry-order u v i k l m x =
+      elim (decLt u v) [ yes p ↦ inl p | no p ↦ inr (omega (arith, mark-small i l, mark-small k m), omega (arith, mark-small i l, mark-small k m, r .few)) ]
 
   pub entry-le : (u v i k : ℕ) → i < t .count → k < t .count → entry t u i ≤ entry t v k → u ≤ v
   entry-le u v i k l m x = elim (entry-order u v i k l m x) [ inl p ↦ omega arith | inr p ↦ omega (arith, p .0) ]

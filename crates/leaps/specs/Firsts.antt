@@ -25,7 +25,8 @@ firsts-none t = record {
   found = λ x (k, l, e). absurd (omega arith);
 }
 
-pub firsts-more : (t : Table) → Ranged t → (i : ℕ) {q : List ℕ} → i < t .count → Queue (Firsts t i) q i → Queue (Firsts t (i + 1)) (inserted q i (entry t (offset (task t i)) i)) (i + 1)
+pub firsts-more : (t : Table) → Ranged t → (i : ℕ) {q : List ℕ} → i < t .count → Queue (Firsts t i) q i
+    → Queue (Firsts t (i + 1)) (inserted q i (entry t (offset (task t i)) i)) (i + 1)
 firsts-more t r i l w = alike (put-in w (omega (arith, r .few)) (entry t (offset (task t i)) i) fresh (i + 1) (omega arith)) to back
   where
     fresh : Firsts t i (entry t (offset (task t i)) i) → ⊥

@@ -1,4 +1,5 @@
--- WHAT THE WALK HOLDS (`release-one`): the next releases and the open jobs, each as a queue in the order in which they come, and the slots left. A release moves a task in both.
+-- WHAT THE WALK HOLDS (`release-one`): the next releases and the open jobs, each as a queue in the order in which they come, and the slots left. A
+-- release moves a task in both.
 use mathlib.Core.Path.{_≡_, refl, sym, ap, subst, _∙_}
 use mathlib.Core.Logic.{_⊎_, inl, inr}
 use mathlib.Core.List.{List}
@@ -47,14 +48,16 @@ but-other f i x k h = rw (ne-eqb i k h)
 
 module _ (t : Table) (r : Ranged t) {n : ℕ} {W L : ℕ → ℕ} {releases ready left : List ℕ} {jobs : ℕ} (h : Held t n W L releases ready left jobs) where
   -- The task of the next release, and of the first deadline.
-  pub next-of : (at releases (t .count - 1) % places < t .count) × (at releases (t .count - 1) ≡ entry t (n + W (at releases (t .count - 1) % places)) (at releases (t .count - 1) % places))
+  pub next-of : (at releases (t .count - 1) % places < t .count) ×
+      (at releases (t .count - 1) ≡ entry t (n + W (at releases (t .count - 1) % places)) (at releases (t .count - 1) % places))
   next-of =
       let (i, l, e) = h .coming .sound (t .count - 1) (omega (arith, r .some)) in
       let f : at releases (t .count - 1) % places ≡ i = ap (λ (x : ℕ). x % places) e ∙ entry-task t r (n + W i) i l in
       rw f (l, e)
 
   -- The task of each open job.
-  open-of : (a : ℕ) → a < jobs → (at ready a % places < t .count) × (0 < L (at ready a % places)) × (at ready a ≡ entry t (n + (W (at ready a % places) - slack t (at ready a % places))) (at ready a % places))
+  open-of : (a : ℕ) → a < jobs → (at ready a % places < t .count) × (0 < L (at ready a % places))
+      × (at ready a ≡ entry t (n + (W (at ready a % places) - slack t (at ready a % places))) (at ready a % places))
   open-of a k =
       let (j, m, p, e) = h .waiting .sound a k in
       let f : at ready a % places ≡ j = ap (λ (x : ℕ). x % places) e ∙ entry-task t r (n + (W j - slack t j)) j m in
@@ -94,7 +97,8 @@ module _ (t : Table) (r : Ranged t) {n : ℕ} {W L : ℕ → ℕ} {releases read
     shut : 0 < L i → ⊥
     shut p = absurd (omega (arith, h .ahead i l p))
 
-    queued : Queue (λ x. (x ≡ entry t (n + task t i .period) i) ⊎ (Coming t n W x × (at releases (t .count - 1) < x))) (inserted releases (t .count - 1) (entry t (n + task t i .period) i)) (t .count)
+    queued : Queue (λ x. (x ≡ entry t (n + task t i .period) i) ⊎ (Coming t n W x × (at releases (t .count - 1) < x)))
+        (inserted releases (t .count - 1) (entry t (n + task t i .period) i)) (t .count)
     queued = put-in (but-last (h .coming) (r .some)) (omega (arith, r .few)) (entry t (n + task t i .period) i) fresh (t .count) (omega (arith, r .some))
       where
         fresh : Coming t n W (entry t (n + task t i .period) i) × (at releases (t .count - 1) < entry t (n + task t i .period) i) → ⊥
@@ -109,9 +113,15 @@ module _ (t : Table) (r : Ranged t) {n : ℕ} {W L : ℕ → ℕ} {releases read
       where
         to : (x : ℕ) → (x ≡ entry t (n + task t i .period) i) ⊎ (Coming t n W x × (at releases (t .count - 1) < x)) → Coming t n (but W i (task t i .period)) x
         to x (inl e) = (i, l, e ∙ ap (λ (w : ℕ). entry t (n + w) i) (sym (but-here W i (task t i .period))))
-        to x (inr ((k, m, e), y)) = (k, m, e ∙ ap (λ (w : ℕ). entry t (n + w) k) (sym (but-other W i (task t i .period) k (λ q. absurd (omega (arith, first, y, e, ap (λ (j : ℕ). entry t (n + W j) j) q))))))
+        to x (inr ((k, m, e), y)) = (
+          k,
+          m,
+          e ∙ ap (λ (w : ℕ). entry t (n + w) k)
+              (sym (but-other W i (task t i .period) k (λ q. absurd (omega (arith, first, y, e, ap (λ (j : ℕ). entry t (n + W j) j) q))))),
+        )
 
-        back : (x : ℕ) → Coming t n (but W i (task t i .period)) x → (x ≡ entry t (n + task t i .period) i) ⊎ (Coming t n W x × (at releases (t .count - 1) < x))
+        back : (x : ℕ) → Coming t n (but W i (task t i .period)) x → (x ≡ entry t (n + task t i .period) i)
+            ⊎ (Coming t n W x × (at releases (t .count - 1) < x))
         back x (k, m, e) = elim (ℕ-discrete i k) [
           | yes q ↦ inl (e ∙ rw (← q) (ap (λ (w : ℕ). entry t (n + w) i) (but-here W i (task t i .period))))
           | no q ↦
@@ -152,7 +162,8 @@ module _ (t : Table) (r : Ranged t) {n : ℕ} {W L : ℕ → ℕ} {releases read
         ]
 
     pub release-one :
-        Held t n (but W i (task t i .period)) (but L i (task t i .cost)) (inserted releases (t .count - 1) (entry t (n + task t i .period) i)) (inserted ready jobs (entry t (n + task t i .deadline) i)) (set left i (task t i .cost)) (jobs + 1)
+        Held t n (but W i (task t i .period)) (but L i (task t i .cost)) (inserted releases (t .count - 1) (entry t (n + task t i .period) i))
+        (inserted ready jobs (entry t (n + task t i .deadline) i)) (set left i (task t i .cost)) (jobs + 1)
     release-one = record {
       coming = comes;
       waiting = waits;

@@ -45,7 +45,9 @@ module _ (t : Table) (r : Ranged t) (light : load t ≤ round t) {n : ℕ} (clea
   pub idle-done : (e : ℕ) → n < e → Within t r n e → o < t .count → e ≡ n + L t r n o → (last : Bool)
       → (T last → (i : ℕ) → i < t .count → (o ≡ i → ⊥) → 0 < L t r n i → ⊥) → (((i : ℕ) → i < t .count → (o ≡ i → ⊥) → 0 < L t r n i → ⊥) → T last)
       → idleBy t e ≡ idleThen (idleBy t n) last e
-  idle-done e a b l s last none only = idle-next t r light n e (omega arith) a (λ v p q. never e b l v p (omega arith) (omega arith)) last (same-test _ _ (λ h. only (λ i m q p. omega (arith, x .others i m q, idle-shut e (x .clear) h i m))) (λ h. shut-idle e (x .clear) (shut (none h))))
+  idle-done e a b l s last none only =
+      idle-next t r light n e (omega arith) a (λ v p q. never e b l v p (omega arith) (omega arith)) last
+      (same-test _ _ (λ h. only (λ i m q p. omega (arith, x .others i m q, idle-shut e (x .clear) h i m))) (λ h. shut-idle e (x .clear) (shut (none h))))
     where
       x : Leapt t r n e
       x = leap t r n clear e a b
@@ -57,7 +59,8 @@ module _ (t : Table) (r : Ranged t) (light : load t ≤ round t) {n : ℕ} (clea
       ]
 
   -- No job is open: the next instant is idle.
-  pub idle-rest : (e : ℕ) → n < e → Within t r n e → ((i : ℕ) → i < t .count → 0 < L t r n i → ⊥) → o ≡ taskLimit → idleBy t e ≡ cond (ltb 0 (idleBy t n)) (idleBy t n) (suc n)
+  pub idle-rest : (e : ℕ) → n < e → Within t r n e → ((i : ℕ) → i < t .count → 0 < L t r n i → ⊥) → o ≡ taskLimit
+      → idleBy t e ≡ cond (ltb 0 (idleBy t n)) (idleBy t n) (suc n)
   idle-rest e a b shut none = elim (decLt 0 (idleBy t n)) [
     | yes p ↦ rw (lt-ltb 0 (idleBy t n) p) (idle-kept t n e (omega arith) p)
     | no p ↦ rw (le-ltb 0 (idleBy t n) (omega arith)) (idle-kept t (suc n) e a (omega (arith, next p)) ∙ next p)
@@ -71,5 +74,6 @@ module _ (t : Table) (r : Ranged t) (light : load t ≤ round t) {n : ℕ} (clea
 
       next : ¬ (0 < idleBy t n) → idleBy t (suc n) ≡ suc n
       next p =
-          let e : idleBy t (suc n) ≡ cond (ltb 0 (idleBy t n)) (idleBy t n) (suc n) = idle-next t r light n (suc n) (omega arith) (le-refl (suc n)) (λ v a b. absurd (omega arith)) true (is-true _ (shut-idle (suc n) (x .clear) closed)) in
+          let e : idleBy t (suc n) ≡ cond (ltb 0 (idleBy t n)) (idleBy t n) (suc n) = idle-next t r light n (suc n) (omega arith) (le-refl (suc n))
+          (λ v a b. absurd (omega arith)) true (is-true _ (shut-idle (suc n) (x .clear) closed)) in
           e ∙ rw (le-ltb 0 (idleBy t n) (omega arith))

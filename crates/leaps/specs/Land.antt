@@ -32,7 +32,11 @@ module _ (t : Table) (r : Ranged t) {n e : ℕ} (later : n < e) (leapt : Leapt t
 
   -- What is open at e was open at n.
   was-open : (k : ℕ) → k < t .count → 0 < leftOf (walked t e) k → 0 < L t r n k
-  was-open k l p = elim (ℕ-discrete o k) [ yes q ↦ (let z : leftOf (walked t e) k + e ≡ L t r n k + n = rw q at (leapt .rest (omega arith)) in omega arith) | no q ↦ omega (arith, leapt .others k l q) ]
+  was-open k l p =
+      elim (ℕ-discrete o k) [
+        | yes q ↦ (let z : leftOf (walked t e) k + e ≡ L t r n k + n = rw q at (leapt .rest (omega arith)) in omega arith)
+        | no q ↦ omega (arith, leapt .others k l q)
+      ]
 
   -- The times of the entries stay.
   next-stays : (k : ℕ) → k < t .count → n + W t r n k ≡ e + waitOf (walked t e) k
@@ -51,7 +55,9 @@ module _ (t : Table) (r : Ranged t) {n e : ℕ} (later : n < e) (leapt : Leapt t
 
   module _ {releases ready left : List ℕ} {jobs : ℕ} (h : Held t n (W t r n) (L t r n) releases ready left jobs) where
     still-coming : Queue (Coming t e (waitOf (walked t e))) releases (t .count)
-    still-coming = alike (h .coming) (λ x (i, l, q). (i, l, q ∙ ap (λ (u : ℕ). entry t u i) (next-stays i l))) (λ x (i, l, q). (i, l, q ∙ ap (λ (u : ℕ). entry t u i) (sym (next-stays i l))))
+    still-coming =
+        alike (h .coming) (λ x (i, l, q). (i, l, q ∙ ap (λ (u : ℕ). entry t u i) (next-stays i l)))
+        (λ x (i, l, q). (i, l, q ∙ ap (λ (u : ℕ). entry t u i) (sym (next-stays i l))))
 
     -- The owner has v slots left.
     left-set : (v : ℕ) → o < t .count → v + e ≡ n + L t r n o → (k : ℕ) → k < t .count → at (set left o v) k ≡ leftOf (walked t e) k
@@ -61,10 +67,13 @@ module _ (t : Table) (r : Ranged t) {n e : ℕ} (later : n < e) (leapt : Leapt t
     ]
 
     -- A release comes before the owner's job is done: all that was open is open.
-    pub preempted : (v : ℕ) → o < t .count → v + e ≡ n + L t r n o → 0 < v → e < n + (W t r n o - slack t o) → Held t e (waitOf (walked t e)) (leftOf (walked t e)) releases ready (set left o v) jobs
+    pub preempted : (v : ℕ) → o < t .count → v + e ≡ n + L t r n o → 0 < v → e < n + (W t r n o - slack t o)
+        → Held t e (waitOf (walked t e)) (leftOf (walked t e)) releases ready (set left o v) jobs
     preempted v b s some d = record {
       coming = still-coming;
-      waiting = alike (h .waiting) (λ x (k, l, p, q). (k, l, still k l p, q ∙ ap (λ (u : ℕ). entry t u k) (stays k l p))) (λ x (k, l, p, q). (k, l, was-open k l p, q ∙ ap (λ (u : ℕ). entry t u k) (sym (stays k l (was-open k l p)))));
+      waiting =
+          alike (h .waiting) (λ x (k, l, p, q). (k, l, still k l p, q ∙ ap (λ (u : ℕ). entry t u k) (stays k l p)))
+          (λ x (k, l, p, q). (k, l, was-open k l p, q ∙ ap (λ (u : ℕ). entry t u k) (sym (stays k l (was-open k l p)))));
       lefts = left-set v b s;
       size = length-set left o v ∙ h .size;
       ahead = λ k l p. not-yet k l (dues k l (was-open k l p));

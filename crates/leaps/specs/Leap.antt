@@ -1,4 +1,5 @@
--- A LEAP (`leap`): as long as no job is released, ends or comes to its deadline, slots from n on are one: their owner is the same, its slots go down with time, and so do all waits.
+-- A LEAP (`leap`): as long as no job is released, ends or comes to its deadline, slots from n on are one: their owner is the same, its slots go down
+-- with time, and so do all waits.
 use mathlib.Core.Path.{_≡_, refl, _∙_}
 use mathlib.Core.Logic.{inl, inr}
 use mathlib.Core.Bool.{false, cond, _&&_}
@@ -40,7 +41,8 @@ module _ (t : Table) (r : Ranged t) where
 
   -- Where no deadline up to n is late, none is closed.
   pub none-closed : (n : ℕ) → Clear t (suc n) → (i : ℕ) → i < t .count → leftLate t (walked t n) false i ≡ leftOf (walked t n) i
-  none-closed n c i l = rw (is-false (isLate t (walked t n) false i) (λ h. c n (le-refl (suc n)) (late-iff t r (tieOrder t) n (λ u m. c u (le-step m)) .0 (i, l, h)))) refl
+  none-closed n c i l =
+      rw (is-false (isLate t (walked t n) false i) (λ h. c n (le-refl (suc n)) (late-iff t r (tieOrder t) n (λ u m. c u (le-step m)) .0 (i, l, h)))) refl
 
 module _ (t : Table) (r : Ranged t) (n : ℕ) where
   -- The waits and slots left once the jobs of slot n are released, and its owner.
@@ -65,7 +67,8 @@ module _ (t : Table) (r : Ranged t) (n : ℕ) where
     pub wait : (i : ℕ) → i < t .count → waitOf (walked t e) i + e ≡ W i + n
     pub rest : owner < t .count → leftOf (walked t e) owner + e ≡ L owner + n
     pub others : (i : ℕ) → i < t .count → (owner ≡ i → ⊥) → leftOf (walked t e) i ≡ L i
-    pub worst : worstBy t e ≡ cond (ltb owner (t .count) && eqb (leftOf (walked t e) owner) 0) (noted (worstBy t n) owner (task t owner .period - waitOf (walked t e) owner)) (worstBy t n)
+    pub worst : worstBy t e ≡ cond (ltb owner (t .count) && eqb (leftOf (walked t e) owner) 0)
+        (noted (worstBy t n) owner (task t owner .period - waitOf (walked t e) owner)) (worstBy t n)
 
   pub within-less : (u e : ℕ) → u ≤ e → Within e → Within u
   within-less u e m b = record { waits = λ i l. omega (arith, b .waits i l); slots = λ l. omega (arith, b .slots l); due = λ l. omega (arith, b .due l) }
@@ -95,10 +98,19 @@ module _ (t : Table) (r : Ranged t) (n : ℕ) where
   module _ (e : ℕ) (later : n < e) (at : Leapt e) (b : Within (suc e)) where
     -- What is open at e was open at n, and its deadline is not yet reached.
     was-open : (i : ℕ) → i < t .count → 0 < leftOf (walked t e) i → 0 < L i
-    was-open i l p = elim (ℕ-discrete owner i) [ yes q ↦ (let z : leftOf (walked t e) i + e ≡ L i + n = rw q at (at .rest (omega arith)) in omega arith) | no q ↦ omega (arith, at .others i l q) ]
+    was-open i l p =
+        elim (ℕ-discrete owner i) [
+          | yes q ↦ (let z : leftOf (walked t e) i + e ≡ L i + n = rw q at (at .rest (omega arith)) in omega arith)
+          | no q ↦ omega (arith, at .others i l q)
+        ]
 
     still-open : (i : ℕ) → i < t .count → 0 < L i → 0 < leftOf (walked t e) i
-    still-open i l p = elim (ℕ-discrete owner i) [ yes q ↦ (let z : leftOf (walked t e) i + e ≡ L i + n = rw q at (at .rest (omega arith)) in let y : suc e ≤ n + L i = rw q at (b .slots (omega arith)) in omega arith) | no q ↦ omega (arith, at .others i l q) ]
+    still-open i l p =
+        elim (ℕ-discrete owner i) [
+          | yes q ↦ (let z : leftOf (walked t e) i + e ≡ L i + n = rw q at
+              (at .rest (omega arith)) in let y : suc e ≤ n + L i = rw q at (b .slots (omega arith)) in omega arith)
+          | no q ↦ omega (arith, at .others i l q)
+        ]
 
     due-ahead : (i : ℕ) → i < t .count → 0 < L i → suc e ≤ n + (W i - slack t i)
     due-ahead i l p = let (m, x) = due-le i l p in omega (arith, b .due m)
@@ -124,7 +136,8 @@ module _ (t : Table) (r : Ranged t) (n : ℕ) where
         (r .few)
         (λ i l p. lt→ltb 0 (L i) (was-open i l (omega (arith, left-same i l, ltb→lt 0 (leftReleased t (walked t e) false i) p))))
         (λ i l p. lt→ltb 0 (leftReleased t (walked t e) false i) (omega (arith, left-same i l, still-open i l (ltb→lt 0 (L i) p))))
-        (λ i k l m p q x. alike i k l m (was-open i l (omega (arith, left-same i l, ltb→lt 0 (leftReleased t (walked t e) false i) p))) (was-open k m (omega (arith, left-same k m, ltb→lt 0 (leftReleased t (walked t e) false k) q))) x)
+        (λ i k l m p q x. alike i k l m (was-open i l (omega (arith, left-same i l, ltb→lt 0 (leftReleased t (walked t e) false i) p)))
+        (was-open k m (omega (arith, left-same k m, ltb→lt 0 (leftReleased t (walked t e) false k) q))) x)
         (chosen t (tieOrder t) (walked t e) false (r .few))
         (chosen t (tieOrder t) (walked t n) false (r .few))
       where

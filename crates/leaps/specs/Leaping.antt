@@ -67,7 +67,8 @@ pub record Ended (t : Table) (end : ℕ) (idling : Bool) (x : Landed) (worst : L
   pub late : x .late ≡ true → T (lateAt t (x .time))
   pub ends : x .late ≡ false → ((x .time ≡ end) × Clear t (suc (x .time))) ⊎ ((idling ≡ true) × (0 < x .idle))
 
-module _ {t : Table} {period cost deadline releases ready left worst : List ℕ} {last end : ℕ} {x : Landed} (h : Here t period cost deadline releases ready left worst last end x) where
+module _ {t : Table} {period cost deadline releases ready left worst : List ℕ} {last end : ℕ} {x : Landed}
+    (h : Here t period cost deadline releases ready left worst last end x) where
   -- No deadline up to now is late.
   clear-now : Clear t (suc (x .time))
   clear-now = calm-clear t (h .ranged) (h .clear) (h .held .ahead)
@@ -76,13 +77,36 @@ module _ {t : Table} {period cost deadline releases ready left worst : List ℕ}
   pub due-now : Due t period cost deadline releases ready left last (x .time) (x .jobs)
   due-now = record { ranged = h .ranged; columns = h .columns; soon = omega (arith, h .before, h .limit); clear = clear-now; held = h .held }
 
-  pub ready-now : {releases′ ready′ left′ : List ℕ} {jobs′ : ℕ} → Held t (x .time) (waitReleased t (walked t (x .time)) false) (leftReleased t (walked t (x .time)) false) releases′ ready′ left′ jobs′
+  pub ready-now : {releases′ ready′ left′ : List ℕ} {jobs′ : ℕ} → Held t (x .time) (waitReleased t (walked t (x .time)) false)
+      (leftReleased t (walked t (x .time)) false) releases′ ready′ left′ jobs′
       → Ready t deadline releases′ ready′ left′ worst last (x .time) end jobs′ (x .idle)
-  ready-now held = record { ranged = h .ranged; light = h .light; deadlines = h .columns .deadlines; last-is = h .columns .last-is; before = h .before; limit = h .limit; clear = clear-now; held = held; tally = h .tally }
+  ready-now held =
+      record {
+        ranged = h .ranged;
+        light = h .light;
+        deadlines = h .columns .deadlines;
+        last-is = h .columns .last-is;
+        before = h .before;
+        limit = h .limit;
+        clear = clear-now;
+        held = held;
+        tally = h .tally;
+      }
 
   -- Where the walk goes on, it does so from the landing.
-  pub here-next : {releases′ ready′ left′ worst′ : List ℕ} {y : Landed} → Landing t (x .time) end releases′ ready′ left′ worst′ y → y .over ≡ false → Here t period cost deadline releases′ ready′ left′ worst′ last end y
-  here-next z e = record { ranged = h .ranged; light = h .light; columns = h .columns; limit = h .limit; before = z .upto; clear = z .clear; tally = z .tally; held = z .goes e .1 }
+  pub here-next : {releases′ ready′ left′ worst′ : List ℕ} {y : Landed} → Landing t (x .time) end releases′ ready′ left′ worst′ y → y .over ≡ false
+      → Here t period cost deadline releases′ ready′ left′ worst′ last end y
+  here-next z e =
+      record {
+        ranged = h .ranged;
+        light = h .light;
+        columns = h .columns;
+        limit = h .limit;
+        before = z .upto;
+        clear = z .clear;
+        tally = z .tally;
+        held = z .goes e .1;
+      }
 
 module _ (t : Table) (r : Ranged t) where
   wait-first : (i : ℕ) → i < t .count → waitOf (walked t 0) i ≡ offset (task t i)
@@ -93,8 +117,10 @@ module _ (t : Table) (r : Ranged t) where
   unfolding stateAtBy
   left-first i = left-start t i
 
-  pub leaping-start : load t ≤ round t → {period cost deadline releases : List ℕ} {last end : ℕ} → Columned t last period cost deadline → end ≤ horizonLimit → Queue (Coming t 0 (λ i. offset (task t i))) releases (t .count)
-      → {x : Landed} → x ≡ goingAt 0 0 0 → Here t period cost deadline releases (replicate taskLimit 0) (replicate taskLimit 0) (replicate taskLimit 0) last end x
+  pub leaping-start : load t ≤ round t → {period cost deadline releases : List ℕ} {last end : ℕ} → Columned t last period cost deadline
+      → end ≤ horizonLimit → Queue (Coming t 0 (λ i. offset (task t i))) releases (t .count)
+      → {x : Landed} → x ≡ goingAt 0 0 0 → Here t period cost deadline releases (replicate taskLimit 0) (replicate taskLimit 0)
+      (replicate taskLimit 0) last end x
   leaping-start light c limit q e = rw e (record {
     ranged = r;
     light = light;
@@ -104,7 +130,9 @@ module _ (t : Table) (r : Ranged t) where
     clear = λ u l. absurd (omega arith);
     tally = tally-start t;
     held = record {
-      coming = alike q (λ x (i, l, e). (i, l, e ∙ ap (λ (w : ℕ). entry t (0 + w) i) (sym (wait-first i l)))) (λ x (i, l, e). (i, l, e ∙ ap (λ (w : ℕ). entry t (0 + w) i) (wait-first i l)));
+      coming =
+          alike q (λ x (i, l, e). (i, l, e ∙ ap (λ (w : ℕ). entry t (0 + w) i) (sym (wait-first i l))))
+          (λ x (i, l, e). (i, l, e ∙ ap (λ (w : ℕ). entry t (0 + w) i) (wait-first i l)));
       waiting = record {
         size = length-replicate {A = ℕ} taskLimit 0;
         falls = λ a b h l. absurd (omega arith);

@@ -31,7 +31,8 @@ pub inserted-none : (q : List ℕ) (j x : ℕ) → j ≤ 0 → set q j x ≡ ins
 unfolding inserted
 inserted-none q j x h = let e : j ≡ 0 = omega arith in rw e refl
 
-inserted-suc : (q : List ℕ) (m x : ℕ) (b : Bool) → ltb (at q m) x ≡ b → inserted q (suc m) x ≡ elim b [ true ↦ inserted (set q (suc m) (at q m)) m x | false ↦ set q (suc m) x ]
+inserted-suc : (q : List ℕ) (m x : ℕ) (b : Bool) → ltb (at q m) x ≡ b → inserted q
+    (suc m) x ≡ elim b [ true ↦ inserted (set q (suc m) (at q m)) m x | false ↦ set q (suc m) x ]
 unfolding inserted
 inserted-suc q m x b e = rw (e, inserted)
 
@@ -40,10 +41,13 @@ module _ (q : List ℕ) (j x : ℕ) (pos : 0 < j) where
   whole = omega arith
 
   pub inserted-here : x ≤ at q (j - 1) → set q j x ≡ inserted q j x
-  inserted-here h = ap (λ (k : ℕ). set q k x) whole ∙ sym (inserted-suc q (j - 1) x false (le-ltb (at q (j - 1)) x h)) ∙ ap (λ (k : ℕ). inserted q k x) (sym whole)
+  inserted-here h =
+      ap (λ (k : ℕ). set q k x) whole ∙ sym (inserted-suc q (j - 1) x false (le-ltb (at q (j - 1)) x h)) ∙ ap (λ (k : ℕ). inserted q k x) (sym whole)
 
   pub inserted-below : at q (j - 1) < x → inserted (set q j (at q (j - 1))) (j - 1) x ≡ inserted q j x
-  inserted-below h = ap (λ (k : ℕ). inserted (set q k (at q (j - 1))) (j - 1) x) whole ∙ sym (inserted-suc q (j - 1) x true (lt-ltb (at q (j - 1)) x h)) ∙ ap (λ (k : ℕ). inserted q k x) (sym whole)
+  inserted-below h =
+      ap (λ (k : ℕ). inserted (set q k (at q (j - 1))) (j - 1) x) whole ∙ sym (inserted-suc q (j - 1) x true (lt-ltb (at q (j - 1)) x h))
+      ∙ ap (λ (k : ℕ). inserted q k x) (sym whole)
 
 -- Where x went, and where the others are.
 record Inserted (q : List ℕ) (m x : ℕ) (s : List ℕ) : Type 0 where
@@ -72,7 +76,8 @@ is-inserted zero q x l = record {
 }
 is-inserted (suc m) q x l = go (ltb (at q m) x) refl (is-inserted m (set q (suc m) (at q m)) x (omega (arith, length-set q (suc m) (at q m))))
   where
-    go : (b : Bool) → ltb (at q m) x ≡ b → Inserted (set q (suc m) (at q m)) m x (inserted (set q (suc m) (at q m)) m x) → Inserted q (suc m) x (elim b [ true ↦ inserted (set q (suc m) (at q m)) m x | false ↦ set q (suc m) x ])
+    go : (b : Bool) → ltb (at q m) x ≡ b → Inserted (set q (suc m) (at q m)) m x (inserted (set q (suc m) (at q m)) m x)
+        → Inserted q (suc m) x (elim b [ true ↦ inserted (set q (suc m) (at q m)) m x | false ↦ set q (suc m) x ])
     go false e i = record {
       size = length-set q (suc m) x;
       place = suc m;
@@ -109,14 +114,21 @@ module _ {P : ℕ → Type 0} {q : List ℕ} {m : ℕ} where
 
   -- The last entry is the least; without it, the larger ones are left.
   pub last-least : Queue P q m → 0 < m → (x : ℕ) → P x → at q (m - 1) ≤ x
-  last-least w pos x p = let (a, l, e) = w .found x p in elim (decLt a (m - 1)) [ yes h ↦ omega (arith, w .falls a (m - 1) h (omega arith)) | no h ↦ omega (arith, ap (at q) (let f : a ≡ m - 1 = omega arith in f)) ]
+  last-least w pos x p =
+      let (a, l, e) = w .found x p in
+      elim (decLt a (m - 1)) [
+        | yes h ↦ omega (arith, w .falls a (m - 1) h (omega arith))
+        | no h ↦ omega (arith, ap (at q) (let f : a ≡ m - 1 = omega arith in f))
+      ]
 
   pub but-last : Queue P q m → 0 < m → Queue (λ x. P x × (at q (m - 1) < x)) q (m - 1)
   but-last w pos = record {
     size = w .size;
     falls = λ a b h l. w .falls a b h (omega arith);
     sound = λ a l. (w .sound a (omega arith), w .falls a (m - 1) l (omega arith));
-    found = λ x (p, h). let (a, l, e) = w .found x p in (a, elim (decLt a (m - 1)) [ yes k ↦ k | no k ↦ absurd (omega (arith, ap (at q) (let f : a ≡ m - 1 = omega arith in f))) ], e);
+    found =
+        λ x (p, h). let (a, l, e) = w .found x p in
+        (a, elim (decLt a (m - 1)) [ yes k ↦ k | no k ↦ absurd (omega (arith, ap (at q) (let f : a ≡ m - 1 = omega arith in f))) ], e);
   }
 
   -- A number more.
@@ -133,10 +145,16 @@ module _ {P : ℕ → Type 0} {q : List ℕ} {m : ℕ} where
         where
           -- An entry before the place is larger than x; one behind it was there one earlier.
           larger : (a : ℕ) → a < i .place → x < at q a
-          larger a l = elim (ℕ-discrete (suc a) (i .place)) [ yes e ↦ over a e | no e ↦ omega (arith, w .falls a (i .place - 1) (omega arith) (omega (arith, i .upto)), over (i .place - 1) (omega arith)) ]
+          larger a l =
+              elim (ℕ-discrete (suc a) (i .place)) [
+                | yes e ↦ over a e
+                | no e ↦ omega
+                    (arith, w .falls a (i .place - 1) (omega arith) (omega (arith, i .upto)), over (i .place - 1) (omega arith))
+              ]
             where
               over : (b : ℕ) → suc b ≡ i .place → x < at q b
-              over b e = elim (ℕ-discrete (at q b) x) [ yes f ↦ absurd (fresh (subst P f (w .sound b (omega (arith, i .upto))))) | no f ↦ omega (arith, i .above b e) ]
+              over b e =
+                  elim (ℕ-discrete (at q b) x) [ yes f ↦ absurd (fresh (subst P f (w .sound b (omega (arith, i .upto))))) | no f ↦ omega (arith, i .above b e) ]
 
           moved : (a : ℕ) → i .place < a → a < suc m → at s a ≡ at q (a - 1)
           moved a h l = let e : a ≡ suc (a - 1) = omega arith in ap (at s) e ∙ i .behind (a - 1) (omega arith) (omega arith)
@@ -157,9 +175,15 @@ module _ {P : ℕ → Type 0} {q : List ℕ} {m : ℕ} where
           sound : (a : ℕ) → a < suc m → (at s a ≡ x) ⊎ P (at s a)
           sound a l = elim (decLt a (i .place)) [
             | yes f ↦ inr (rw (i .before a f) (w .sound a (omega (arith, i .upto))))
-            | no f ↦ elim (ℕ-discrete a (i .place)) [ yes g ↦ inl (ap (at s) g ∙ i .here) | no g ↦ inr (rw (moved a (omega arith) l) (w .sound (a - 1) (omega arith))) ]
+            | no f ↦
+                elim (ℕ-discrete a (i .place)) [
+                  | yes g ↦ inl (ap (at s) g ∙ i .here)
+                  | no g ↦ inr (rw (moved a (omega arith) l) (w .sound (a - 1) (omega arith)))
+                ]
           ]
 
           found : (y : ℕ) → (y ≡ x) ⊎ P y → (a : ℕ) × (a < suc m) × (at s a ≡ y)
           found y (inl e) = (i .place, omega (arith, i .upto), i .here ∙ sym e)
-          found y (inr p) = let (a, l, e) = w .found y p in elim (decLt a (i .place)) [ yes f ↦ (a, le-step l, i .before a f ∙ e) | no f ↦ (suc a, omega arith, i .behind a (omega arith) l ∙ e) ]
+          found y (inr p) =
+              let (a, l, e) = w .found y p in
+              elim (decLt a (i .place)) [ yes f ↦ (a, le-step l, i .before a f ∙ e) | no f ↦ (suc a, omega arith, i .behind a (omega arith) l ∙ e) ]

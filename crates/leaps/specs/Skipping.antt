@@ -40,21 +40,30 @@ Stops again x stopped = (stopped ≡ false → x .over ≡ false) × (stopped �
 
 -- A walk that is over, or was asked for an idle instant, stays where it stopped; any other is taken to its end.
 abbrev pub Skips : ℕ → Bool → Landed → Landed → Type 0
-Skips end idling x y = ((x .over ≡ true) × (y ≡ x)) ⊎ ((x .over ≡ false) × (((idling ≡ true) × (y ≡ x)) ⊎ ((idling ≡ false) × (y ≡ overAt end 0 (x .idle) false))))
+Skips end idling x y =
+    ((x .over ≡ true) × (y ≡ x)) ⊎ ((x .over ≡ false) × (((idling ≡ true) × (y ≡ x)) ⊎ ((idling ≡ false) × (y ≡ overAt end 0 (x .idle) false))))
 
-module _ (t : Table) (r : Ranged t) (light : load t ≤ round t) {n end : ℕ} {releases ready left worst : List ℕ} {x : Landed} (z : Landing t n end releases ready left worst x) where
+module _ (t : Table) (r : Ranged t) (light : load t ≤ round t) {n end : ℕ} {releases ready left worst : List ℕ} {x : Landed}
+    (z : Landing t n end releases ready left worst x) where
   abbrev first : ℕ
   first = firstIdle t (tieOrder t)
 
   module _ (on : x .over ≡ false) (none : x .jobs ≡ 0) where
     shut : (i : ℕ) → i < t .count → leftOf (walked t (x .time)) i ≡ 0
-    shut i l = elim (decLt 0 (leftOf (walked t (x .time)) i)) [ yes p ↦ (let (a, m, e) = z .goes on .1 .waiting .found _ (i, l, p, refl) in absurd (omega arith)) | no p ↦ omega arith ]
+    shut i l =
+        elim (decLt 0 (leftOf (walked t (x .time)) i)) [
+          | yes p ↦
+              (let (a, m, e) = z .goes on .1 .waiting .found _ (i, l, p, refl) in absurd (omega arith))
+          | no p ↦ omega arith
+        ]
 
     -- So the instant is idle, and one has been found.
     idle-found : 0 < x .idle
     idle-found =
-        let idle = subst T (walk-idle-at t r (x .time) (z .clear)) (every-iff (λ i. eqb (leftOf (walked t (x .time)) i) 0) (t .count) .1 (λ i l. eq→eqb (leftOf (walked t (x .time)) i) 0 (shut i l))) in
-        let soon : first ≤ x .time = least-le (λ (v : ℕ). (0 < v) × T (idleAt t (tieOrder t) v)) first (x .time) (first-idle t r (tieOrder t) light .0) (omega (arith, z .goes on .0), idle) in
+        let idle = subst T (walk-idle-at t r (x .time) (z .clear))
+        (every-iff (λ i. eqb (leftOf (walked t (x .time)) i) 0) (t .count) .1 (λ i l. eq→eqb (leftOf (walked t (x .time)) i) 0 (shut i l))) in
+        let soon : first ≤ x .time = least-le (λ (v : ℕ). (0 < v) × T (idleAt t (tieOrder t) v)) first (x .time)
+        (first-idle t r (tieOrder t) light .0) (omega (arith, z .goes on .0), idle) in
         omega (arith, z .tally .idles, idle-is t (x .time) soon, first-idle t r (tieOrder t) light .0 .0 .0)
 
     module _ {again : ℕ} (rounded : Rounded t again) (past : again ≤ x .time) where
@@ -97,7 +106,13 @@ module _ (t : Table) (r : Ranged t) (light : load t ≤ round t) {n end : ℕ} {
     skip-ended : x .over ≡ false → x .jobs ≡ 0 → again ≤ x .time → idling ≡ false → Ended t end idling (overAt end 0 (x .idle) false) worst
     skip-ended on none past asked =
         let never = clear on none (rounded asked) past in
-        record { upto = le-refl end; clear = never end; tally = tally on none (rounded asked) past; late = λ g. absurd (subst T (sym g) tt); ends = λ g. inl (refl, never (suc end)) }
+        record {
+          upto = le-refl end;
+          clear = never end;
+          tally = tally on none (rounded asked) past;
+          late = λ g. absurd (subst T (sym g) tt);
+          ends = λ g. inl (refl, never (suc end));
+        }
 
     pub skipped : (x .over ≡ true) ⊎ ((x .jobs ≡ 0) × (again ≤ x .time)) → {y : Landed} → Skips end idling x y → Ended t end idling y worst
     skipped stopped (inl (over, e)) = rw e (over-ended over)

@@ -38,7 +38,8 @@ use Rattle.leaps.specs.Landed.{goingAt, overAt, doneAt, restedAt, nextLa
 use Rattle.leaps.specs.declared.Landed.{Landed}
 
 -- Where no open job is at its deadline at n, n is not late.
-pub calm-clear : (t : Table) → Ranged t → {n : ℕ} → Clear t n → ((i : ℕ) → i < t .count → 0 < leftOf (walked t n) i → slack t i < waitOf (walked t n) i) → Clear t (suc n)
+pub calm-clear : (t : Table) → Ranged t → {n : ℕ} → Clear t n →
+    ((i : ℕ) → i < t .count → 0 < leftOf (walked t n) i → slack t i < waitOf (walked t n) i) → Clear t (suc n)
 calm-clear t r {n} c ahead = below-suc (λ u. T (lateAt t u) → ⊥) n c never
   where
     never : T (lateAt t n) → ⊥
@@ -57,7 +58,8 @@ pub record Landing (t : Table) (n end : ℕ) (releases ready left worst : List �
   pub ends : x .over ≡ true → x .late ≡ false → (x .time ≡ end) × Clear t (suc (x .time))
 
 module _
-    (t : Table) (r : Ranged t) (light : load t ≤ round t) {n end soon : ℕ} {releases ready left worst : List ℕ} {jobs idle : ℕ} (clear : Clear t (suc n)) (h : Held t n (W t r n) (L t r n) releases ready left jobs)
+    (t : Table) (r : Ranged t) (light : load t ≤ round t) {n end soon : ℕ} {releases ready left worst : List ℕ} {jobs idle : ℕ}
+    (clear : Clear t (suc n)) (h : Held t n (W t r n) (L t r n) releases ready left jobs)
     (w : Tally t n worst idle) (soon-is : soon ≡ at releases (t .count - 1) / span) (before : n ≤ end)
   where
     -- The next release is after now, and no release is before it.
@@ -67,7 +69,9 @@ module _
         (at releases (t .count - 1) % places, l, soon-is ∙ ap (λ (x : ℕ). x / span) e ∙ entry-time t r _ _ l, e)
 
     soon-le : (i : ℕ) → i < t .count → soon ≤ n + W t r n i
-    soon-le i l = let (k, m, e, f) = soon-of in omega (arith, entry-le t r _ _ k i m l (rw f at (last-least (h .coming) (r .some) (entry t (n + W t r n i) i) (i, l, refl))))
+    soon-le i l =
+        let (k, m, e, f) = soon-of in
+        omega (arith, entry-le t r _ _ k i m l (rw f at (last-least (h .coming) (r .some) (entry t (n + W t r n i) i) (i, l, refl))))
 
     wait-pos : (i : ℕ) → i < t .count → 0 < W t r n i
     wait-pos i l = elim (ℕ-discrete (waitOf (walked t n) i) 0) [
@@ -80,7 +84,8 @@ module _
 
     -- What is noted after a leap.
     noted-at : {e idle′ : ℕ} {worst′ : List ℕ} (x : Leapt t r n e)
-        → worst′ ≡ cond (ltb (owner t r n) (t .count) && eqb (leftOf (walked t e) (owner t r n)) 0) (noted worst (owner t r n) (task t (owner t r n) .period - waitOf (walked t e) (owner t r n))) worst
+        → worst′ ≡ cond (ltb (owner t r n) (t .count) && eqb (leftOf (walked t e) (owner t r n)) 0)
+        (noted worst (owner t r n) (task t (owner t r n) .period - waitOf (walked t e) (owner t r n))) worst
         → idle′ ≡ idleBy t e → Tally t e worst′ idle′
     noted-at x f g = record { worsts = f ∙ rw (w .worsts) (sym (x .worst)); idles = g }
 
@@ -107,7 +112,12 @@ module _
           lt-of x = ltb→lt 0 (L t r n (owner t r n)) x
 
       within-rest : (e : ℕ) → e ≤ soon → Within t r n e
-      within-rest e l = record { waits = λ i m. omega (arith, soon-le i m); slots = λ m. absurd (omega (arith, nobody, r .few)); due = λ m. absurd (omega (arith, nobody, r .few)) }
+      within-rest e l =
+          record {
+            waits = λ i m. omega (arith, soon-le i m);
+            slots = λ m. absurd (omega (arith, nobody, r .few));
+            due = λ m. absurd (omega (arith, nobody, r .few));
+          }
 
       -- The first idle instant is the next one, if none was before.
       module _ (e : ℕ) (a : n < e) (l : e ≤ soon) where
@@ -115,7 +125,9 @@ module _
         rest-leap = leap t r n clear e a (within-rest e l)
 
         rest-tally : Tally t e worst (cond (ltb 0 idle) idle (n + 1))
-        rest-tally = noted-at rest-leap (rw (le-ltb (owner t r n) (t .count) (omega (arith, nobody, r .few)))) (rw (w .idles, add-one) (sym (idle-rest t r light clear e a (within-rest e l) shut nobody)))
+        rest-tally =
+            noted-at rest-leap (rw (le-ltb (owner t r n) (t .count) (omega (arith, nobody, r .few))))
+            (rw (w .idles, add-one) (sym (idle-rest t r light clear e a (within-rest e l) shut nobody)))
 
         rest-held : Held t e (waitOf (walked t e)) (leftOf (walked t e)) releases ready left 0
         rest-held = rw (← none) (rested t r a rest-leap h nobody shut)
@@ -165,9 +177,11 @@ module _
 
       pub owner-is : key % places ≡ o
       owner-is =
-          chosen-same _ _ _ _ (tieOrder t) (t .count) (key % places) o (r .few) (λ i l p. p) (λ i l p. p) (λ i k l m p q x. x) (inr first) (chosen t (tieOrder t) (walked t n) false (r .few))
+          chosen-same _ _ _ _ (tieOrder t) (t .count) (key % places) o (r .few) (λ i l p. p) (λ i l p. p) (λ i k l m p q x. x) (inr first)
+          (chosen t (tieOrder t) (walked t n) false (r .few))
         where
-          ahead : (d e i k : ℕ) → i < t .count → k < t .count → entry t (n + d) i ≤ entry t (n + e) k → Ahead d (standing (tieOrder t) i) e (standing (tieOrder t) k)
+          ahead : (d e i k : ℕ) → i < t .count → k < t .count → entry t (n + d) i ≤ entry t (n + e) k
+              → Ahead d (standing (tieOrder t) i) e (standing (tieOrder t) k)
           ahead d e i k l m x = elim (entry-order t r (n + d) (n + e) i k l m x) [ inl p ↦ inl (omega arith) | inr p ↦ inr (omega (arith, p .0), p .1) ]
 
           first : Somebody (λ k. ltb 0 (L t r n k)) (λ k. W t r n k - slack t k) (tieOrder t) (t .count) (key % places)
@@ -176,7 +190,13 @@ module _
               record {
                 bound = l;
                 opened = lt→ltb 0 (L t r n (key % places)) p;
-                ahead = λ k m q. ahead _ _ (key % places) k l m (omega (arith, e, last-least (h .waiting) busy (entry t (n + (W t r n k - slack t k)) k) (k, m, ltb→lt 0 (L t r n k) q, refl)));
+                ahead =
+                    λ k m q. ahead _ _ (key % places) k l m (omega (
+                      arith,
+                      e,
+                      last-least (h .waiting) busy (entry t (n + (W t r n k - slack t k)) k)
+                          (k, m, ltb→lt 0 (L t r n k) q, refl),
+                    ));
               }
 
       pub bound : o < t .count
@@ -196,7 +216,15 @@ module _
       left-is = ap (at left) owner-is ∙ h .lefts o bound
 
       pub left-small : at left (key % places) ≤ slotLimit
-      left-small = omega (arith, left-is, released-le t (walked t n) false (sound t r (tieOrder t) quiet n .belongs) o bound, r .each o bound .cost-le, r .each o bound .deadline-le, r .each o bound .period-le)
+      left-small =
+          omega (
+            arith,
+            left-is,
+            released-le t (walked t n) false (sound t r (tieOrder t) quiet n .belongs) o bound,
+            r .each o bound .cost-le,
+            r .each o bound .deadline-le,
+            r .each o bound .period-le,
+          )
 
       due-gt : n < n + (W t r n o - slack t o)
       due-gt = omega (arith, h .ahead o bound opened)
@@ -208,7 +236,12 @@ module _
           waits : W t r n o ≤ task t o .period
           waits = elim (ℕ-discrete (waitOf (walked t n) o) 0) [
             | yes e ↦ rw (eq-eqb (waitOf (walked t n) o) 0 e) (le-refl _)
-            | no e ↦ rw (ne-eqb (waitOf (walked t n) o) 0 e) (omega (arith, known t (walked t n) (sound t r (tieOrder t) quiet n .belongs) o bound .open-to (kept-open t (walked t n) false o bound e opened .0)))
+            | no e ↦
+                rw (ne-eqb (waitOf (walked t n) o) 0 e) (omega (
+                  arith,
+                  known t (walked t n) (sound t r (tieOrder t) quiet n .belongs) o bound .open-to
+                      (kept-open t (walked t n) false o bound e opened .0),
+                ))
           ]
 
       within-busy : (e : ℕ) → e ≤ soon → e ≤ n + L t r n o → e ≤ n + (W t r n o - slack t o) → Within t r n e
@@ -218,13 +251,15 @@ module _
       busy-tally : (e : ℕ) → (a : n < e) (b : Within t r n e) → e < n + L t r n o → Tally t e worst idle
       busy-tally e a b s =
           let x = leap t r n clear e a b in
-          noted-at x (rw (lt-ltb o (t .count) bound, ne-eqb (leftOf (walked t e) o) 0 (λ z. absurd (omega (arith, x .rest bound))))) (w .idles ∙ sym (idle-busy t r light clear e a b bound s))
+          noted-at x (rw (lt-ltb o (t .count) bound, ne-eqb (leftOf (walked t e) o) 0 (λ z. absurd (omega (arith, x .rest bound)))))
+          (w .idles ∙ sym (idle-busy t r light clear e a b bound s))
 
       -- Another open job has an entry before the last, and the one before the last is another's.
       more : (k : ℕ) → k < t .count → (o ≡ k → ⊥) → 0 < L t r n k → (key < entry t (n + (W t r n k - slack t k)) k) × (0 < jobs - 1)
       more k m q p =
           let mine = entry t (n + (W t r n k - slack t k)) k in
-          let larger : key < mine = strict key mine (λ e. q (entry-same t r _ _ o k bound m (sym key-is ∙ e) .0)) (last-least (h .waiting) busy mine (k, m, p, refl)) in
+          let larger : key < mine = strict key mine (λ e. q (entry-same t r _ _ o k bound m (sym key-is ∙ e) .0))
+          (last-least (h .waiting) busy mine (k, m, p, refl)) in
           let (a, b, e) = but-last (h .waiting) busy .found mine ((k, m, p, refl), larger) in
           (larger, omega arith)
 
@@ -233,12 +268,24 @@ module _
 
       next-of-ready : 0 < jobs - 1 → (k : ℕ) × (k < t .count) × (0 < L t r n k) × (next ≡ entry t (n + (W t r n k - slack t k)) k) × (o ≡ k → ⊥)
       next-of-ready m =
-          let (k, q, p, e) = h .waiting .sound (jobs - 1 - 1) (omega arith) in
-          (k, q, p, e, λ z. absurd (omega (arith, h .waiting .falls (jobs - 1 - 1) (jobs - 1) (omega arith) (omega arith), key-is, e, ap (λ (j : ℕ). entry t (n + (W t r n j - slack t j)) j) z)))
+          let (k, q, p, e) = h .waiting .sound (jobs - 1 - 1) (omega arith) in (
+            k,
+            q,
+            p,
+            e,
+            λ z. absurd (omega (
+              arith,
+              h .waiting .falls (jobs - 1 - 1) (jobs - 1) (omega arith) (omega arith),
+              key-is,
+              e,
+              ap (λ (j : ℕ). entry t (n + (W t r n j - slack t j)) j) z,
+            )),
+          )
 
       -- So the owner's job is the only open one exactly if the queue has no other entry.
       only-one : ((k : ℕ) → k < t .count → (o ≡ k → ⊥) → 0 < L t r n k → ⊥) → T (eqb (jobs - 1) 0)
-      only-one none = elim (decLt 0 (jobs - 1)) [ yes m ↦ (let (k, q, p, e, z) = next-of-ready m in absurd (none k q z p)) | no m ↦ eq→eqb (jobs - 1) 0 (omega arith) ]
+      only-one none =
+          elim (decLt 0 (jobs - 1)) [ yes m ↦ (let (k, q, p, e, z) = next-of-ready m in absurd (none k q z p)) | no m ↦ eq→eqb (jobs - 1) 0 (omega arith) ]
 
       module _ {i due done : ℕ} (task-as : i ≡ key % places) (due-as : due ≡ key / span) (done-as : done ≡ n + at left i) where
         task-is : i ≡ o
@@ -297,10 +344,16 @@ module _
                   tally = busy-tally end l y (omega (arith, done-at));
                   goes = λ e. absurd (subst T e tt);
                   late = λ g. absurd (subst T (sym g) tt);
-                  ends = λ e g. (refl, calm-clear t r (x .clear) (preempted t r l x h (done - end) bound (omega (arith, done-at)) (omega arith) (omega (arith, due-at)) .ahead));
+                  ends =
+                      λ e g. (
+                        refl,
+                        calm-clear t r (x .clear)
+                            (preempted t r l x h (done - end) bound (omega (arith, done-at)) (omega arith) (omega (arith, due-at)) .ahead),
+                      );
                 }
 
-        pub stops : ((due < done) × (due ≤ soon)) ⊎ ((end < done) × (end ≤ soon) × (end < due)) → Landing t n end releases ready left worst (cond (leb due end) (overAt due jobs idle true) (overAt end jobs idle false))
+        pub stops : ((due < done) × (due ≤ soon)) ⊎ ((end < done) × (end ≤ soon) × (end < due))
+            → Landing t n end releases ready left worst (cond (leb due end) (overAt due jobs idle true) (overAt end jobs idle false))
         stops (inl (a, b)) = elim (decLe due end) [
           | yes c ↦ rw (le-leb due end c) (stop-late a b c)
           | no c ↦ rw (lt-leb due end (omega arith)) (stop-end (omega arith) (omega arith) (omega arith))
@@ -321,16 +374,20 @@ module _
           finish-tally : Tally t done (noted worst i (task t i .deadline - (due - done))) (idleThen idle (eqb (jobs - 1) 0) done)
           finish-tally =
               noted-at x
-              (rw (lt-ltb o (t .count) bound, eq-eqb (leftOf (walked t done) o) 0 (omega (arith, x .rest bound, done-at)), task-is) (ap (noted worst o) response))
-              (rw (w .idles) (sym (idle-done t r light clear done l b′ bound done-at (eqb (jobs - 1) 0) (λ z k m q p. omega (arith, eqb→eq (jobs - 1) 0 z, more k m q p .1)) only-one)))
+              (rw (lt-ltb o (t .count) bound, eq-eqb (leftOf (walked t done) o) 0 (omega (arith, x .rest bound, done-at)), task-is)
+              (ap (noted worst o) response))
+              (rw (w .idles) (sym (idle-done t r light clear done l b′ bound done-at (eqb (jobs - 1) 0)
+              (λ z k m q p. omega (arith, eqb→eq (jobs - 1) 0 z, more k m q p .1)) only-one)))
             where
               response : task t o .deadline - (due - done) ≡ task t o .period - waitOf (walked t done) o
               response = omega (arith, x .wait o bound, due-at, done-at, h .ahead o bound opened, r .each o bound .deadline-le)
 
-          finish-held : ((k : ℕ) → k < t .count → (o ≡ k → ⊥) → 0 < L t r n k → done < n + (W t r n k - slack t k)) → Held t done (waitOf (walked t done)) (leftOf (walked t done)) releases ready (set left i 0) (jobs - 1)
+          finish-held : ((k : ℕ) → k < t .count → (o ≡ k → ⊥) → 0 < L t r n k → done < n + (W t r n k - slack t k))
+              → Held t done (waitOf (walked t done)) (leftOf (walked t done)) releases ready (set left i 0) (jobs - 1)
           finish-held calm = rw task-is (finished t r l x h bound done-at busy key-is calm)
 
-          pub finish-early : done < due → Landing t n end releases ready (set left i 0) (noted worst i (task t i .deadline - (due - done))) (doneAt done (jobs - 1) idle false)
+          pub finish-early : done < due → Landing t n end releases ready (set left i 0) (noted worst i (task t i .deadline - (due - done)))
+              (doneAt done (jobs - 1) idle false)
           finish-early d = record {
             upto = c;
             clear = x .clear;
@@ -350,12 +407,15 @@ module _
             edge-calm : (0 < jobs - 1 → next / span ≡ done → ⊥) → (k : ℕ) → k < t .count → (o ≡ k → ⊥) → 0 < L t r n k → done < n + (W t r n k - slack t k)
             edge-calm never k m q p = go (next-of-ready (more k m q p .1))
               where
-                go : (j : ℕ) × (j < t .count) × (0 < L t r n j) × (next ≡ entry t (n + (W t r n j - slack t j)) j) × (o ≡ j → ⊥) → done < n + (W t r n k - slack t k)
+                go : (j : ℕ) × (j < t .count) × (0 < L t r n j) × (next ≡ entry t (n + (W t r n j - slack t j)) j) × (o ≡ j → ⊥)
+                    → done < n + (W t r n k - slack t k)
                 go (j, b, s, e, z) =
                     let f : next / span ≡ n + (W t r n j - slack t j) = ap (λ (y : ℕ). y / span) e ∙ entry-time t r _ j b in
                     let g : n + (W t r n j - slack t j) ≡ done → ⊥ = λ y. never (more k m q p .1) (f ∙ y) in
-                    let first = last-least (but-last (h .waiting) busy) (more k m q p .1) (entry t (n + (W t r n k - slack t k)) k) ((k, m, p, refl), more k m q p .0) in
-                    later (n + (W t r n j - slack t j)) (n + (W t r n k - slack t k)) (omega (arith, due-at, due-le t r n j b s .1)) g (entry-le t r _ _ j k b m (rw e at first))
+                    let first = last-least (but-last (h .waiting) busy) (more k m q p .1) (entry t (n + (W t r n k - slack t k)) k)
+                    ((k, m, p, refl), more k m q p .0) in
+                    later (n + (W t r n j - slack t j)) (n + (W t r n k - slack t k)) (omega (arith, due-at, due-le t r n j b s .1)) g
+                    (entry-le t r _ _ j k b m (rw e at first))
                   where
                     later : (y z : ℕ) → done ≤ y → (y ≡ done → ⊥) → y ≤ z → done < z
                     later y z a b c = omega arith
@@ -366,12 +426,20 @@ module _
               upto = c;
               clear = x .clear;
               tally = finish-tally;
-              goes = λ f. (l, finish-held (edge-calm (λ m g. subst T (sym e ∙ f) (and-iff (ltb 0 (jobs - 1)) _ .1 (lt→ltb 0 (jobs - 1) m, eq→eqb (next / span) done g)))));
-              late = λ f. let y = and-iff (ltb 0 (jobs - 1)) (eqb (next / span) done) .0 (subst T (sym f ∙ e) tt) in edge-late (ltb→lt 0 (jobs - 1) (y .0)) (eqb→eq (next / span) done (y .1));
+              goes =
+                  λ f. (
+                    l,
+                    finish-held (edge-calm (λ m g. subst T (sym e ∙ f) (and-iff (ltb 0 (jobs - 1)) _ .1
+                        (lt→ltb 0 (jobs - 1) m, eq→eqb (next / span) done g)))),
+                  );
+              late =
+                  λ f. let y = and-iff (ltb 0 (jobs - 1)) (eqb (next / span) done) .0 (subst T (sym f ∙ e) tt) in edge-late
+                  (ltb→lt 0 (jobs - 1) (y .0)) (eqb→eq (next / span) done (y .1));
               ends = λ f g. absurd (subst T (sym f ∙ g) tt);
             }
 
-          pub finishes : Landing t n end releases ready (set left i 0) (noted worst i (task t i .deadline - (due - done))) (doneAt done (jobs - 1) idle (nextLate ready (jobs - 1) due done))
+          pub finishes : Landing t n end releases ready (set left i 0) (noted worst i (task t i .deadline - (due - done)))
+              (doneAt done (jobs - 1) idle (nextLate ready (jobs - 1) due done))
           finishes = elim (decLt done due) [
             | yes d ↦ rw (lt-ltb done due d) (finish-early d)
             | no d ↦ rw (le-ltb done due (omega arith)) (finish-edge (omega arith) _ refl)

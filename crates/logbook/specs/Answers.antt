@@ -30,13 +30,27 @@ module _ (t : Table) (few : t .count ≤ taskLimit) (done : ℕ → Bool) where
   -- The judge reads a slot that is the dispatcher's.
   read-slot : (n p : ℕ) → p + length (slotRecord (ownerAt t done n)) ≤ logLimit
       → readAll t (logAt t few done n false p Finding.Nothing) (slotRecord (ownerAt t done n))
-      ≡ record { state = stateAt t done (suc n); opened = false; done = false; slots = n + 1; bytes = p + length (slotRecord (ownerAt t done n)); found = Finding.Nothing }
+      ≡ record {
+        state = stateAt t done (suc n);
+        opened = false;
+        done = false;
+        slots = n + 1;
+        bytes = p + length (slotRecord (ownerAt t done n));
+        found = Finding.Nothing;
+      }
   unfolding readAll readByte stateAtBy
   read-slot n p = go (owner-one t (tieOrder t) (stateAt t done n) (done n) few)
     where
       go : (ownerAt t done n ≡ taskLimit) ⊎ (ownerAt t done n < t .count) → p + length (slotRecord (ownerAt t done n)) ≤ logLimit
           → readAll t (logAt t few done n false p Finding.Nothing) (slotRecord (ownerAt t done n))
-          ≡ record { state = stateAt t done (suc n); opened = false; done = false; slots = n + 1; bytes = p + length (slotRecord (ownerAt t done n)); found = Finding.Nothing }
+          ≡ record {
+            state = stateAt t done (suc n);
+            opened = false;
+            done = false;
+            slots = n + 1;
+            bytes = p + length (slotRecord (ownerAt t done n));
+            found = Finding.Nothing;
+          }
       go (inl e) h =
           let whole : p + 1 ≤ logLimit = rw (eq-eqb (ownerAt t done n) taskLimit e) at h in
           rw (eq-eqb (ownerAt t done n) taskLimit e, ne-eqb p logLimit (λ x. absurd (omega arith)), eq-eqb (ownerAt t done n) taskLimit e)
@@ -44,23 +58,33 @@ module _ (t : Table) (few : t .count ≤ taskLimit) (done : ℕ → Bool) where
           let none : eqb (ownerAt t done n) taskLimit ≡ false = ne-eqb (ownerAt t done n) taskLimit (λ x. absurd (omega arith)) in
           let whole : p + 2 ≤ logLimit = rw none at h in
           let two : p + 1 + 1 ≡ p + 2 = omega arith in
-          rw (none, ne-eqb p logLimit (λ x. absurd (omega arith)), ne-eqb (p + 1) logLimit (λ x. absurd (omega arith)), lt-ltb (ownerAt t done n) (t .count) l, eq-eqb (ownerAt t done n) (ownerAt t done n) refl, two)
+          rw (
+            none,
+            ne-eqb p logLimit (λ x. absurd (omega arith)),
+            ne-eqb (p + 1) logLimit (λ x. absurd (omega arith)),
+            lt-ltb (ownerAt t done n) (t .count) l,
+            eq-eqb (ownerAt t done n) (ownerAt t done n) refl,
+            two,
+          )
 
   -- And the done report about it.
   read-report : (n p : ℕ) → p + length (doneRecord (done (suc n))) ≤ logLimit
-      → readAll t (record { state = stateAt t done (suc n); opened = false; done = false; slots = n + 1; bytes = p; found = Finding.Nothing }) (doneRecord (done (suc n)))
+      → readAll t (record { state = stateAt t done (suc n); opened = false; done = false; slots = n + 1; bytes = p; found = Finding.Nothing })
+      (doneRecord (done (suc n)))
       ≡ logAt t few done (suc n) false (p + length (doneRecord (done (suc n)))) Finding.Nothing
   unfolding readAll readByte
   read-report n p = go (done (suc n)) refl
     where
       go : (b : Bool) → done (suc n) ≡ b → p + length (doneRecord b) ≤ logLimit
-          → readAll t (record { state = stateAt t done (suc n); opened = false; done = false; slots = n + 1; bytes = p; found = Finding.Nothing }) (doneRecord b)
+          → readAll t (record { state = stateAt t done (suc n); opened = false; done = false; slots = n + 1; bytes = p; found = Finding.Nothing })
+          (doneRecord b)
           ≡ record { state = stateAt t done (suc n); opened = false; done = b; slots = suc n; bytes = p + length (doneRecord b); found = Finding.Nothing }
       go true e h = rw (ne-eqb p logLimit (λ x. absurd (omega arith)), ne-eqb (n + 1) 0 (λ x. absurd (omega arith)), add-one n)
       go false e h = let same : p + 0 ≡ p = omega arith in rw (same, add-one n)
 
   -- What a camera has written of n slots is read as these n slots.
-  pub read-camera : done 0 ≡ false → (n : ℕ) → length (logOf t done n) ≤ logLimit → readAll t (unread (startOf t)) (logOf t done n) ≡ logAt t few done n false (length (logOf t done n)) Finding.Nothing
+  pub read-camera : done 0 ≡ false → (n : ℕ) → length (logOf t done n) ≤ logLimit
+      → readAll t (unread (startOf t)) (logOf t done n) ≡ logAt t few done n false (length (logOf t done n)) Finding.Nothing
   unfolding logOf stateAtBy readAll
   read-camera none zero h = rw none
   read-camera none (suc n) h =
@@ -69,7 +93,8 @@ module _ (t : Table) (few : t .count ≤ taskLimit) (done : ℕ → Bool) where
       let report = doneRecord (done (suc n)) in
       let sizes : length (first ++ slot ++ report) ≡ length first + length slot + length report = simp length-append in
       read-joined t (unread (startOf t)) (first ++ slot) report
-      ∙ ap (λ (l : Log). readAll t l report) (read-joined t (unread (startOf t)) first slot ∙ ap (λ (l : Log). readAll t l slot) (read-camera none n (omega (arith, sizes))) ∙ read-slot n (length first) (omega (arith, sizes)))
+      ∙ ap (λ (l : Log). readAll t l report) (read-joined t (unread (startOf t)) first slot
+      ∙ ap (λ (l : Log). readAll t l slot) (read-camera none n (omega (arith, sizes))) ∙ read-slot n (length first) (omega (arith, sizes)))
       ∙ read-report n (length first + length slot) (omega (arith, sizes))
       ∙ rw sizes
 
@@ -104,7 +129,8 @@ module _ (t : Table) (few : t .count ≤ taskLimit) (done : ℕ → Bool) (n p :
   abbrev ended : Log
   ended = logAt t few done n false (p + 1) Finding.Good
 
-  says-long : (l : Log) (k : ℕ) (rest : List ℕ) → (l .found ≡ Finding.Nothing) ⊎ (l .found ≡ Finding.Good) → l .bytes ≡ logLimit → says t l (k ∷ rest) ≡ Finding.Fault 44 logLimit
+  says-long : (l : Log) (k : ℕ) (rest : List ℕ) → (l .found ≡ Finding.Nothing) ⊎ (l .found ≡ Finding.Good) → l .bytes ≡ logLimit
+      → says t l (k ∷ rest) ≡ Finding.Fault 44 logLimit
   unfolding readByte
   says-long l k rest x e = stop t l k rest (Finding.Fault 44 logLimit) (go x) tt
     where
@@ -126,15 +152,30 @@ module _ (t : Table) (few : t .count ≤ taskLimit) (done : ℕ → Bool) (n p :
 
     says-empty : (rest : List ℕ) → (17 ∷ [] ≡ slotRecord (ownerAt t done n) → ⊥) → says t here (17 ∷ rest) ≡ Finding.Differs n
     unfolding readByte
-    says-empty rest apart = stop t here 17 rest (Finding.Differs n) (rw (within, ne-eqb (ownerAt t done n) taskLimit (λ e. apart (rw (eq-eqb (ownerAt t done n) taskLimit e))))) tt
+    says-empty rest apart =
+        stop t here 17 rest (Finding.Differs n) (rw (within, ne-eqb (ownerAt t done n) taskLimit (λ e. apart (rw (eq-eqb (ownerAt t done n) taskLimit e))))) tt
 
     says-unknown : (k : ℕ) (rest : List ℕ) → (k < 16) ⊎ (19 < k) → says t here (k ∷ rest) ≡ Finding.Fault 40 p
     unfolding readByte
     says-unknown k rest x = stop t here k rest (Finding.Fault 40 p) (go x) tt
       where
         go : (k < 16) ⊎ (19 < k) → readBy t here k Finding.Nothing .found ≡ Finding.Fault 40 p
-        go (inl l) = rw (within, ne-eqb k 16 (λ e. absurd (omega arith)), ne-eqb k 17 (λ e. absurd (omega arith)), ne-eqb k 18 (λ e. absurd (omega arith)), ne-eqb k 19 (λ e. absurd (omega arith)))
-        go (inr l) = rw (within, ne-eqb k 16 (λ e. absurd (omega arith)), ne-eqb k 17 (λ e. absurd (omega arith)), ne-eqb k 18 (λ e. absurd (omega arith)), ne-eqb k 19 (λ e. absurd (omega arith)))
+        go (inl l) =
+            rw (
+              within,
+              ne-eqb k 16 (λ e. absurd (omega arith)),
+              ne-eqb k 17 (λ e. absurd (omega arith)),
+              ne-eqb k 18 (λ e. absurd (omega arith)),
+              ne-eqb k 19 (λ e. absurd (omega arith)),
+            )
+        go (inr l) =
+            rw (
+              within,
+              ne-eqb k 16 (λ e. absurd (omega arith)),
+              ne-eqb k 17 (λ e. absurd (omega arith)),
+              ne-eqb k 18 (λ e. absurd (omega arith)),
+              ne-eqb k 19 (λ e. absurd (omega arith)),
+            )
 
     says-unheard : (rest : List ℕ) → (n ≡ 0) ⊎ (done n ≡ true) → says t here (18 ∷ rest) ≡ Finding.Fault 41 p
     unfolding readByte
@@ -156,7 +197,11 @@ module _ (t : Table) (few : t .count ≤ taskLimit) (done : ℕ → Bool) (n p :
       unfolding readByte
       says-task k rest apart =
           go-on t here inside 16 (k ∷ rest) (Finding.Differs n) byte-16
-          (stop t inside k rest (Finding.Differs n) (rw (still, is-false (ltb k (t .count) && eqb k (ownerAt t done n)) (λ x. apart (task-same t few done n k x)))) tt)
+          (stop t inside k rest (Finding.Differs n) (rw (
+            still,
+            is-false (ltb k (t .count) && eqb k (ownerAt t done n))
+                (λ x. apart (task-same t few done n k x)),
+          )) tt)
 
       says-behind : (k : ℕ) (rest : List ℕ) → says t here (19 ∷ k ∷ rest) ≡ Finding.Fault 42 (p + 1)
       unfolding readByte
@@ -178,12 +223,15 @@ module _ (t : Table) (few : t .count ≤ taskLimit) (log : List ℕ) where
     behind-slots : {f : Finding} → size ≤ logLimit → says t (here t few (b .done) n size) more ≡ f → answer ≡ f
     behind-slots h e =
         ap (says t (unread (startOf t))) (b .bytes)
-        ∙ ap (λ (l : Log). atEnd (l .bytes) (l .found)) (read-joined t (unread (startOf t)) (logOf t (b .done) n) more ∙ ap (λ (l : Log). readAll t l more) (read-camera t few (b .done) (b .none) n h))
+        ∙ ap (λ (l : Log). atEnd (l .bytes) (l .found))
+        (read-joined t (unread (startOf t)) (logOf t (b .done) n) more ∙ ap (λ (l : Log). readAll t l more) (read-camera t few (b .done) (b .none) n h))
         ∙ e
 
   found-only : {f : Finding} → Found t log f → answer ≡ f
   unfolding readAll
-  found-only (good {n} b h) = behind-slots b (omega (arith, sizes b)) (go-on t _ (ended t few (b .done) n (size b)) 19 [] Finding.Good (byte-19 t few (b .done) n (size b) (omega (arith, sizes b))) refl)
+  found-only (good {n} b h) =
+      behind-slots b (omega (arith, sizes b)) (go-on t _ (ended t few (b .done) n (size b)) 19 [] Finding.Good (byte-19 t few (b .done) n (size b)
+      (omega (arith, sizes b))) refl)
   found-only (differs {n} slot rest b is apart h) = go is
     where
       go : IsSlot slot → answer ≡ Finding.Differs n
@@ -204,27 +252,38 @@ module _ (t : Table) (few : t .count ≤ taskLimit) (log : List ℕ) where
           rw all (behind-slots b (omega arith) (rw e refl))
       go (inr e) =
           let all : length log ≡ size b + 1 = rw e at (sizes b) in
-          rw all (behind-slots b (omega arith) (rw e (go-on t (here t few (b .done) n (size b)) (inside t few (b .done) n (size b)) 16 [] (Finding.Fault 43 (size b + 1)) (byte-16 t few (b .done) n (size b) (omega arith)) refl)))
+          rw all (behind-slots b (omega arith)
+          (rw e (go-on t (here t few (b .done) n (size b)) (inside t few (b .done) n (size b)) 16 [] (Finding.Fault 43 (size b + 1))
+          (byte-16 t few (b .done) n (size b) (omega arith)) refl)))
   found-only (long {n} part k rest b x h) = go x
     where
       start : Log
       start = here t few (b .done) n (size b)
 
       go : IsPart part → answer ≡ Finding.Fault 44 logLimit
-      go (inl e) = let full : size b + 0 ≡ logLimit = rw e at h in behind-slots b (omega arith) (rw e (says-long t few (b .done) n (size b) start k rest (inl refl) (omega arith)))
+      go (inl e) =
+          let full : size b + 0 ≡ logLimit = rw e at h in
+          behind-slots b (omega arith) (rw e (says-long t few (b .done) n (size b) start k rest (inl refl) (omega arith)))
       go (inr (inl e)) =
           let full : size b + 1 ≡ logLimit = rw e at h in
-          behind-slots b (omega arith) (rw e (go-on t start (inside t few (b .done) n (size b)) 16 (k ∷ rest) (Finding.Fault 44 logLimit) (byte-16 t few (b .done) n (size b) (omega arith)) (says-long t few (b .done) n (size b) (inside t few (b .done) n (size b)) k rest (inl refl) full)))
+          behind-slots b (omega arith)
+          (rw e (go-on t start (inside t few (b .done) n (size b)) 16 (k ∷ rest) (Finding.Fault 44 logLimit)
+          (byte-16 t few (b .done) n (size b) (omega arith))
+          (says-long t few (b .done) n (size b) (inside t few (b .done) n (size b)) k rest (inl refl) full)))
       go (inr (inr e)) =
           let full : size b + 1 ≡ logLimit = rw e at h in
-          behind-slots b (omega arith) (rw e (go-on t start (ended t few (b .done) n (size b)) 19 (k ∷ rest) (Finding.Fault 44 logLimit) (byte-19 t few (b .done) n (size b) (omega arith)) (says-long t few (b .done) n (size b) (ended t few (b .done) n (size b)) k rest (inr refl) full)))
+          behind-slots b (omega arith)
+          (rw e (go-on t start (ended t few (b .done) n (size b)) 19 (k ∷ rest) (Finding.Fault 44 logLimit)
+          (byte-19 t few (b .done) n (size b) (omega arith))
+          (says-long t few (b .done) n (size b) (ended t few (b .done) n (size b)) k rest (inr refl) full)))
 
   -- EXACTLY: this is the answer if it is what the log means.
   found-iff : (f : Finding) → (answer ≡ f) ↔ Found t log f
   found-iff f = (λ e. subst (Found t log) e (end-means t few log (readAll t (unread (startOf t)) log) (reads t few log)), found-only)
 
 -- The whole judge, on any pieces of a log and a well-formed table, gives an answer exactly where it is meant.
-pub judged-iff : (t : Table) (m : Measure) → judged t ≡ Judgement.WellFormed m → (pieces : List (List ℕ)) (f : Finding) → (logJudged t pieces .log .found ≡ f) ↔ Found t (flatten pieces) f
+pub judged-iff : (t : Table) (m : Measure) → judged t ≡ Judgement.WellFormed m → (pieces : List (List ℕ)) (f : Finding)
+    → (logJudged t pieces .log .found ≡ f) ↔ Found t (flatten pieces) f
 judged-iff t m well pieces f =
     (λ e. found-iff t few (flatten pieces) f .0 (sym same ∙ e), λ h. same ∙ found-only t few (flatten pieces) h)
   where

@@ -97,7 +97,8 @@ module _ (t : Table) (d : State) (done : Bool) (slots bytes b : ℕ) where
   log opened found = joined d (reading opened found)
 
   slot-by : (full opened none : Bool) → cond full false (opened || none) ≡ true → eqb b 17 ≡ none
-      → slotMet t (log opened Finding.Nothing) b ≡ cond full (log opened (Finding.Fault 44 bytes)) (cond opened (taskRead t (log opened Finding.Nothing) b) (kindRead t (log opened Finding.Nothing) b))
+      → slotMet t (log opened Finding.Nothing) b ≡ cond full (log opened (Finding.Fault 44 bytes))
+      (cond opened (taskRead t (log opened Finding.Nothing) b) (kindRead t (log opened Finding.Nothing) b))
   slot-by true opened none e q = let z : _≡_ {A = ℕ} 0 1 = cc in absurd (omega arith)
   slot-by false true none e q = refl
   slot-by false false true e q = rw (eqb-true b 17 q) refl
@@ -111,8 +112,12 @@ module _ (t : Table) (d : State) (done : Bool) (slots bytes b : ℕ) where
 
   -- The kinds but 17, by the tests.
   kind-by : (a c e wrong : Bool) → let r = reading false Finding.Nothing in
-      joined d (cond a (passedOn r true done Finding.Nothing) (cond c (cond wrong (stoppedAt r (Finding.Fault 41 bytes)) (passedOn r false true Finding.Nothing)) (cond e (passedOn r false done Finding.Good) (stoppedAt r (Finding.Fault 40 bytes)))))
-      ≡ cond a (joined d (passedOn r true done Finding.Nothing)) (cond c (cond wrong (joined d (stoppedAt r (Finding.Fault 41 bytes))) (joined d (passedOn r false true Finding.Nothing))) (cond e (joined d (passedOn r false done Finding.Good)) (joined d (stoppedAt r (Finding.Fault 40 bytes)))))
+      joined d (cond a (passedOn r true done Finding.Nothing)
+      (cond c (cond wrong (stoppedAt r (Finding.Fault 41 bytes)) (passedOn r false true Finding.Nothing))
+      (cond e (passedOn r false done Finding.Good) (stoppedAt r (Finding.Fault 40 bytes)))))
+      ≡ cond a (joined d (passedOn r true done Finding.Nothing))
+      (cond c (cond wrong (joined d (stoppedAt r (Finding.Fault 41 bytes))) (joined d (passedOn r false true Finding.Nothing)))
+      (cond e (joined d (passedOn r false done Finding.Good)) (joined d (stoppedAt r (Finding.Fault 40 bytes)))))
   kind-by true c e wrong = refl
   kind-by false true e true = refl
   kind-by false true e false = refl
@@ -120,38 +125,49 @@ module _ (t : Table) (d : State) (done : Bool) (slots bytes b : ℕ) where
   kind-by false false false wrong = refl
 
   other-by : (full opened none : Bool) → cond full false (opened || none) ≡ false → eqb b 17 ≡ none → let r = reading opened Finding.Nothing in
-      joined d (cond full (stoppedAt r (Finding.Fault 44 bytes)) (cond (eqb b 16) (passedOn r true done Finding.Nothing) (cond (eqb b 18) (doneHeard r) (cond (eqb b 19) (passedOn r false done Finding.Good) (stoppedAt r (Finding.Fault 40 bytes))))))
+      joined d (cond full (stoppedAt r (Finding.Fault 44 bytes))
+      (cond (eqb b 16) (passedOn r true done Finding.Nothing)
+      (cond (eqb b 18) (doneHeard r) (cond (eqb b 19) (passedOn r false done Finding.Good) (stoppedAt r (Finding.Fault 40 bytes))))))
       ≡ cond full (joined d (stoppedAt r (Finding.Fault 44 bytes))) (cond opened (taskRead t (joined d r) b) (kindRead t (joined d r) b))
   other-by true opened none e q = refl
   other-by false true none e q = let z : _≡_ {A = ℕ} 0 1 = cc in absurd (omega arith)
   other-by false false true e q = let z : _≡_ {A = ℕ} 0 1 = cc in absurd (omega arith)
   other-by false false false e q = rw q (kind-by (eqb b 16) (eqb b 18) (eqb b 19) (eqb slots 0 || done))
 
-  behind-by : (full opened : Bool) → log opened (Finding.Fault (cond full 44 42) bytes) ≡ cond full (log opened (Finding.Fault 44 bytes)) (log opened (Finding.Fault 42 bytes))
+  behind-by : (full opened : Bool) → log opened (Finding.Fault (cond full 44 42) bytes)
+      ≡ cond full (log opened (Finding.Fault 44 bytes)) (log opened (Finding.Fault 42 bytes))
   behind-by true opened = refl
   behind-by false opened = refl
 
-  other-is : (opened : Bool) (found : Finding) → endsSlot found bytes opened b ≡ false → joined d (otherRead (reading opened found) b found) ≡ readBy t (log opened found) b found
+  other-is : (opened : Bool) (found : Finding) → endsSlot found bytes opened b ≡ false
+      → joined d (otherRead (reading opened found) b found) ≡ readBy t (log opened found) b found
   other-is opened Finding.Nothing e = other-by (eqb bytes logLimit) opened (eqb b 17) e refl
   other-is opened Finding.Good e = behind-by (eqb bytes logLimit) opened
   other-is opened (Finding.Differs slot) e = refl
   other-is opened (Finding.Fault n p) e = refl
 
-pub slot-byte : (t : Table) (d : State) (r : Reading) (b : ℕ) → endsSlot (r .found) (r .bytes) (r .opened) b ≡ true → slotMet t (joined d r) b ≡ readByte t (joined d r) b
+pub slot-byte : (t : Table) (d : State) (r : Reading) (b : ℕ) → endsSlot (r .found) (r .bytes) (r .opened) b ≡ true
+    → slotMet t (joined d r) b ≡ readByte t (joined d r) b
 unfolding readByte
 slot-byte t d r b e = slot-is t d (r .done) (r .slots) (r .bytes) b (r .opened) (r .found) e
 
-pub other-byte : (t : Table) (d : State) (r : Reading) (b : ℕ) → endsSlot (r .found) (r .bytes) (r .opened) b ≡ false → joined d (otherRead r b (r .found)) ≡ readByte t (joined d r) b
+pub other-byte : (t : Table) (d : State) (r : Reading) (b : ℕ) → endsSlot (r .found) (r .bytes) (r .opened) b ≡ false
+    → joined d (otherRead r b (r .found)) ≡ readByte t (joined d r) b
 unfolding readByte
 other-byte t d r b e = other-is t d (r .done) (r .slots) (r .bytes) b (r .opened) (r .found) e
 
 -- A dispatcher's step on such a log is not refused.
 pub steps : (t : Table) (l : Log) → Readable t l → Unrefused t (l .state)
 steps t l r =
-    record { ranged = r .ranged; ran = one-of-iff (l .state .last) taskLimit (t .count) .0 (r .fits .belongs .ran); room = omega (arith, r .fits .counted, r .fits .slots-le, r .fits .bytes-le) }
+    record {
+      ranged = r .ranged;
+      ran = one-of-iff (l .state .last) taskLimit (t .count) .0 (r .fits .belongs .ran);
+      room = omega (arith, r .fits .counted, r .fits .slots-le, r .fits .bytes-le);
+    }
 
 -- A slot's record is that of its owner, or not.
-module _ (t : Table) (d : State) (r : Reading) (b n : ℕ) (q : n ≡ t .count) {owner : ℕ} (o : owner ≡ dueOwner t (joined d r)) {same : Bool} (s : same ≡ isDue (r .opened) b n owner) where
+module _ (t : Table) (d : State) (r : Reading) (b n : ℕ) (q : n ≡ t .count) {owner : ℕ} (o : owner ≡ dueOwner t (joined d r)) {same : Bool}
+    (s : same ≡ isDue (r .opened) b n owner) where
   met-by : Bool → Log
   met-by x = slotRead t (joined d r) x
 
@@ -184,7 +200,8 @@ unfolding readAll
 read-none t l piece r = record { may = r; so = refl }
 
 -- One byte more is read.
-pub one-more : {t : Table} {start before after : Log} {piece : List ℕ} {at : ℕ} → at < length piece → ReadTo t start piece at before → after ≡ readByte t before (getD piece at 0) → ReadTo t start piece (at + 1) after
+pub one-more : {t : Table} {start before after : Log} {piece : List ℕ} {at : ℕ} → at < length piece → ReadTo t start piece at before
+    → after ≡ readByte t before (getD piece at 0) → ReadTo t start piece (at + 1) after
 unfolding readAll
 one-more {t} {start} {before} {after} {piece} {at} h r f =
     record {

@@ -30,7 +30,8 @@ pub fits-sized : {t : Table} {l : Log} → Fits t l → Sized (l .state)
 fits-sized f = record { waits = f .belongs .waits; lefts = f .belongs .lefts; gives = f .belongs .gives }
 
 -- A log that takes a piece takes every next one.
-still-admitted : (t : Table) (l : Log) (s : List ℕ) → Sized (l .state) → logAdmitted t l ≡ Admission.Admitted → logAdmitted t (readAll t l s) ≡ Admission.Admitted
+still-admitted : (t : Table) (l : Log) (s : List ℕ) → Sized (l .state) → logAdmitted t l ≡ Admission.Admitted
+    → logAdmitted t (readAll t l s) ≡ Admission.Admitted
 still-admitted t l s size e =
     let ((m, well), f) = log-admitted-iff t l size .0 e in
     let g = fits-all t (well-formed t m well .ranged) l f s in
@@ -90,13 +91,21 @@ module _ (t : Table) (m : Measure) (well : judged t ≡ Judgement.WellFormed m) 
   unfolding slotCount startOf
   start-fits =
       let r = well-formed t m well .ranged in
-      record { belongs = belongs-start t r; counted = omega (arith, sum-zero (t .count) (givenOf (startOf t)) (λ i l. getD-same taskLimit 0 i)); slots-le = omega arith; bytes-le = omega arith }
+      record {
+        belongs = belongs-start t r;
+        counted = omega (arith, sum-zero (t .count) (givenOf (startOf t)) (λ i l. getD-same taskLimit 0 i));
+        slots-le = omega arith;
+        bytes-le = omega arith;
+      }
 
   pub start-admitted : (s : List ℕ) → logAdmitted t (readAll t (unread (startOf t)) s) ≡ Admission.Admitted
-  start-admitted s = let f = fits-all t (well-formed t m well .ranged) (unread (startOf t)) start-fits s in log-admitted-iff t (readAll t (unread (startOf t)) s) (fits-sized f) .1 ((m, well), f)
+  start-admitted s =
+      let f = fits-all t (well-formed t m well .ranged) (unread (startOf t)) start-fits s in
+      log-admitted-iff t (readAll t (unread (startOf t)) s) (fits-sized f) .1 ((m, well), f)
 
   -- The whole judge, from the bytes of the log.
-  pub judged-bytes : (pieces : List (List ℕ)) → logJudged t pieces ≡ record { admission = Admission.Admitted; log = closed (readAll t (unread (startOf t)) (flatten pieces)) }
+  pub judged-bytes : (pieces : List (List ℕ)) → logJudged t pieces
+      ≡ record { admission = Admission.Admitted; log = closed (readAll t (unread (startOf t)) (flatten pieces)) }
   unfolding logStarted started logFinished fed readAll
   judged-bytes pieces =
       let l = unread (startOf t) in

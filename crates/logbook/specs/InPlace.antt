@@ -31,7 +31,8 @@ none-closed n left late few none = sym (fill-eq n _ _ left (λ i l. rw (in-bits 
 -- Where no job is late, a done report and one pass are the whole step.
 pub moved-if :
     (t : Table) (d : State) (done : Bool) → Unrefused t d → Whole d → {period cost slack rank : List ℕ} {n : ℕ} → Unpacked t period cost slack rank n
-    → {left wait′ left′ : List ℕ} {seen : Seen} → left ≡ cond done (closed (d .left) (d .last)) (d .left) → Served (d .wait) left period cost slack rank n wait′ left′ seen
+    → {left wait′ left′ : List ℕ} {seen : Seen} → left ≡ cond done (closed (d .left) (d .last)) (d .left)
+    → Served (d .wait) left period cost slack rank n wait′ left′ seen
     → seen .late ≡ false → Advanced t d done (movedTo t d done wait′ left′ (seen .owner))
 moved-if t d done unrefused whole {slack = slack} {n = n} u {left} a s calm =
     let none = none-closed n left (isLateIn (d .wait) left slack n) (omega (arith, u .0, unrefused .ranged .few)) (λ i l. is-false _ (s .quiet calm i l)) in

@@ -50,7 +50,15 @@ module _ (t : Table) (r : Ranged t) where
   kept-byte : (l : Log) (b : ℕ) → Kept t l → Kept t (readByte t l b)
   unfolding History
   kept-byte l b k =
-      let (done, state, told) = after-byte t l (k .fits .bytes-le) History (k .done, k .state, k .told) (λ n low high. (k .done, k .state, (low, high, k .fits .bytes-le))) (k .done, k .state, omega (arith, k .fits .slots-le, k .fits .bytes-le)) (λ room opened report. (k .done, k .state, tt)) (λ room. (k .done, k .state, tt)) (λ room. (λ i. cond (eqb i (l .slots)) (l .done) (k .done i), ap (λ (d : State). after t d (l .done)) (k .state) ∙ next (k .done) (l .slots) (l .done), tt)) b in
+      let (done, state, told) = after-byte t l (k .fits .bytes-le) History (k .done, k .state, k .told)
+      (λ n low high. (k .done, k .state, (low, high, k .fits .bytes-le))) (k .done, k .state, omega (arith, k .fits .slots-le, k .fits .bytes-le))
+      (λ room opened report. (k .done, k .state, tt)) (λ room. (k .done, k .state, tt))
+      (λ room. (
+        λ i. cond (eqb i (l .slots)) (l .done) (k .done i),
+        ap (λ (d : State). after t d (l .done)) (k .state)
+            ∙ next (k .done) (l .slots) (l .done),
+        tt,
+      )) b in
       record { done = done; state = state; told = told; fits = fits-byte t r l (k .fits) b }
 
   kept-all : (l : Log) (s : List ℕ) → Kept t l → Kept t (readAll t l s)
@@ -60,7 +68,13 @@ module _ (t : Table) (r : Ranged t) where
 
   -- The finish too.
   pub kept-closed : (l : Log) → Kept t l → Kept t (closed l)
-  kept-closed l k = record { done = k .done; state = k .state; told = go (l .found) (k .told); fits = record { belongs = k .fits .belongs; counted = k .fits .counted; slots-le = k .fits .slots-le; bytes-le = k .fits .bytes-le } }
+  kept-closed l k =
+      record {
+        done = k .done;
+        state = k .state;
+        told = go (l .found) (k .told);
+        fits = record { belongs = k .fits .belongs; counted = k .fits .counted; slots-le = k .fits .slots-le; bytes-le = k .fits .bytes-le };
+      }
     where
       go : (x : Finding) → Told x → Told (atEnd (l .bytes) x)
       go Finding.Nothing h = (lit≤ tt, lit≤ tt, k .fits .bytes-le)

@@ -36,10 +36,18 @@ module _ (t : Table) (done done′ : ℕ → Bool) where
       rw (same-log n (λ k l. same k (omega arith)), same-state n (λ k l. same k (omega arith)), same n (omega arith), same (suc n) (omega arith))
 
   -- A report about the last slot is written behind it.
-  last-report : (m : ℕ) → ((k : ℕ) → k < suc m → done k ≡ done′ k) → done (suc m) ≡ true → done′ (suc m) ≡ false → logOf t done (suc m) ≡ logOf t done′ (suc m) ++ (18 ∷ [])
+  last-report : (m : ℕ) → ((k : ℕ) → k < suc m → done k ≡ done′ k) → done (suc m) ≡ true → done′ (suc m) ≡ false
+      → logOf t done (suc m) ≡ logOf t done′ (suc m) ++ (18 ∷ [])
   unfolding logOf
   last-report m same told untold =
-      rw (same-log m (λ k l. same k (omega arith)), same-state m (λ k l. same k (omega arith)), same m (omega arith), told, untold, append-nil (logOf t done′ m ++ slotRecord (ownerAt t done′ m)))
+      rw (
+        same-log m (λ k l. same k (omega arith)),
+        same-state m (λ k l. same k (omega arith)),
+        same m (omega arith),
+        told,
+        untold,
+        append-nil (logOf t done′ m ++ slotRecord (ownerAt t done′ m)),
+      )
 
 -- One byte more, and what follows it.
 one-more : (s p : List ℕ) (b : ℕ) (more : List ℕ) → s ≡ p → s ++ (b ∷ []) ++ more ≡ p ++ (b ∷ more)
@@ -71,13 +79,15 @@ module _ (t : Table) (few : t .count ≤ taskLimit) where
   module _ (s : List ℕ) (done : ℕ → Bool) (n b : ℕ) where
     -- With this byte the log goes on so.
     abbrev begins : (part : List ℕ) → Heard s done n part → (more : List ℕ) → Begins t (s ++ (b ∷ []) ++ more) n (part ++ (b ∷ more))
-    begins part h more = record { done = done; none = h .none; bytes = one-more s (logOf t done n ++ part) b more (h .bytes) ∙ append-assoc (logOf t done n) part (b ∷ more) }
+    begins part h more =
+        record { done = done; none = h .none; bytes = one-more s (logOf t done n ++ part) b more (h .bytes) ∙ append-assoc (logOf t done n) part (b ∷ more) }
 
     size : (part : List ℕ) → Heard s done n part → length (logOf t done n) + length part ≡ length s
     size part h = sym (ap length (h .bytes) ∙ length-append (logOf t done n) part)
 
     -- It is one too many.
-    too-long : (part : List ℕ) → Heard s done n part → IsPart part → length s ≡ logLimit → (more : List ℕ) → Found t (s ++ (b ∷ []) ++ more) (Finding.Fault 44 (length s))
+    too-long : (part : List ℕ) → Heard s done n part → IsPart part → length s ≡ logLimit → (more : List ℕ)
+        → Found t (s ++ (b ∷ []) ++ more) (Finding.Fault 44 (length s))
     too-long part h p e more = rw e (long part b more (begins part h more) p (size part h ∙ e))
 
     -- What was read and this byte.
@@ -85,27 +95,50 @@ module _ (t : Table) (few : t .count ≤ taskLimit) where
     with-byte part h = ap (λ (x : List ℕ). x ++ (b ∷ [])) (h .bytes) ∙ append-assoc (logOf t done n) part (b ∷ [])
 
     -- It makes a slot's record whole, which is the dispatcher's: one slot more is read.
-    slot-heard : (part : List ℕ) → Heard s done n part → length s < logLimit → part ++ (b ∷ []) ≡ slotRecord (ownerAt t done n) → Heard (s ++ (b ∷ [])) done (suc n) []
+    slot-heard : (part : List ℕ) → Heard s done n part → length s < logLimit → part ++ (b ∷ []) ≡ slotRecord (ownerAt t done n)
+        → Heard (s ++ (b ∷ [])) done (suc n) []
     unfolding logOf
     slot-heard part h room e = record {
       none = h .none;
       quiet = λ k l. h .quiet k (omega arith);
-      bytes = rw (h .quiet (suc n) (omega arith), append-nil (logOf t done n ++ slotRecord (ownerAt t done n)), append-nil (logOf t done n ++ slotRecord (ownerAt t done n))) (with-byte part h ∙ ap (λ (x : List ℕ). logOf t done n ++ x) e);
+      bytes =
+          rw (
+            h .quiet (suc n) (omega arith),
+            append-nil (logOf t done n ++ slotRecord (ownerAt t done n)),
+            append-nil (logOf t done n ++ slotRecord (ownerAt t done n)),
+          ) (with-byte part h ∙ ap (λ (x : List ℕ). logOf t done n ++ x) e);
       room = omega (arith, longer s b);
     }
 
     -- The judge's slot is the dispatcher's next one.
-    slot-log : (part : List ℕ) → Heard s done n part → _≡_ {A = Log} (record { state = after t (stateAt t done n) (done n); opened = false; done = false; slots = n + 1; bytes = length s + 1; found = Finding.Nothing }) (logAt done (suc n) false (length (s ++ (b ∷ []))) Finding.Nothing)
+    slot-log : (part : List ℕ) → Heard s done n part → _≡_ {A = Log}
+        (record {
+          state = after t (stateAt t done n) (done n);
+          opened = false;
+          done = false;
+          slots = n + 1;
+          bytes = length s + 1;
+          found = Finding.Nothing;
+        }) (logAt done (suc n) false (length (s ++ (b ∷ []))) Finding.Nothing)
     unfolding stateAtBy
     slot-log part h = rw (h .quiet (suc n) (omega arith), longer s b, add-one n)
 
-    slot-same : (part : List ℕ) → Heard s done n part → length s < logLimit → part ++ (b ∷ []) ≡ slotRecord (ownerAt t done n) → (opened : Bool) → Reads (s ++ (b ∷ [])) (slotRead t (logAt done n opened (length s) Finding.Nothing) true)
+    slot-same : (part : List ℕ) → Heard s done n part → length s < logLimit → part ++ (b ∷ []) ≡ slotRecord (ownerAt t done n) → (opened : Bool)
+        → Reads (s ++ (b ∷ [])) (slotRead t (logAt done n opened (length s) Finding.Nothing) true)
     slot-same part h room e opened = between done (suc n) (slot-heard part h room e) (slot-log part h)
 
     -- It makes one whole that is not.
-    slot-differs : (part : List ℕ) → Heard s done n part → length s < logLimit → IsSlot (part ++ (b ∷ [])) → (part ++ (b ∷ []) ≡ slotRecord (ownerAt t done n) → ⊥) → (opened : Bool) → Reads (s ++ (b ∷ [])) (slotRead t (logAt done n opened (length s) Finding.Nothing) false)
+    slot-differs : (part : List ℕ) → Heard s done n part → length s < logLimit → IsSlot (part ++ (b ∷ []))
+        → (part ++ (b ∷ []) ≡ slotRecord (ownerAt t done n) → ⊥) → (opened : Bool)
+        → Reads (s ++ (b ∷ [])) (slotRead t (logAt done n opened (length s) Finding.Nothing) false)
     slot-differs part h room is apart opened =
-        stopped tt (λ more. differs (part ++ (b ∷ [])) more (record { done = done; none = h .none; bytes = begins part h more .bytes ∙ ap (λ (x : List ℕ). logOf t done n ++ x) (sym (append-assoc part (b ∷ []) more)) }) is apart (omega (arith, size part h, longer part b)))
+        stopped tt (λ more. differs (part ++ (b ∷ [])) more
+        (record {
+          done = done;
+          none = h .none;
+          bytes = begins part h more .bytes
+              ∙ ap (λ (x : List ℕ). logOf t done n ++ x) (sym (append-assoc part (b ∷ []) more));
+        }) is apart (omega (arith, size part h, longer part b)))
 
     -- It is read, and what was read before is not changed by it.
     more-heard : (part : List ℕ) → Heard s done n [] → length s < logLimit → part ≡ b ∷ [] → Heard (s ++ (b ∷ [])) done n part
@@ -119,7 +152,14 @@ module _ (t : Table) (few : t .count ≤ taskLimit) where
     before : (k : ℕ) → k < n → reporting k ≡ done k
     before k l = rw (ne-eqb k n (λ e. absurd (omega arith)))
 
-    report-log : _≡_ {A = Log} (record { state = stateAt t done n; opened = false; done = true; slots = n; bytes = length s + 1; found = Finding.Nothing }) (logAt reporting n false (length (s ++ (18 ∷ []))) Finding.Nothing)
+    report-log : _≡_ {A = Log} (record {
+      state = stateAt t done n;
+      opened = false;
+      done = true;
+      slots = n;
+      bytes = length s + 1;
+      found = Finding.Nothing;
+    }) (logAt reporting n false (length (s ++ (18 ∷ []))) Finding.Nothing)
     report-log = rw (same-state t reporting done n before, eq-eqb n n refl, longer s 18)
 
     report-heard : (m : ℕ) → n ≡ suc m → Heard s done n [] → done n ≡ false → length s < logLimit → Heard (s ++ (18 ∷ [])) reporting n []
@@ -132,7 +172,9 @@ module _ (t : Table) (few : t .count ≤ taskLimit) where
     }
       where
         one-report : logOf t reporting n ≡ logOf t done n ++ (18 ∷ [])
-        one-report = subst (λ (x : ℕ). logOf t reporting x ≡ logOf t done x ++ (18 ∷ [])) (sym e) (last-report t reporting done m (λ k l. before k (omega arith)) (rw (eq-eqb (suc m) n (sym e))) (rw e at untold))
+        one-report =
+            subst (λ (x : ℕ). logOf t reporting x ≡ logOf t done x ++ (18 ∷ [])) (sym e)
+            (last-report t reporting done m (λ k l. before k (omega arith)) (rw (eq-eqb (suc m) n (sym e))) (rw e at untold))
 
   -- The judge between two records is given a kind.
   module _ (s : List ℕ) (done : ℕ → Bool) (n : ℕ) (h : Heard s done n []) (room : length s < logLimit) where
@@ -145,25 +187,36 @@ module _ (t : Table) (few : t .count ≤ taskLimit) where
     given-17 : Reads (s ++ (17 ∷ [])) (kindRead t here 17)
     given-17 = elim (ℕ-discrete (ownerAt t done n) taskLimit) [
       | yes e ↦ rw (eq-eqb (ownerAt t done n) taskLimit e) (slot-same s done n 17 [] h room (rw (eq-eqb (ownerAt t done n) taskLimit e)) false)
-      | no e ↦ rw (ne-eqb (ownerAt t done n) taskLimit e) (slot-differs s done n 17 [] h room (inl refl) (λ x. let y : _≡_ {A = List ℕ} (17 ∷ []) (16 ∷ ownerAt t done n ∷ []) = rw (ne-eqb (ownerAt t done n) taskLimit e) at x in let z : _≡_ {A = ℕ} 17 16 = cc in absurd (omega arith)) false)
+      | no e ↦
+          rw (ne-eqb (ownerAt t done n) taskLimit e)
+          (slot-differs s done n 17 [] h room (inl refl)
+          (λ x. let y : _≡_ {A = List ℕ} (17 ∷ []) (16 ∷ ownerAt t done n ∷ []) = rw
+          (ne-eqb (ownerAt t done n) taskLimit e) at x in let z : _≡_ {A = ℕ} 17 16 = cc in absurd (omega arith)) false)
     ]
 
     given-18 : Reads (s ++ (18 ∷ [])) (kindRead t here 18)
     given-18 = go n refl (done n) refl
       where
-        wrong : (n ≡ 0) ⊎ (done n ≡ true) → (told : Bool) → Reads (s ++ (18 ∷ [])) (record { state = stateAt t done n; opened = false; done = told; slots = n; bytes = length s; found = Finding.Fault 41 (length s) })
-        wrong x told = stopped tt (λ more. let e : length s ≡ length (logOf t done n) = omega (arith, size s done n 18 [] h) in rw e (unheard more (begins s done n 18 [] h more) x (omega arith)))
+        wrong : (n ≡ 0) ⊎ (done n ≡ true) → (told : Bool) → Reads (s ++ (18 ∷ []))
+            (record { state = stateAt t done n; opened = false; done = told; slots = n; bytes = length s; found = Finding.Fault 41 (length s) })
+        wrong x told =
+            stopped tt (λ more. let e : length s ≡ length (logOf t done n) = omega (arith, size s done n 18 [] h) in rw e
+            (unheard more (begins s done n 18 [] h more) x (omega arith)))
 
         go : (m : ℕ) → n ≡ m → (b : Bool) → done n ≡ b → Reads (s ++ (18 ∷ [])) (doneRead t here)
         go zero e b d = rw (eq-eqb n 0 e) (wrong (inl e) (done n))
         go (suc m) e true d = rw (ne-eqb n 0 (λ x. absurd (omega arith)), d) (wrong (inr d) true)
-        go (suc m) e false d = rw (ne-eqb n 0 (λ x. absurd (omega arith)), d) (between (reporting s done n) n (report-heard s done n m e h d room) (report-log s done n))
+        go (suc m) e false d =
+            rw (ne-eqb n 0 (λ x. absurd (omega arith)), d) (between (reporting s done n) n (report-heard s done n m e h d room) (report-log s done n))
 
     given-19 : Reads (s ++ (19 ∷ [])) (kindRead t here 19)
     given-19 = ended done n (more-heard s done n 19 (19 ∷ []) h room refl) (rw (longer s 19))
 
-    given-other : (b : ℕ) → (b < 16) ⊎ (19 < b) → Reads (s ++ (b ∷ [])) (record { state = stateAt t done n; opened = false; done = done n; slots = n; bytes = length s; found = Finding.Fault 40 (length s) })
-    given-other b x = stopped tt (λ more. let e : length s ≡ length (logOf t done n) = omega (arith, size s done n b [] h) in rw e (unknown b more (begins s done n b [] h more) x (omega arith)))
+    given-other : (b : ℕ) → (b < 16) ⊎ (19 < b) → Reads (s ++ (b ∷ []))
+        (record { state = stateAt t done n; opened = false; done = done n; slots = n; bytes = length s; found = Finding.Fault 40 (length s) })
+    given-other b x =
+        stopped tt (λ more. let e : length s ≡ length (logOf t done n) = omega (arith, size s done n b [] h) in rw e
+        (unknown b more (begins s done n b [] h more) x (omega arith)))
 
     given-kind : (b : ℕ) → Reads (s ++ (b ∷ [])) (kindRead t here b)
     given-kind b = go (ℕ-discrete b 16) (ℕ-discrete b 17) (ℕ-discrete b 18) (ℕ-discrete b 19)
@@ -189,7 +242,9 @@ module _ (t : Table) (few : t .count ≤ taskLimit) where
     task-only x = go (owner-one t (tieOrder t) (stateAt t done n) (done n) few)
       where
         go : (ownerAt t done n ≡ taskLimit) ⊎ (ownerAt t done n < t .count) → T (ltb k (t .count) && eqb k (ownerAt t done n))
-        go (inl e) = let y : _≡_ {A = List ℕ} (16 ∷ k ∷ []) (17 ∷ []) = rw (eq-eqb (ownerAt t done n) taskLimit e) at x in let z : _≡_ {A = ℕ} 16 17 = cc in absurd (omega arith)
+        go (inl e) =
+            let y : _≡_ {A = List ℕ} (16 ∷ k ∷ []) (17 ∷ []) = rw (eq-eqb (ownerAt t done n) taskLimit e) at x in
+            let z : _≡_ {A = ℕ} 16 17 = cc in absurd (omega arith)
         go (inr l) =
             let y : _≡_ {A = List ℕ} (16 ∷ k ∷ []) (16 ∷ ownerAt t done n ∷ []) = rw (ne-eqb (ownerAt t done n) taskLimit (λ e. absurd (omega arith))) at x in
             let z : k ≡ ownerAt t done n = cc in
@@ -200,7 +255,9 @@ module _ (t : Table) (few : t .count ≤ taskLimit) where
     given-task : Reads (s ++ (k ∷ [])) (taskRead t (logAt done n true (length s) Finding.Nothing) k)
     given-task = elim (decT (ltb k (t .count) && eqb k (ownerAt t done n))) [
       | yes x ↦ rw (is-true (ltb k (t .count) && eqb k (ownerAt t done n)) x) (slot-same s done n k (16 ∷ []) h room (task-same done n k x) true)
-      | no x ↦ rw (is-false (ltb k (t .count) && eqb k (ownerAt t done n)) x) (slot-differs s done n k (16 ∷ []) h room (inr (k, refl)) (λ e. x (task-only done n k e)) true)
+      | no x ↦
+          rw (is-false (ltb k (t .count) && eqb k (ownerAt t done n)) x)
+          (slot-differs s done n k (16 ∷ []) h room (inr (k, refl)) (λ e. x (task-only done n k e)) true)
     ]
 
   -- One byte more, in every case.
@@ -220,7 +277,10 @@ module _ (t : Table) (few : t .count ≤ taskLimit) where
     where
       go : Dec (length s ≡ logLimit) → Reads (s ++ (b ∷ [])) (readBy t (logAt done n false (length s) Finding.Good) b Finding.Good)
       go (yes x) = rw (eq-eqb (length s) logLimit x) (stopped tt (too-long s done n b (19 ∷ []) h (inr (inr refl)) x))
-      go (no x) = rw (ne-eqb (length s) logLimit x) (stopped tt (λ more. let e : length s ≡ length (logOf t done n) + 1 = omega (arith, size s done n b (19 ∷ []) h) in rw e (behind b more (begins s done n b (19 ∷ []) h more) (omega (arith, h .room)))))
+      go (no x) =
+          rw (ne-eqb (length s) logLimit x) (stopped tt (λ more. let e : length s
+          ≡ length (logOf t done n) + 1 = omega (arith, size s done n b (19 ∷ []) h) in rw e
+          (behind b more (begins s done n b (19 ∷ []) h more) (omega (arith, h .room)))))
   reads-byte s l b (stopped f found) = rw (byte-stays t l b f) (stopped f (λ more. rw (append-assoc s (b ∷ []) more) (found (b ∷ more))))
 
   -- And so any bytes, from the start on.

@@ -19,4 +19,16 @@ fedOf r = record { admission = r .admission; log = logStateOf (r .log) }
 -- Two values that are the same in the model are the same.
 pub one-fed : (a b : Fed) → fedOf a ≡ fedOf b → a ≡ b
 one-fed a b e =
-    ap (λ (x : FedState). record { admission = x .admission; log = record { state = x .log .state; reading = record { opened = x .log .opened; done = x .log .done; slots = x .log .slots; bytes = x .log .bytes; found = x .log .found } } }) e
+    ap (λ (x : FedState). record {
+      admission = x .admission;
+      log = record {
+        state = x .log .state;
+        reading = record {
+          opened = x .log .opened;
+          done = x .log .done;
+          slots = x .log .slots;
+          bytes = x .log .bytes;
+          found = x .log .found;
+        };
+      };
+    }) e

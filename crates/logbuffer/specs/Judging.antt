@@ -22,9 +22,11 @@ use Rattle.model.specs.Tasks.{judged}
 use Rattle.model.specs.TableFile.{four, formOf}
 use Rattle.model.specs.Dispatcher.{startOf, startJudged, started, admitted}
 use Rattle.model.specs.Report.{Exported, refusalNumber, refused}
-use Rattle.model.specs.Log.{Log, Fed, readByte, readAll, atEnd, closed, unread, miscounted, logAdmittedBy, logAdmitted, logStarted, onLog, fed, logFinished, logJudged}
+use Rattle.model.specs.Log.{Log, Fed, readByte, readAll, atEnd, closed, unread, miscounted, logAdmittedBy, logAdmitted, logStarted, onLog, fed}
+use Rattle.model.specs.Log.{logFinished, logJudged}
 use Rattle.model.specs.StateBuffer.{stateBytes, stateIn, onFile}
-use Rattle.model.specs.LogBuffer.{logBytes, findingOf, answerNumber, logBufferOf, logIn, logWritten, logStartExported, logFeedExported, logFinishExported, feedsIn, judgedIn}
+use Rattle.model.specs.LogBuffer.{logBytes, findingOf, answerNumber, logBufferOf, logIn, logWritten, logStartExported, logFeedExported}
+use Rattle.model.specs.LogBuffer.{logFinishExported, feedsIn, judgedIn}
 use Rattle.model.specs.Notation.{fill}
 use Rattle.counting.specs.Fill.{fill-length}
 use Rattle.wellformed.specs.Ranges.{Ranged}
@@ -52,7 +54,8 @@ module _ (t : Table) (r : Ranged t) (l : Log) (k : Kept t l) where
   kept-size : length (logBufferOf l) ≡ logBytes
   kept-size = log-length l (fits-sized (k .fits))
 
-module _ (file : List ℕ) (t : Table) (m : Measure) (formed : formOf file .admission ≡ Admission.Admitted) (held : formOf file .table ≡ t) (well : judged t ≡ Judgement.WellFormed m) where
+module _ (file : List ℕ) (t : Table) (m : Measure) (formed : formOf file .admission ≡ Admission.Admitted) (held : formOf file .table ≡ t)
+    (well : judged t ≡ Judgement.WellFormed m) where
   r : Ranged t
   r = well-formed t m well .ranged
 
@@ -63,30 +66,37 @@ module _ (file : List ℕ) (t : Table) (m : Measure) (formed : formOf file .admi
   unfolding logStarted started
   starts lent size = on-table logBytes file lent t (λ k. let f = logStarted k in logWritten lent (f .log) (f .admission)) formed held size ∙ rw well refl
 
-  pub feeds-on : (s piece : List ℕ) → logFeedExported file (logBufferOf (after s)) piece ≡ record { number = answerNumber (after (s ++ piece) .found); buffer = logBufferOf (after (s ++ piece)) }
+  pub feeds-on : (s piece : List ℕ) → logFeedExported file (logBufferOf (after s)) piece
+      ≡ record { number = answerNumber (after (s ++ piece) .found); buffer = logBufferOf (after (s ++ piece)) }
   unfolding fed
   feeds-on s piece =
       let buffer = logBufferOf (after s) in
-      on-table logBytes file buffer t (λ k. let f = fed k (logIn buffer) piece in logWritten buffer (f .log) (f .admission)) formed held (kept-size t r (after s) (kept t m well s))
+      on-table logBytes file buffer t (λ k. let f = fed k (logIn buffer) piece in logWritten buffer (f .log) (f .admission)) formed held
+      (kept-size t r (after s) (kept t m well s))
       ∙ rw (kept-back t r (after s) (kept t m well s), start-admitted t m well s, read-joined t (unread (startOf t)) s piece) refl
 
-  pub finishes : (s : List ℕ) → logFinishExported file (logBufferOf (after s)) ≡ record { number = answerNumber (closed (after s) .found); buffer = logBufferOf (closed (after s)) }
+  pub finishes : (s : List ℕ) → logFinishExported file (logBufferOf (after s))
+      ≡ record { number = answerNumber (closed (after s) .found); buffer = logBufferOf (closed (after s)) }
   unfolding logFinished
   finishes s =
       let buffer = logBufferOf (after s) in
-      on-table logBytes file buffer t (λ k. let f = logFinished k (logIn buffer) in logWritten buffer (f .log) (f .admission)) formed held (kept-size t r (after s) (kept t m well s))
+      on-table logBytes file buffer t (λ k. let f = logFinished k (logIn buffer) in logWritten buffer (f .log) (f .admission)) formed held
+      (kept-size t r (after s) (kept t m well s))
       ∙ rw (kept-back t r (after s) (kept t m well s), start-admitted t m well s) refl
 
   all-fed : (s : List ℕ) (pieces : List (List ℕ)) → feedsIn file (logBufferOf (after s)) pieces ≡ logBufferOf (after (s ++ flatten pieces))
   unfolding feedsIn flatten
   all-fed s [] = rw (append-nil s)
-  all-fed s (piece ∷ more) = ap (λ (e : Exported). feedsIn file (e .buffer) more) (feeds-on s piece) ∙ all-fed (s ++ piece) more ∙ rw (append-assoc s piece (flatten more))
+  all-fed s (piece ∷ more) =
+      ap (λ (e : Exported). feedsIn file (e .buffer) more) (feeds-on s piece) ∙ all-fed (s ++ piece) more ∙ rw (append-assoc s piece (flatten more))
 
   -- IN ONE BUFFER: the whole judge through the exported calls returns the judge's answer, however the log is cut.
-  pub judges : (lent : List ℕ) → length lent ≡ logBytes → (pieces : List (List ℕ)) → judgedIn file lent pieces ≡ record { number = answerNumber (logJudged t pieces .log .found); buffer = logBufferOf (logJudged t pieces .log) }
+  pub judges : (lent : List ℕ) → length lent ≡ logBytes → (pieces : List (List ℕ))
+      → judgedIn file lent pieces ≡ record { number = answerNumber (logJudged t pieces .log .found); buffer = logBufferOf (logJudged t pieces .log) }
   unfolding readAll
   judges lent size pieces =
-      ap (λ (e : Exported). logFinishExported file (feedsIn file (e .buffer) pieces)) (starts lent size) ∙ ap (logFinishExported file) (all-fed [] pieces) ∙ finishes (flatten pieces)
+      ap (λ (e : Exported). logFinishExported file (feedsIn file (e .buffer) pieces)) (starts lent size)
+      ∙ ap (logFinishExported file) (all-fed [] pieces) ∙ finishes (flatten pieces)
       ∙ ap (λ (f : Fed). record { number = answerNumber (f .log .found); buffer = logBufferOf (f .log) }) (sym (judged-bytes t m well pieces))
 
 -- What is found so far is nothing, or has a number above 0.
@@ -104,8 +114,11 @@ numbered-read n p = elim (ℕ-discrete n 0) [ yes e ↦ rw (eq-eqb n 0 e) tt | n
     go false true h = tt
     go false false h = h
 
-numbered-byte : (t : Table) (l : Log) → l .bytes ≤ logLimit → Numbered (l .found) → (b : ℕ) → (readByte t l b .bytes ≤ logLimit) × Numbered (readByte t l b .found)
-numbered-byte t l most h = after-byte t l most (λ (k : Log). (k .bytes ≤ logLimit) × Numbered (k .found)) (most, h) (λ n low high. (most, omega arith)) (most, tt) (λ room opened done. (omega arith, tt)) (λ room. (omega arith, tt)) (λ room. (omega arith, tt))
+numbered-byte : (t : Table) (l : Log) → l .bytes ≤ logLimit → Numbered (l .found) → (b : ℕ) → (readByte t l b .bytes ≤ logLimit)
+    × Numbered (readByte t l b .found)
+numbered-byte t l most h =
+    after-byte t l most (λ (k : Log). (k .bytes ≤ logLimit) × Numbered (k .found)) (most, h) (λ n low high. (most, omega arith)) (most, tt)
+    (λ room opened done. (omega arith, tt)) (λ room. (omega arith, tt)) (λ room. (omega arith, tt))
 
 numbered-all : (t : Table) (l : Log) (s : List ℕ) → l .bytes ≤ logLimit → Numbered (l .found) → Numbered (readAll t l s .found)
 unfolding readAll
@@ -133,12 +146,15 @@ abbrev pub Apart : (ℕ → Type 0) → List ℕ → Exported → Type 0
 Apart Taken buffer e = Taken (e .number) ⊎ ((r : Refusal) × (e ≡ refused r buffer) × Tellable r × (refusalNumber r < wordLimit))
 
 module _ (file buffer : List ℕ) where
-  by-admission : (Taken : ℕ → Type 0) (a : Admission) (next : Exported) → AdmissionTellable a → Below a → Apart Taken buffer next → Apart Taken buffer (elim a [ Admission.Refused r ↦ refused r buffer | Admission.Admitted ↦ next ])
+  by-admission : (Taken : ℕ → Type 0) (a : Admission) (next : Exported) → AdmissionTellable a → Below a → Apart Taken buffer next
+      → Apart Taken buffer (elim a [ Admission.Refused r ↦ refused r buffer | Admission.Admitted ↦ next ])
   by-admission Taken (Admission.Refused r) next n b h = inr (r, refl, n, omega (arith, n .1))
   by-admission Taken Admission.Admitted next n b h = h
 
   on-file : (Taken : ℕ → Type 0) (go : Table → Exported) → Apart Taken buffer (go (formOf file .table)) → Apart Taken buffer (onFile logBytes file buffer go)
-  on-file Taken go h = by-admission Taken (cond (eqb (length buffer) logBytes) (formOf file .admission) unfit) (go (formOf file .table)) (by (eqb (length buffer) logBytes) .0) (by (eqb (length buffer) logBytes) .1) h
+  on-file Taken go h =
+      by-admission Taken (cond (eqb (length buffer) logBytes) (formOf file .admission) unfit) (go (formOf file .table))
+      (by (eqb (length buffer) logBytes) .0) (by (eqb (length buffer) logBytes) .1) h
     where
       unfit : Admission
       unfit = Admission.Refused (refusal 50 (min (length buffer) 65535))
@@ -149,9 +165,12 @@ module _ (file buffer : List ℕ) where
 
   pub start-apart : Apart (λ n. n ≡ 0) buffer (logStartExported file buffer)
   unfolding logStarted started
-  start-apart = on-file (λ n. n ≡ 0) (λ t. let f = logStarted t in logWritten buffer (f .log) (f .admission)) (by (formOf file .table) (judged (formOf file .table)) (judged-tellable (formOf file .table)) (judged-below (formOf file .table)))
+  start-apart =
+      on-file (λ n. n ≡ 0) (λ t. let f = logStarted t in logWritten buffer (f .log) (f .admission))
+      (by (formOf file .table) (judged (formOf file .table)) (judged-tellable (formOf file .table)) (judged-below (formOf file .table)))
     where
-      by : (t : Table) (j : Judgement) → JudgementTellable j → JudgedBelow j → let s = startJudged t j in Apart (λ n. n ≡ 0) buffer (logWritten buffer (unread (s .state)) (s .admission))
+      by : (t : Table) (j : Judgement) → JudgementTellable j → JudgedBelow j → let s = startJudged t j in Apart (λ n. n ≡ 0) buffer
+          (logWritten buffer (unread (s .state)) (s .admission))
       by t (Judgement.Refused r) n b = inr (r, refl, n, omega (arith, n .1))
       by t (Judgement.WellFormed m) n b = inl refl
 
@@ -179,17 +198,26 @@ module _ (file buffer : List ℕ) where
   unfolding logIn
   read-numbered = numbered-read (four buffer (stateBytes + 8)) (four buffer (stateBytes + 12))
 
-  onto : (Taken : ℕ → Type 0) (t : Table) (next : Log) → (logAdmitted t (logIn buffer) ≡ Admission.Admitted → Taken (answerNumber (next .found))) → let f = onLog (logIn buffer) next (logAdmitted t (logIn buffer)) in Apart Taken buffer (logWritten buffer (f .log) (f .admission))
+  onto : (Taken : ℕ → Type 0) (t : Table) (next : Log) → (logAdmitted t (logIn buffer) ≡ Admission.Admitted → Taken (answerNumber (next .found)))
+      → let f = onLog (logIn buffer) next (logAdmitted t (logIn buffer)) in Apart Taken buffer (logWritten buffer (f .log) (f .admission))
   onto Taken t next h = go (logAdmitted t (logIn buffer)) refl (log-tellable t (logIn buffer)) (log-below t (logIn buffer))
     where
-      go : (a : Admission) → logAdmitted t (logIn buffer) ≡ a → AdmissionTellable a → Below a → let f = onLog (logIn buffer) next a in Apart Taken buffer (logWritten buffer (f .log) (f .admission))
+      go : (a : Admission) → logAdmitted t (logIn buffer) ≡ a → AdmissionTellable a → Below a
+          → let f = onLog (logIn buffer) next a in Apart Taken buffer (logWritten buffer (f .log) (f .admission))
       go (Admission.Refused r) e n b = inr (r, refl, n, omega (arith, n .1))
       go Admission.Admitted e n b = inl (h e)
 
   pub feed-apart : (piece : List ℕ) → Apart Going buffer (logFeedExported file buffer piece)
   unfolding fed
-  feed-apart piece = let t = formOf file .table in on-file Going (λ k. let f = fed k (logIn buffer) piece in logWritten buffer (f .log) (f .admission)) (onto Going t (readAll t (logIn buffer) piece) (λ e. going (readAll t (logIn buffer) piece .found) (numbered-all t (logIn buffer) piece (read-most t e) read-numbered)))
+  feed-apart piece =
+      let t = formOf file .table in
+      on-file Going (λ k. let f = fed k (logIn buffer) piece in logWritten buffer (f .log) (f .admission))
+      (onto Going t (readAll t (logIn buffer) piece)
+      (λ e. going (readAll t (logIn buffer) piece .found) (numbered-all t (logIn buffer) piece (read-most t e) read-numbered)))
 
   pub finish-apart : Apart (λ n. wordLimit ≤ n) buffer (logFinishExported file buffer)
   unfolding logFinished
-  finish-apart = let t = formOf file .table in on-file (λ n. wordLimit ≤ n) (λ k. let f = logFinished k (logIn buffer) in logWritten buffer (f .log) (f .admission)) (onto (λ n. wordLimit ≤ n) t (closed (logIn buffer)) (λ e. over (logIn buffer .bytes) (logIn buffer .found) read-numbered))
+  finish-apart =
+      let t = formOf file .table in
+      on-file (λ n. wordLimit ≤ n) (λ k. let f = logFinished k (logIn buffer) in logWritten buffer (f .log) (f .admission))
+      (onto (λ n. wordLimit ≤ n) t (closed (logIn buffer)) (λ e. over (logIn buffer .bytes) (logIn buffer .found) read-numbered))

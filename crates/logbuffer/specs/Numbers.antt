@@ -37,7 +37,8 @@ LoadedBelow l = Below (l .admission)
 
 -- A file, by its form.
 module _ (s : List ℕ) where
-  record-below : (b : ℕ) (ks : List Task) (at : ℕ) (next : ℕ → Task → Contents) → ((bytes : ℕ) (k : Task) → LoadedBelow (next bytes k)) → LoadedBelow (readRecord s b ks at next)
+  record-below : (b : ℕ) (ks : List Task) (at : ℕ) (next : ℕ → Task → Contents) → ((bytes : ℕ) (k : Task) → LoadedBelow (next bytes k))
+      → LoadedBelow (readRecord s b ks at next)
   record-below b ks at next h =
       either LoadedBelow (leb (length s) at) (lit< tt)
       (either LoadedBelow (eqb (getD s at 0) 1) (lit< tt)
@@ -54,7 +55,12 @@ module _ (s : List ℕ) where
 
   pub form-below : Below (formOf s .admission)
   unfolding formOf
-  form-below = either LoadedBelow (eqb (length s) 0) (lit< tt) (either LoadedBelow (eqb (getD s 0 0) 1) (either LoadedBelow (ltb (length s) (0 + budgetBytes)) (lit< tt) (either LoadedBelow (eqb (eight s 1) 0) (lit< tt) (from-below (eight s 1) [] taskLimit budgetBytes))) (either LoadedBelow (eqb (getD s 0 0) 2 || (eqb (getD s 0 0) 3 || eqb (getD s 0 0) 4)) (lit< tt) (lit< tt)))
+  form-below =
+      either LoadedBelow (eqb (length s) 0) (lit< tt)
+      (either LoadedBelow (eqb (getD s 0 0) 1)
+      (either LoadedBelow (ltb (length s) (0 + budgetBytes)) (lit< tt)
+      (either LoadedBelow (eqb (eight s 1) 0) (lit< tt) (from-below (eight s 1) [] taskLimit budgetBytes))) (either LoadedBelow
+      (eqb (getD s 0 0) 2 || (eqb (getD s 0 0) 3 || eqb (getD s 0 0) 4)) (lit< tt) (lit< tt)))
 
 -- A table.
 fault-below : (k : Task) → taskFault k < 100
@@ -67,7 +73,11 @@ fault-below k =
 
 mixed-below : (t : Table) → JudgedBelow (judgedMixed t)
 unfolding judgedMixed
-mixed-below t = either JudgedBelow (eqb (t .count) 0) (lit< tt) (either JudgedBelow (ltb taskLimit (t .count)) (lit< tt) (either JudgedBelow (ltb (firstFaulty t) (t .count)) (fault-below (task t (firstFaulty t))) (either JudgedBelow (ltb roundLimit (round t)) (lit< tt) tt)))
+mixed-below t =
+    either JudgedBelow (eqb (t .count) 0) (lit< tt)
+    (either JudgedBelow (ltb taskLimit (t .count)) (lit< tt)
+    (either JudgedBelow (ltb (firstFaulty t) (t .count)) (fault-below (task t (firstFaulty t)))
+    (either JudgedBelow (ltb roundLimit (round t)) (lit< tt) tt)))
 
 pub judged-below : (t : Table) → JudgedBelow (judged t)
 unfolding judged
@@ -84,7 +94,9 @@ state-below t d = go (judged t) (judged-below t)
   where
     go : (j : Judgement) → JudgedBelow j → Below (admittedBy t d j)
     go (Judgement.Refused r) h = h
-    go (Judgement.WellFormed m) h = either Below (ltb (firstStrange t d) (t .count)) (lit< tt) (either Below (lastStrange t d) (lit< tt) (either Below (ltb slotCountLimit (slotCount t d)) (lit< tt) tt))
+    go (Judgement.WellFormed m) h =
+        either Below (ltb (firstStrange t d) (t .count)) (lit< tt)
+        (either Below (lastStrange t d) (lit< tt) (either Below (ltb slotCountLimit (slotCount t d)) (lit< tt) tt))
 
 pub log-below : (t : Table) (l : Log) → Below (logAdmitted t l)
 unfolding logAdmitted

@@ -31,8 +31,10 @@ readingIn buffer =
 abbrev pub wordsOf : Reading → List ℕ
 wordsOf r = bit (r .opened) ∷ bit (r .done) ∷ numberOf (r .found) ∷ placeOf (r .found) ∷ []
 
-pub words-put : (r : Reading) (a b c d : ℕ) {b₀ b₁ b₂ b₃ b₄ : List ℕ} {at a₁ a₂ a₃ a₄ : ℕ} → a ≡ bit (r .opened) → b ≡ bit (r .done) → c ≡ numberOf (r .found) → d ≡ placeOf (r .found)
-    → Put (wordBytes a) at b₀ b₁ a₁ → Put (wordBytes b) a₁ b₁ b₂ a₂ → Put (wordBytes c) a₂ b₂ b₃ a₃ → Put (wordBytes d) a₃ b₃ b₄ a₄ → Put (bytesOf (wordsOf r)) at b₀ b₄ a₄
+pub words-put : (r : Reading) (a b c d : ℕ) {b₀ b₁ b₂ b₃ b₄ : List ℕ} {at a₁ a₂ a₃ a₄ : ℕ} → a ≡ bit (r .opened) → b ≡ bit (r .done)
+    → c ≡ numberOf (r .found) → d ≡ placeOf (r .found)
+    → Put (wordBytes a) at b₀ b₁ a₁ → Put (wordBytes b) a₁ b₁ b₂ a₂ → Put (wordBytes c) a₂ b₂ b₃ a₃ → Put (wordBytes d) a₃ b₃ b₄ a₄
+    → Put (bytesOf (wordsOf r)) at b₀ b₄ a₄
 unfolding bytesOf
 words-put r a b c d opened done number place p q s u = rw (← opened, ← done, ← number, ← place) (join p (join q (join s u)))
 

@@ -35,7 +35,8 @@ finding-back : (f : Finding) → Told f → findingOf (numberOf f) (placeOf f) �
 finding-back Finding.Nothing h = refl
 finding-back Finding.Good h = refl
 finding-back (Finding.Differs slot) h = refl
-finding-back (Finding.Fault n p) (low, high, most) = rw (ne-eqb n 0 (λ e. absurd (omega arith)), ne-eqb n 1 (λ e. absurd (omega arith)), ne-eqb n 2 (λ e. absurd (omega arith)))
+finding-back (Finding.Fault n p) (low, high, most) =
+    rw (ne-eqb n 0 (λ e. absurd (omega arith)), ne-eqb n 1 (λ e. absurd (omega arith)), ne-eqb n 2 (λ e. absurd (omega arith)))
 
 -- Both words of what is found fit.
 finding-fits : (f : Finding) → Told f → (numberOf f < wordLimit) × (placeOf f < wordLimit)
@@ -59,7 +60,12 @@ module _ (l : Log) (fits : Fits (l .state)) (told : Told (l .found)) (slots-le :
   unfolding logBufferOf
   as-words =
       let said = bit (l .opened) ∷ bit (l .done) ∷ numberOf (l .found) ∷ placeOf (l .found) ∷ [] in
-      rw (bytes-append (said ++ twoWords (l .slots)) (twoWords (l .bytes)), bytes-append said (twoWords (l .slots)), ← append-assoc front (bytesOf said ++ bytesOf (twoWords (l .slots))) (bytesOf (twoWords (l .bytes))), ← append-assoc front (bytesOf said) (bytesOf (twoWords (l .slots))))
+      rw (
+        bytes-append (said ++ twoWords (l .slots)) (twoWords (l .bytes)),
+        bytes-append said (twoWords (l .slots)),
+        ← append-assoc front (bytesOf said ++ bytesOf (twoWords (l .slots))) (bytesOf (twoWords (l .bytes))),
+        ← append-assoc front (bytesOf said) (bytesOf (twoWords (l .slots))),
+      )
 
   word : (i at : ℕ) → i < 8 → at ≡ stateBytes + 4 * i → getD rest i 0 < wordLimit → four (logBufferOf l) at ≡ getD rest i 0
   word i at h e small =
@@ -67,7 +73,8 @@ module _ (l : Log) (fits : Fits (l .state)) (told : Told (l .found)) (slots-le :
       let place : at ≡ length front + 4 * i = omega arith in
       rw (as-words, place) (four-behind front (bytesOf rest) (4 * i) ∙ word-at rest i (omega arith) small)
 
-  count : (x i at : ℕ) → i + 1 < 8 → at ≡ stateBytes + 4 * i → x ≤ logLimit → getD rest i 0 ≡ x % wordLimit → getD rest (i + 1) 0 ≡ x / wordLimit → eight (logBufferOf l) at ≡ x
+  count : (x i at : ℕ) → i + 1 < 8 → at ≡ stateBytes + 4 * i → x ≤ logLimit → getD rest i 0 ≡ x % wordLimit → getD rest (i + 1) 0 ≡ x / wordLimit
+      → eight (logBufferOf l) at ≡ x
   count x i at h e most low high =
       let first = word i at (omega arith) e (omega arith) in
       let second = word (i + 1) (at + 4) h (omega arith) (omega arith) in
@@ -77,7 +84,8 @@ module _ (l : Log) (fits : Fits (l .state)) (told : Told (l .found)) (slots-le :
   unfolding logIn
   log-back =
       let (number-fits, place-fits) = finding-fits (l .found) told in
-      let state : stateIn (logBufferOf l) ≡ l .state = ap stateIn as-words ∙ state-front front (bytesOf rest) (buffer-size (l .state) quiet fits) ∙ state-back (l .state) quiet fits in
+      let state : stateIn (logBufferOf l) ≡ l .state = ap stateIn as-words ∙ state-front front (bytesOf rest) (buffer-size (l .state) quiet fits)
+      ∙ state-back (l .state) quiet fits in
       let opened : four (logBufferOf l) stateBytes ≡ bit (l .opened) = word 0 stateBytes (omega arith) (omega arith) (bit-fits (l .opened)) in
       let done : four (logBufferOf l) (stateBytes + 4) ≡ bit (l .done) = word 1 (stateBytes + 4) (omega arith) (omega arith) (bit-fits (l .done)) in
       let number : four (logBufferOf l) (stateBytes + 8) ≡ numberOf (l .found) = word 2 (stateBytes + 8) (omega arith) (omega arith) number-fits in

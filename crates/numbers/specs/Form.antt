@@ -21,11 +21,16 @@ module _ (wanted : ℕ) (file buffer : List ℕ) {l : Contents} (e : l ≡ formF
   told : (Table → Exported) → Contents → Exported
   told go x = elim (x .admission) [ Admission.Refused r ↦ refused r buffer | Admission.Admitted ↦ go (x .table) ]
 
-  pub on-form : (go : Table → Exported) → _≡_ {A = Exported} (onFile wanted file buffer go) (elim (l .admission) [ Admission.Refused r ↦ refused r buffer | Admission.Admitted ↦ go (l .table) ])
+  pub on-form : (go : Table → Exported) → _≡_ {A = Exported} (onFile wanted file buffer go)
+      (elim (l .admission) [ Admission.Refused r ↦ refused r buffer | Admission.Admitted ↦ go (l .table) ])
   unfolding told
   on-form go = by (eqb (length buffer) wanted) ∙ ap (told go) (sym e)
     where
-      by : (fits : Bool) → _≡_ {A = Exported} (elim (cond fits (formOf file .admission) (Admission.Refused (record { number = 50; place = min (length buffer) 65535 }))) [ Admission.Refused r ↦ refused r buffer | Admission.Admitted ↦ go (formOf file .table) ]) (told go (cond fits (formOf file) (refuseFile 50 (min (length buffer) 65535))))
+      by : (fits : Bool) → _≡_ {A = Exported} (elim (cond fits (formOf file .admission) (Admission.Refused (record {
+        number = 50;
+        place = min (length buffer) 65535;
+      }))) [ Admission.Refused r ↦ refused r buffer | Admission.Admitted ↦ go (formOf file .table) ]) (told go
+          (cond fits (formOf file) (refuseFile 50 (min (length buffer) 65535))))
       by true = refl
       by false = refl
 
@@ -33,6 +38,7 @@ module _ (wanted : ℕ) (file buffer : List ℕ) {l : Contents} (e : l ≡ formF
   pub right-length : l .admission ≡ Admission.Admitted → length buffer ≡ wanted
   right-length a = by (eqb (length buffer) wanted) refl (ap (λ (x : Contents). x .admission) (sym e) ∙ a)
     where
-      by : (fits : Bool) → eqb (length buffer) wanted ≡ fits → cond fits (formOf file) (refuseFile 50 (min (length buffer) 65535)) .admission ≡ Admission.Admitted → length buffer ≡ wanted
+      by : (fits : Bool) → eqb (length buffer) wanted ≡ fits → cond fits (formOf file)
+          (refuseFile 50 (min (length buffer) 65535)) .admission ≡ Admission.Admitted → length buffer ≡ wanted
       by true f h = eqb-true (length buffer) wanted f
       by false f h = let z : _≡_ {A = ℕ} 0 1 = cc in absurd (omega arith)

@@ -1,4 +1,5 @@
--- ASKED BY AN INSTANT (`quick-asked`): a table passes quickly exactly if its load is at most 1 and, with all offsets 0, the jobs due by any instant u ask for at most u slots.
+-- ASKED BY AN INSTANT (`quick-asked`): a table passes quickly exactly if its load is at most 1 and, with all offsets 0, the jobs due by any instant u
+-- ask for at most u slots.
 use mathlib.Core.Path.{_≡_, refl, _∙_}
 use mathlib.Core.Logic.{_↔_}
 use Prim.Native.Nat.{ℕ, _+_, _-_, _*_, _/_, _≤_, _<_}
@@ -54,8 +55,15 @@ module _ (k : Task) (r : InRange k) where
     jobs-le from to h =
         let before = (from + (k .period - 1)) / k .period in
         let inside = to - from + k .period - k .deadline in
-        let room : dueBy k to * k .period ≤ before * k .period + inside = omega (arith, div-mul-le-self (to + k .period - k .deadline) (k .period), lt-div-mul-add {a = from + (k .period - 1)} (r .period-pos), r .period-pos, r .deadline-le) in
-        let split : dueBy k to ≤ before + inside / k .period = rw (mul-add-div-right (r .period-pos) before inside) at (le-div-iff-mul-le (r .period-pos) .1 room) in
+        let room : dueBy k to * k .period ≤ before * k .period + inside = omega (
+          arith,
+          div-mul-le-self (to + k .period - k .deadline) (k .period),
+          lt-div-mul-add {a = from + (k .period - 1)} (r .period-pos),
+          r .period-pos,
+          r .deadline-le,
+        ) in
+        let split : dueBy k to ≤ before + inside / k .period = rw (mul-add-div-right (r .period-pos) before inside) at
+        (le-div-iff-mul-le (r .period-pos) .1 room) in
         omega (arith, jobs-from from to)
 
 module _ (t : Table) (r : Ranged t) where
@@ -74,11 +82,19 @@ module _ (t : Table) (r : Ranged t) where
   -- What an interval of the simultaneous table asks for: from 0 on just this, and else no more than the one from 0 on that is as long.
   demand-all : (u : ℕ) → demand (simultaneous t) 0 u ≡ asked t u
   unfolding demand asked
-  demand-all u = rw (starting-count t r (λ i. 0)) (sum-eq (t .count) _ _ (λ i l. rw (starting-task t r (λ i. 0) i l, jobs-all (startingTask 0 (task t i)) (started i l) refl u) refl))
+  demand-all u =
+      rw (starting-count t r (λ i. 0)) (sum-eq (t .count) _ _ (λ i l. rw (
+        starting-task t r (λ i. 0) i l,
+        jobs-all (startingTask 0 (task t i)) (started i l) refl u,
+      ) refl))
 
   demand-le : (from to : ℕ) → from ≤ to → demand (simultaneous t) from to ≤ asked t (to - from)
   unfolding demand asked
-  demand-le from to h = rw (starting-count t r (λ i. 0)) (sum-le (t .count) _ _ (λ i l. rw (starting-task t r (λ i. 0) i l) (mul-le-mul-left (task t i .cost) (jobs-le (startingTask 0 (task t i)) (started i l) refl from to h))))
+  demand-le from to h =
+      rw (starting-count t r (λ i. 0))
+      (sum-le (t .count) _ _
+      (λ i l. rw (starting-task t r (λ i. 0) i l)
+      (mul-le-mul-left (task t i .cost) (jobs-le (startingTask 0 (task t i)) (started i l) refl from to h))))
 
   pub quick-asked : T (quickPass t) ↔ ((load t ≤ round t) × ((u : ℕ) → asked t u ≤ u))
   quick-asked = (λ h. (quick-light t h, never h), λ (light, h). quick-iff t r .1 (feasible-iff (simultaneous t) (simultaneous-ranged t r) .1 (none h)))

@@ -1,4 +1,5 @@
--- BUTTONS ALONE (`buttons-iff`): of a table whose tasks are all buttons, distance pass says exactly that for all arrivals that respect it some schedule is good.
+-- BUTTONS ALONE (`buttons-iff`): of a table whose tasks are all buttons, distance pass says exactly that for all arrivals that respect it some
+-- schedule is good.
 use mathlib.Core.Path.{_≡_, refl}
 use mathlib.Core.Logic.{_↔_}
 use mathlib.Core.Bool.{true, false, not, true≢false}

@@ -1,4 +1,5 @@
--- CALM PATTERNS (`calm-on-time`): jobs of a table's tasks that come at least a period apart, and have a calm pattern from every instant on, never miss a deadline.
+-- CALM PATTERNS (`calm-on-time`): jobs of a table's tasks that come at least a period apart, and have a calm pattern from every instant on, never
+-- miss a deadline.
 use mathlib.Core.Path.{_≡_, ap}
 use mathlib.Core.Logic.{_↔_}
 use mathlib.Core.Bool.{Bool, true, false, not}
@@ -41,13 +42,17 @@ pub calm-iff : (t : Table) → Ranged t → T (calm t) ↔ ((u : ℕ) → u ≤ 
 unfolding calm
 calm-iff t r = (
   λ c u l h. not-iff (missedAt t (tieOrder t) u) .0 (every-iff _ (suc (firstIdle t (tieOrder t))) .0 c u (omega arith)) (rw (missed-late (tieSystem t r) u) h),
-  λ h. every-iff _ (suc (firstIdle t (tieOrder t))) .1 (λ u l. not-iff (missedAt t (tieOrder t) u) .1 (λ x. h u (omega arith) (rw (missed-late (tieSystem t r) u) at x))),
+  λ h. every-iff _ (suc (firstIdle t (tieOrder t))) .1
+      (λ u l. not-iff (missedAt t (tieOrder t) u) .1 (λ x. h u (omega arith) (rw (missed-late (tieSystem t r) u) at x))),
 )
 
 -- It is calm in any other order of its tasks too, or in none.
 pub calm-any-order : (t : Table) (r : Ranged t) (rank : Order) → calm t ≡ calmBy rank t
 unfolding calm
-calm-any-order t r rank = rw (first-any-order t r rank (tieOrder t)) (ap (λ (n : ℕ). eqb n (suc (firstIdle t (tieOrder t)))) (count-eq _ _ (suc (firstIdle t (tieOrder t))) (λ u l. ap not (missed-any-order t r (tieOrder t) rank u))))
+calm-any-order t r rank =
+    rw (first-any-order t r rank (tieOrder t))
+    (ap (λ (n : ℕ). eqb n (suc (firstIdle t (tieOrder t))))
+    (count-eq _ _ (suc (firstIdle t (tieOrder t))) (λ u l. ap not (missed-any-order t r (tieOrder t) rank u))))
 
 -- Offsets in range whose pattern is calm, and in which no task starts later than its next job comes from an instant on.
 pub record CalmFrom (t : Table) (rel : ℕ → ℕ → ℕ) (from : ℕ) (start : ℕ → ℕ) : Type 0 where
@@ -68,7 +73,8 @@ module _ (t : Table) (r : Ranged t) (rel : ℕ → ℕ → ℕ) (apart : Apart (
   steps i m (suc j) l = let e : m + suc j ≡ suc (m + j) = omega arith in omega (arith, steps i m j l, apart i (m + j) l, ap (rel i) e)
 
   -- The pattern's jobs are pulled back.
-  calm-pulled : (from : ℕ) (start : ℕ → ℕ) (c : CalmFrom t rel from start) → let P = tieSystem (startingAt t start) (starting-ranged t r start (c .low)) in Pulled J D (jobs P) (dues P) from
+  calm-pulled : (from : ℕ) (start : ℕ → ℕ) (c : CalmFrom t rel from start) → let P = tieSystem (startingAt t start)
+      (starting-ranged t r start (c .low)) in Pulled J D (jobs P) (dues P) from
   calm-pulled from start c =
       record {
         same-n = starting-count t r start;
@@ -87,7 +93,8 @@ module _ (t : Table) (r : Ranged t) (rel : ℕ → ℕ → ℕ) (apart : Apart (
         go from (patterns from .0) (patterns from .1) misses
       where
         go : (from : ℕ) (start : ℕ → ℕ) (c : CalmFrom t rel from start)
-            → ((J′ : Jobs) (D′ : Dues J′) (s′ : ℕ → ℕ → ℕ) → Run J′ s′ → Pulled J D J′ D′ from → Late J′ D′ s′ (to - from) × ((x : ℕ) → 0 < x → x ≤ to - from → Idle J′ s′ x → ⊥)) → ⊥
+            → ((J′ : Jobs) (D′ : Dues J′) (s′ : ℕ → ℕ → ℕ) → Run J′ s′ → Pulled J D J′ D′ from → Late J′ D′ s′ (to - from)
+            × ((x : ℕ) → 0 < x → x ≤ to - from → Idle J′ s′ x → ⊥)) → ⊥
         go from start c misses =
             let p : Table = startingAt t start in
             let q : Ranged p = starting-ranged t r start (c .low) in
@@ -96,13 +103,17 @@ module _ (t : Table) (r : Ranged t) (rel : ℕ → ℕ → ℕ) (apart : Apart (
             let (((pos, idle), least), soon) = first-idle p q _ (omega (arith, starting-round t r start, starting-load t r start)) in
             elim (decLe (firstIdle p (tieOrder p)) (to - from)) [
               | yes l ↦ busy (firstIdle p (tieOrder p)) pos l (idle-streams P _ .0 idle)
-              | no l ↦ calm-iff p q .0 (c .still) (to - from) (omega arith) (over-iff P (to - from) .1 (late-iff-over (jobs P) (dues P) (servedOf P) (model-run P) (to - from) .0 missed))
+              | no l ↦
+                  calm-iff p q .0 (c .still) (to - from) (omega arith)
+                  (over-iff P (to - from) .1 (late-iff-over (jobs P) (dues P) (servedOf P) (model-run P) (to - from) .0 missed))
             ]
 
 -- So a table that has one from every instant on never asks too much.
-pub calm-never : (t : Table) (r : Ranged t) → load t ≤ round t → ((from : ℕ) → (start : ℕ → ℕ) × CalmFrom t (releaseOf (tieSystem t r)) from start) → NeverTooMuch t
+pub calm-never : (t : Table) (r : Ranged t) → load t ≤ round t → ((from : ℕ) → (start : ℕ → ℕ) × CalmFrom t (releaseOf (tieSystem t r)) from start)
+    → NeverTooMuch t
 calm-never t r light patterns =
-    never-iff t .1 (λ to h. calm-on-time t r (releaseOf S) (released-apart S) light (servedOf S) (model-run S) patterns to (late-iff-over (jobs S) (dues S) (servedOf S) (model-run S) to .1 (over-iff S to .0 h)))
+    never-iff t .1 (λ to h. calm-on-time t r (releaseOf S) (released-apart S) light (servedOf S) (model-run S) patterns to
+    (late-iff-over (jobs S) (dues S) (servedOf S) (model-run S) to .1 (over-iff S to .0 h)))
   where
     S : System
     S = tieSystem t r

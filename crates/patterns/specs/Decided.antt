@@ -31,13 +31,19 @@ module _ (t : Table) (r : Ranged t) where
   -- A round later the jobs of one round more are due.
   asked-later : (u : ℕ) → asked t (u + round t) ≡ asked t u + load t
   unfolding asked load
-  asked-later u = sum-eq (t .count) (askedOf t (u + round t)) (λ i. askedOf t u i + share t (round t) i) each ∙ sum-add (t .count) (askedOf t u) (share t (round t))
+  asked-later u =
+      sum-eq (t .count) (askedOf t (u + round t)) (λ i. askedOf t u i + share t (round t) i) each ∙ sum-add (t .count) (askedOf t u) (share t (round t))
     where
       each : (i : ℕ) → i < t .count → askedOf t (u + round t) i ≡ askedOf t u i + share t (round t) i
       each i l =
           let k = task t i in
-          let later : u + round t + k .period - k .deadline ≡ u + k .period - k .deadline + round t / k .period * k .period = omega (arith, div-mul-cancel (k .period) (period-divides t r i l), r .each i l .deadline-le) in
-          rw (later, add-mul-div-right (u + k .period - k .deadline) (round t / k .period) (r .each i l .period-pos), mul-add (k .cost) (dueBy k u) (round t / k .period)) refl
+          let later : u + round t + k .period - k .deadline ≡ u + k .period - k .deadline + round t / k .period * k .period = omega
+          (arith, div-mul-cancel (k .period) (period-divides t r i l), r .each i l .deadline-le) in
+          rw (
+            later,
+            add-mul-div-right (u + k .period - k .deadline) (round t / k .period) (r .each i l .period-pos),
+            mul-add (k .cost) (dueBy k u) (round t / k .period),
+          ) refl
 
   module _ (light : load t ≤ round t) (bound : ℕ) (beyond : EnoughBeyond t bound) where
     -- Round by round.

@@ -28,22 +28,29 @@ divisor-is a b pos = rw found (gcd-is a b)
     found : commonDivisor a b ≡ gcd a b
     found =
         last-is divides (suc a) (gcd a b) (omega (arith, le-of-dvd pos (both .divides-left)))
-        (and-iff (eqb (a % gcd a b) 0) (eqb (b % gcd a b) 0) .1 (eq→eqb _ 0 (dvd-iff-mod-eq-zero (gcd a b) .0 (both .divides-left)), eq→eqb _ 0 (dvd-iff-mod-eq-zero (gcd a b) .0 (both .divides-right))))
+        (and-iff (eqb (a % gcd a b) 0) (eqb (b % gcd a b) 0) .1
+        (eq→eqb _ 0 (dvd-iff-mod-eq-zero (gcd a b) .0 (both .divides-left)), eq→eqb _ 0 (dvd-iff-mod-eq-zero (gcd a b) .0 (both .divides-right))))
         (λ d l m h.
         let (x, y) = and-iff (eqb (a % d) 0) (eqb (b % d) 0) .0 h in
-        absurd (omega (arith, le-of-dvd (pos-of-dvd-of-pos (both .divides-left) pos) (both .greatest d (dvd-iff-mod-eq-zero d .1 (eqb→eq (a % d) 0 x)) (dvd-iff-mod-eq-zero d .1 (eqb→eq (b % d) 0 y))))))
+        absurd (omega (
+          arith,
+          le-of-dvd (pos-of-dvd-of-pos (both .divides-left) pos)
+              (both .greatest d (dvd-iff-mod-eq-zero d .1 (eqb→eq (a % d) 0 x)) (dvd-iff-mod-eq-zero d .1 (eqb→eq (b % d) 0 y))),
+        )))
 
 -- Multiples of what g divides do not change a remainder by g.
 mod-multiple : (x j p g : ℕ) → g ∣ p → (x + j * p) % g ≡ x % g
 mod-multiple x j p g d =
-    ap (λ (y : ℕ). (x + j * y) % g) (sym (div-mul-cancel g d)) ∙ ap (λ (y : ℕ). (x + y) % g) (sym (mul-assoc j (p / g) g)) ∙ add-mul-mod-self-right x (j * (p / g)) g
+    ap (λ (y : ℕ). (x + j * y) % g) (sym (div-mul-cancel g d)) ∙ ap (λ (y : ℕ). (x + y) % g) (sym (mul-assoc j (p / g) g))
+    ∙ add-mul-mod-self-right x (j * (p / g)) g
 
 -- A button is at distance 0, and a periodic task at the difference of the offsets, reduced.
 pub distance-button : (one other : Task) → isButton other ≡ true → distance one other ≡ 0
 unfolding distance
 distance-button one other e = rw e refl
 
-pub distance-periodic : (one other : Task) → isButton other ≡ false → distance one other ≡ reduced (int (offset other) -ℤ int (offset one)) (commonDivisor (one .period) (other .period))
+pub distance-periodic : (one other : Task) → isButton other ≡ false → distance one other ≡ reduced (int (offset other) -ℤ int (offset one))
+    (commonDivisor (one .period) (other .period))
 unfolding distance
 distance-periodic one other e = rw e refl
 

@@ -1,4 +1,5 @@
--- DISTANCE PASS (`distance-passes`): it means that the exact test passes the table, with any budget that reaches the horizon. A button counts as periodic from 0 on there.
+-- DISTANCE PASS (`distance-passes`): it means that the exact test passes the table, with any budget that reaches the horizon. A button counts as
+-- periodic from 0 on there.
 use mathlib.Core.Path.{_≡_, refl, ap, ap₂}
 use mathlib.Core.Bool.{Bool, true, false, cond, not, _||_}
 use Prim.Native.Nat.{ℕ, _+_, _≤_, _<_}
@@ -60,7 +61,8 @@ module _ (t : Table) (r : Ranged t) where
   pattern-ranged i l = starting-ranged t r (λ k. distance (task t i) (task t k)) (pattern-low i l)
 
   -- They are calm in any other order of the tasks too, or are not.
-  pub patterns-any-order : (rank : Order) → calmPatterns t ≡ cond (some (λ i. not (isButton (task t i))) (t .count)) (every (λ i. isButton (task t i) || calmBy rank (pattern t i)) (t .count)) (calmBy rank (simultaneous t))
+  pub patterns-any-order : (rank : Order) → calmPatterns t ≡ cond (some (λ i. not (isButton (task t i))) (t .count))
+      (every (λ i. isButton (task t i) || calmBy rank (pattern t i)) (t .count)) (calmBy rank (simultaneous t))
   patterns-any-order rank =
       ap₂ (λ (n : ℕ) (b : Bool). cond (some (λ i. not (isButton (task t i))) (t .count)) (eqb n (t .count)) b)
       (count-eq _ _ (t .count) (λ i l. ap (λ (b : Bool). isButton (task t i) || b) (calm-any-order (pattern t i) (pattern-ranged i l) rank)))
@@ -75,7 +77,9 @@ module _ (t : Table) (r : Ranged t) where
     next-from from k l = below-next (rel k) (coming (tieSystem t r) rel apart .rel-grows k l) from
 
     -- The pattern of the periodic task that comes next is near.
-    pattern-near : (from i : ℕ) → i < t .count → isButton (task t i) ≡ false → ((k : ℕ) → k < t .count → T (not (isButton (task t k))) → next from i ≤ next from k) → (k : ℕ) → k < t .count → from + distance (task t i) (task t k) ≤ next from k
+    pattern-near : (from i : ℕ) → i < t .count → isButton (task t i) ≡ false →
+        ((k : ℕ) → k < t .count → T (not (isButton (task t k))) → next from i ≤ next from k) → (k : ℕ) → k < t .count
+        → from + distance (task t i) (task t k) ≤ next from k
     pattern-near from i l e least k m = go (isButton (task t k)) refl
       where
         go : (b : Bool) → isButton (task t k) ≡ b → from + distance (task t i) (task t k) ≤ next from k
@@ -83,21 +87,33 @@ module _ (t : Table) (r : Ranged t) where
         go false q =
             let here = punctual i (below (rel i) from) l e in
             let there = punctual k (below (rel k) from) m q in
-            omega (arith, next-from from i l, here, there, distance-le (task t i) (task t k) (r .each i l .period-pos) (below (rel i) from) (below (rel k) from) (omega (arith, here, there, least k m (rw q tt))))
+            omega (
+              arith,
+              next-from from i l,
+              here,
+              there,
+              distance-le (task t i) (task t k) (r .each i l .period-pos) (below (rel i) from)
+                  (below (rel k) from) (omega (arith, here, there, least k m (rw q tt))),
+            )
 
     -- So from every instant on they have a calm pattern.
     pub calm-ahead : T (distancePass t) → (from : ℕ) → (start : ℕ → ℕ) × CalmFrom t rel from start
     unfolding distancePass
     calm-ahead h from = go (some (λ i. not (isButton (task t i))) (t .count)) refl (and-iff (light t) (calmPatterns t) .0 h .1)
       where
-        go : (b : Bool) → some (λ i. not (isButton (task t i))) (t .count) ≡ b → T (cond b (every (λ i. isButton (task t i) || calm (pattern t i)) (t .count)) (calm (simultaneous t)))
+        go : (b : Bool) → some (λ i. not (isButton (task t i))) (t .count) ≡ b → T
+            (cond b (every (λ i. isButton (task t i) || calm (pattern t i)) (t .count)) (calm (simultaneous t)))
             → (start : ℕ → ℕ) × CalmFrom t rel from start
         go false e c = (λ k. 0, record { low = λ k l. omega arith; near = λ k l. omega (arith, next-from from k l); still = c })
         go true e c =
             let (i, l, p, least) = smallest-of (λ k. not (isButton (task t k))) (t .count) (next from) (rw e tt) in
             let q : isButton (task t i) ≡ false = is-false (isButton (task t i)) (not-iff (isButton (task t i)) .0 p) in (
               λ k. distance (task t i) (task t k),
-              record { low = pattern-low i l; near = pattern-near from i l q least; still = rw q at (every-iff (λ k. isButton (task t k) || calm (pattern t k)) (t .count) .0 c i l) },
+              record {
+                low = pattern-low i l;
+                near = pattern-near from i l q least;
+                still = rw q at (every-iff (λ k. isButton (task t k) || calm (pattern t k)) (t .count) .0 c i l);
+              },
             )
 
   pub distance-never : T (distancePass t) → NeverTooMuch t

@@ -23,12 +23,15 @@ module _ (t : Table) (r : Ranged t) where
 
   -- Job j of a task is the one that arrives with j before it.
   number : (i j : ℕ) → i < t .count → count (releases t i) (release (task t i) j) ≡ j
-  number i j l = count-enumerated (releases t i) (release (task t i)) (grows i l) (release (task t i) j) (released-enumerates (task t i) (release (task t i) j)) (release (task t i) j) (omega arith) ∙ below-at (release (task t i)) (grows i l) j
+  number i j l =
+      count-enumerated (releases t i) (release (task t i)) (grows i l) (release (task t i) j) (released-enumerates (task t i) (release (task t i) j))
+      (release (task t i) j) (omega arith) ∙ below-at (release (task t i)) (grows i l) j
 
   pub good-released : (σ : Schedule) → GoodFor t (releases t) σ ↔ Good t σ
   unfolding GoodFor Good
   good-released σ = (
-    λ h i j l. rw (number i j l) at (h i (release (task t i) j) l (released-enumerates (task t i) (suc (release (task t i) j)) (release (task t i) j) (omega arith) .1 (j, refl))),
+    λ h i j l. rw (number i j l) at
+        (h i (release (task t i) j) l (released-enumerates (task t i) (suc (release (task t i) j)) (release (task t i) j) (omega arith) .1 (j, refl))),
     λ h i u l x.
         let (j, e) = released-enumerates (task t i) (suc u) u (omega arith) .0 x in
         subst (λ (v : ℕ). task t i .cost ≤ given σ i (count (releases t i) v) v (v + task t i .deadline)) e (rw (number i j l) (h i j l)),

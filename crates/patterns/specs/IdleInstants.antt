@@ -48,10 +48,12 @@ module _ (S : System) where
         | no p ↦ omega arith
       ]
 
-      served-all : (i : ℕ) → i < size S → (releaseOf S i (at S u i) < u → costOf S i ≤ given (run (S .table) (S .rank)) i (at S u i) 0 u) → released (jobs S) u i ≤ servedOf S u i
+      served-all : (i : ℕ) → i < size S → (releaseOf S i (at S u i) < u → costOf S i ≤ given (run (S .table) (S .rank)) i (at S u i) 0 u)
+          → released (jobs S) u i ≤ servedOf S u i
       served-all i l h = elim (decLt (servedOf S u i) (released (jobs S) u i)) [
         | yes p ↦
-            let early : releaseOf S i (at S u i) < u = work-lt (releaseOf S i) ((jobs S) .rel-grows i l) (costOf S i) u (servedOf S u i) (S .cost-pos i l) .0 p in
+            let early : releaseOf S i (at S u i) < u = work-lt (releaseOf S i) ((jobs S) .rel-grows i l) (costOf S i) u (servedOf S u i)
+            (S .cost-pos i l) .0 p in
             let short : servedOf S u i < costOf S i * suc (at S u i) = omega (arith, lt-mul-div-succ (servedOf S u i) (S .cost-pos i l)) in
             absurd (omega (arith, h early, undone-iff S i (at S u i) u l .1 short))
         | no p ↦ omega arith
@@ -60,7 +62,8 @@ module _ (S : System) where
 -- The order of the tasks does not matter.
 pub idle-any-order : (t : Table) (r : Ranged t) (rank rank′ : Order) (u : ℕ) → idleAt t rank u ≡ idleAt t rank′ u
 unfolding releasedAt
-idle-any-order t r rank rank′ u = same-test _ _ (λ h. idle-streams S′ u .1 (carry S S′ refl (idle-streams S u .0 h))) (λ h. idle-streams S u .1 (carry S′ S refl (idle-streams S′ u .0 h)))
+idle-any-order t r rank rank′ u =
+    same-test _ _ (λ h. idle-streams S′ u .1 (carry S S′ refl (idle-streams S u .0 h))) (λ h. idle-streams S u .1 (carry S′ S refl (idle-streams S′ u .0 h)))
   where
     S : System
     S = systemOf t r rank
@@ -69,4 +72,6 @@ idle-any-order t r rank rank′ u = same-test _ _ (λ h. idle-streams S′ u .1 
     S′ = systemOf t r rank′
 
     carry : (A B : System) → releasedAt (jobs A) ≡ releasedAt (jobs B) → Idle (jobs A) (servedOf A) u → Idle (jobs B) (servedOf B) u
-    carry A B e h = idle-waiting (jobs B) (servedOf B) u .1 (waiting-is (jobs B) (servedOf B) (model-run B) u ∙ rw (← e) (sym (waiting-is (jobs A) (servedOf A) (model-run A) u) ∙ idle-waiting (jobs A) (servedOf A) u .0 h))
+    carry A B e h =
+        idle-waiting (jobs B) (servedOf B) u .1 (waiting-is (jobs B) (servedOf B) (model-run B) u
+        ∙ rw (← e) (sym (waiting-is (jobs A) (servedOf A) (model-run A) u) ∙ idle-waiting (jobs A) (servedOf A) u .0 h))

@@ -14,7 +14,9 @@ pub idle-soon : (J : Jobs) (s : ℕ → ℕ → ℕ) → Run J s → (h : ℕ) �
 idle-soon J s R h pos fits = go (eq-zero-or-pos (backlog (releasedAt J) h))
   where
     from : (u : ℕ) → Busy (releasedAt J) h u → (u ≡ 0) ⊎ (0 < u) → (t : ℕ) × (0 < t) × (t ≤ h) × Idle J s t
-    from u b (inl e) = let z : 0 ≡ sum u (releasedAt J) = rw e (sum-none (releasedAt J)) in absurd (omega (arith, b .exact, b .busy h (b .early) (le-refl h), released-sum J h))
+    from u b (inl e) =
+        let z : 0 ≡ sum u (releasedAt J) = rw e (sum-none (releasedAt J)) in
+        absurd (omega (arith, b .exact, b .busy h (b .early) (le-refl h), released-sum J h))
     from u b (inr p) = (u, p, omega (arith, b .early), idle-waiting J s u .1 (waiting-is J s R u ∙ b .empty))
 
     go : (backlog (releasedAt J) h ≡ 0) ⊎ (0 < backlog (releasedAt J) h) → (t : ℕ) × (0 < t) × (t ≤ h) × Idle J s t

@@ -20,12 +20,18 @@ module _ (t : Table) (r : Ranged t) (Y : Cycle (tieSystem t r)) (u : ℕ) (rests
   late-back : (n : ℕ) → u ≤ n → Clear t (n + Y .round) → T (lateAt t (n + Y .round)) → ⊥
   late-back n m clear h =
       let (i, l, x) = late-iff t r (tieOrder t) (n + Y .round) clear .1 h in
-      clear n (omega (arith, Y .round-pos)) (late-iff t r (tieOrder t) n (λ v k. clear v (omega arith)) .0 (i, l, subst T (sym (late-same t (again t r Y u rests n m) i)) x))
+      clear n (omega (arith, Y .round-pos)) (late-iff t r (tieOrder t) n (λ v k. clear v (omega arith)) .0 (
+        i,
+        l,
+        subst T (sym (late-same t (again t r Y u rests n m) i)) x,
+      ))
 
   late-never : (n : ℕ) → Clear t n → T (lateAt t n) → ⊥
   late-never n before h = elim (decLt n (u + Y .round)) [
     | yes p ↦ rests .clear n p h
-    | no p ↦ (let e : n ≡ n - Y .round + Y .round = omega arith in late-back (n - Y .round) (omega arith) (subst (Clear t) e before) (subst (λ (x : ℕ). T (lateAt t x)) e h))
+    | no p ↦
+        (let e : n ≡ n - Y .round + Y .round = omega arith in late-back (n - Y .round) (omega arith) (subst (Clear t) e before)
+        (subst (λ (x : ℕ). T (lateAt t x)) e h))
   ]
 
   pub clear-ever : (n : ℕ) → Clear t n

@@ -20,4 +20,5 @@ mixed-good t r pass a k = on-time-good t r a k on-time
     on-time n =
         let rel = comesAt t a n in
         let apart = comes-apart t a k n in
-        calm-on-time t r rel apart (distance-light t pass) (runOf (before t r a k n)) (stream-run (before t r a k n)) (calm-ahead t r rel apart (comes-punctual t a n) pass) n
+        calm-on-time t r rel apart (distance-light t pass) (runOf (before t r a k n)) (stream-run (before t r a k n))
+        (calm-ahead t r rel apart (comes-punctual t a n) pass) n

@@ -12,7 +12,9 @@ use Rattle.wellformed.specs.WellFormed.{Buttonless}
 
 pub no-button : (t : Table) → 0 < t .count → Buttonless t → distancePass t ≡ (light t && every (λ i. calm (pattern t i)) (t .count))
 unfolding distancePass
-no-button t pos none = rw (is-true (some (λ i. not (isButton (task t i))) (t .count)) one) (ap (λ (n : ℕ). light t && eqb n (t .count)) (count-eq _ _ (t .count) (λ i l. rw (none i l))))
+no-button t pos none =
+    rw (is-true (some (λ i. not (isButton (task t i))) (t .count)) one)
+    (ap (λ (n : ℕ). light t && eqb n (t .count)) (count-eq _ _ (t .count) (λ i l. rw (none i l))))
   where
     one : T (some (λ i. not (isButton (task t i))) (t .count))
     one = some-iff (λ i. not (isButton (task t i))) (t .count) .1 (0, pos, rw (none 0 pos) tt)

@@ -1,4 +1,5 @@
--- ON THE WAY (`on-time-good`): the schedule that gives each slot by what has arrived so far is good, if no run of what arrives before some instant is late by then.
+-- ON THE WAY (`on-time-good`): the schedule that gives each slot by what has arrived so far is good, if no run of what arrives before some instant is
+-- late by then.
 use mathlib.Core.Path.{_≡_, refl, sym, ap}
 use mathlib.Core.Bool.{_&&_}
 use Prim.Native.Nat.{ℕ, suc, _+_, _*_, _≤_, _<_}
@@ -56,7 +57,9 @@ module _ (t : Table) (r : Ranged t) (a : Arrivals) (k : Respects t a) where
   -- Nothing that arrives later changes that.
   as-planned : (u n : ℕ) → u < n → planned n u ≡ onTheWay u
   unfolding onTheWay
-  as-planned u n h = slots-agree (before (suc u)) (before n) (suc u) (same-early u n h) (runOf (before (suc u))) (runOf (before n)) (stream-run (before (suc u))) (stream-run (before n)) u (omega arith)
+  as-planned u n h =
+      slots-agree (before (suc u)) (before n) (suc u) (same-early u n h) (runOf (before (suc u))) (runOf (before n)) (stream-run (before (suc u)))
+      (stream-run (before n)) u (omega arith)
 
   -- In the run of what arrives before n a job is late at n.
   abbrev pub LateBefore : ℕ → Type 0
@@ -67,13 +70,18 @@ module _ (t : Table) (r : Ranged t) (a : Arrivals) (k : Respects t a) where
     arrived-given : (i u n : ℕ) → i < t .count → T (a i u) → u + task t i .deadline ≤ n → task t i .cost ≤ given onTheWay i (count (a i) u) u n
     unfolding given
     arrived-given i u n l x h =
-        let at : comesAt t a n i (count (a i) u) ≡ u = enumerated-at (a i) (comesAt t a n i) (before n .rel-grows i l) n (comes-enumerates t a k n i l) u (omega (arith, r .each i l .deadline-pos)) x in
+        let at : comesAt t a n i (count (a i) u) ≡ u = enumerated-at (a i) (comesAt t a n i) (before n .rel-grows i l) n
+        (comes-enumerates t a k n i l) u (omega (arith, r .each i l .deadline-pos)) x in
         let had = stream-given (before n) (runOf (before n)) (stream-run (before n)) i (count (a i) u) n l (done (omega (arith, at))) in
         let moved : task t i .cost ≤ count (λ v. leb u v && belongs i (count (a i) u) (planned n v)) n = rw at at had in
         omega (arith, moved, count-eq _ _ n (λ v y. ap (λ (w : Slot). leb u v && belongs i (count (a i) u) w) (as-planned v n y)))
       where
         done : comesAt t a n i (count (a i) u) + task t i .deadline ≤ n → task t i .cost * suc (count (a i) u) ≤ runOf (before n) n i
-        done d = elim (decLe (task t i .cost * suc (count (a i) u)) (runOf (before n) n i)) [ yes p ↦ p | no p ↦ absurd (on-time n (i, count (a i) u, l, d, omega arith)) ]
+        done d =
+            elim (decLe (task t i .cost * suc (count (a i) u)) (runOf (before n) n i)) [
+              | yes p ↦ p
+              | no p ↦ absurd (on-time n (i, count (a i) u, l, d, omega arith))
+            ]
 
     pub on-time-good : (σ : Schedule) × GoodFor t a σ
     unfolding GoodFor

@@ -1,4 +1,5 @@
--- PRESSES ARE A HISTORY (`press-history`): up to any instant, the dispatcher's steps under any presses and done reports are those of a history of streams, which the run meets if the distance test passes.
+-- PRESSES ARE A HISTORY (`press-history`): up to any instant, the dispatcher's steps under any presses and done reports are those of a history of
+-- streams, which the run meets if the distance test passes.
 use mathlib.Core.Path.{_≡_, refl, ap, _∙_}
 use mathlib.Core.Logic.{inl, inr, _↔_}
 use mathlib.Core.Bool.{Bool, cond}
@@ -78,7 +79,8 @@ module _ (t : Table) (r : Ranged t) (done : ℕ → Bool) (pressed : ℕ → ℕ
 
   pub same-had : (i u d : ℕ) → u + d ≤ n → hadUnder t done pressed i u (u + d) ≡ givenTo (gaveFor t done onward) i u d
   unfolding hadUnder
-  same-had i u d h = since-sum (λ m. eqb (ownerUnder t done pressed m) i) u d ∙ sum-eq d _ _ (λ v l. ap (λ (m : ℕ). bit (eqb m i)) (same-owner (u + v) (omega arith)))
+  same-had i u d h =
+      since-sum (λ m. eqb (ownerUnder t done pressed m) i) u d ∙ sum-eq d _ _ (λ v l. ap (λ (m : ℕ). bit (eqb m i)) (same-owner (u + v) (omega arith)))
 
   pub same-told : (m i : ℕ) → m ≤ n → toldFor t done onward m i → T (doneUnder t done pressed i m)
   same-told m i h x = rw (same-state m h) x

@@ -1,4 +1,5 @@
--- EVERY JOB IN TIME, UNDER PRESSES (`in-time`): on a table that passes the distance test, by its deadline each job that arrived had its whole cost, or was reported done.
+-- EVERY JOB IN TIME, UNDER PRESSES (`in-time`): on a table that passes the distance test, by its deadline each job that arrived had its whole cost,
+-- or was reported done.
 use mathlib.Core.Path.{_≡_, ap, _∙_}
 use mathlib.Core.Bool.{Bool}
 use Prim.Native.Nat.{ℕ, _+_, _<_}

@@ -1,4 +1,5 @@
--- NONE GETS TOO MUCH, UNDER PRESSES (`never-more`): from an arrival until another can come a task has no more slots than its cost. Of any table that keeps its ranges.
+-- NONE GETS TOO MUCH, UNDER PRESSES (`never-more`): from an arrival until another can come a task has no more slots than its cost. Of any table that
+-- keeps its ranges.
 use mathlib.Core.Path.{_≡_}
 use mathlib.Core.Logic.{inl, inr}
 use mathlib.Core.Bool.{Bool, _&&_}
@@ -35,7 +36,9 @@ module _ (t : Table) (r : Ranged t) (done : ℕ → Bool) (pressed : ℕ → ℕ
       more d e =
           let at = arrives-at t r done pressed m i u l (omega (arith, r .each i l .period-pos)) x in
           let next = comes-apart t (arrivals t done pressed) (taken-respects t r done pressed) m i j l in
-          let most = at-most (J t r done pressed m) (D t r done pressed m) (toldFor t done (onward t r done pressed m)) (openFor t done (onward t r done pressed m)) (readyFor t done (onward t r done pressed m)) (gaveFor t done (onward t r done pressed m)) (press-history t r done pressed m) i j d l (omega arith) in
+          let most = at-most (J t r done pressed m) (D t r done pressed m) (toldFor t done (onward t r done pressed m))
+          (openFor t done (onward t r done pressed m)) (readyFor t done (onward t r done pressed m)) (gaveFor t done (onward t r done pressed m))
+          (press-history t r done pressed m) i j d l (omega arith) in
           rw (← e) (omega (arith, rw at at most, same-had t r done pressed m i u (suc d) (omega arith)))
 
       go : Dec (u < n) → hadUnder t done pressed i u n ≤ task t i .cost
@@ -45,5 +48,11 @@ module _ (t : Table) (r : Ranged t) (done : ℕ → Bool) (pressed : ℕ → ℕ
   -- So what is finished stays so.
   pub finished-stays : (n m : ℕ) → n ≤ m → FinishedUnder t done pressed i u n → FinishedUnder t done pressed i u m
   unfolding hadUnder
-  finished-stays n m h (inl e) = inl (le-antisymm (never-more (min m (u + task t i .period)) (omega arith)) (omega (arith, count-more (λ k. leb u k && eqb (ownerUnder t done pressed k) i) (min n (u + task t i .period)) (min m (u + task t i .period)) (omega arith))))
+  finished-stays n m h (inl e) =
+      inl (le-antisymm (never-more (min m (u + task t i .period)) (omega arith))
+      (omega (
+        arith,
+        count-more (λ k. leb u k && eqb (ownerUnder t done pressed k) i) (min n (u + task t i .period))
+            (min m (u + task t i .period)) (omega arith),
+      )))
   finished-stays n m h (inr (v, a, b, c)) = inr (v, a, omega arith, c)

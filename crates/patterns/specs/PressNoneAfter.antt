@@ -31,7 +31,8 @@ module _ (t : Table) (r : Ranged t) (done : ℕ → Bool) (pressed : ℕ → ℕ
       let k = taken-respects t r done pressed in
       let here = arrives-at t r done pressed (suc v) i u l (omega arith) x in
       let (j, e) = comes-enumerates t (arrivals t done pressed) k (suc v) i l v (le-refl (suc v)) .0 h in
-      between-none (rel t r done pressed (suc v) i) (J t r done pressed (suc v) .rel-grows i l) v (count (arrivals t done pressed i) u) (omega (arith, here)) (omega (arith, here, comes-apart t (arrivals t done pressed) k (suc v) i (count (arrivals t done pressed i) u) l)) j e)
+      between-none (rel t r done pressed (suc v) i) (J t r done pressed (suc v) .rel-grows i l) v (count (arrivals t done pressed i) u)
+      (omega (arith, here)) (omega (arith, here, comes-apart t (arrivals t done pressed) k (suc v) i (count (arrivals t done pressed i) u) l)) j e)
 
   -- What slot n may serve of the task's job; where no job comes it is what rules 1 and 2 leave.
   abbrev ready : ℕ → ℕ
@@ -50,11 +51,23 @@ module _ (t : Table) (r : Ranged t) (done : ℕ → Bool) (pressed : ℕ → ℕ
 
   left-next : (n : ℕ) → leftOf (stateUnder t done pressed (suc n)) i ≤ ready n
   unfolding stateUnder
-  left-next n = omega (arith, left-come t r (stateUnder t done pressed n) (done n) (comes t (stateUnder t done pressed n) (pressed n)) (belongs-under t r done pressed n) i l)
+  left-next n =
+      omega (
+        arith,
+        left-come t r (stateUnder t done pressed n) (done n) (comes t (stateUnder t done pressed n) (pressed n))
+            (belongs-under t r done pressed n) i l,
+      )
 
   closed-stays : (v d : ℕ) → u < v → v + d < u + task t i .period → ready v ≡ 0 → ready (v + d) ≡ 0
   closed-stays v zero a b z = rw (add-zero v) z
-  closed-stays v (suc d) a b z = rw (add-suc v d) (omega (arith, kept (suc (v + d)) (omega arith) (omega arith), late-le t (stateUnder t done pressed (suc (v + d))) (done (suc (v + d))) i, left-next (v + d), closed-stays v d a (omega arith) z))
+  closed-stays v (suc d) a b z =
+      rw (add-suc v d) (omega (
+        arith,
+        kept (suc (v + d)) (omega arith) (omega arith),
+        late-le t (stateUnder t done pressed (suc (v + d))) (done (suc (v + d))) i,
+        left-next (v + d),
+        closed-stays v d a (omega arith) z,
+      ))
 
   pub none-after : (n : ℕ) → u ≤ n → n < u + task t i .period → FinishedUnder t done pressed i u n → ownerUnder t done pressed n ≡ i → ⊥
   unfolding hadUnder

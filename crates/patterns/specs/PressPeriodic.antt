@@ -11,9 +11,11 @@ use Rattle.model.specs.Values.{refusal}
 use Rattle.model.specs.Limits.{slotCountLimit}
 use Rattle.model.specs.Tasks.{judgedMixed}
 use Rattle.model.specs.Run.{tieOrder}
-use Rattle.model.specs.Dispatcher.{State, waitOf, slotCount, admittedBy, admitted, started, refuseStep, stepped, steppedBy, stepAdmittedBy, slotTold, ownerNow, ownerNowBy, after, afterBy, turn, turnBy}
+use Rattle.model.specs.Dispatcher.{State, waitOf, slotCount, admittedBy, admitted, started, refuseStep, stepped, steppedBy, stepAdmittedBy, slotTold}
+use Rattle.model.specs.Dispatcher.{ownerNow, ownerNowBy, after, afterBy, turn, turnBy}
 use Rattle.model.specs.History.{stateAt, stateAtBy, ownerAt}
-use Rattle.model.specs.Presses.{comes, ownerCome, afterCome, startedMixed, refusePressed, pressTaken, pressAdmitted, admittedMixed, steppedPressed, stateUnder, ownerUnder}
+use Rattle.model.specs.Presses.{comes, ownerCome, afterCome, startedMixed, refusePressed, pressTaken, pressAdmitted, admittedMixed, steppedPressed}
+use Rattle.model.specs.Presses.{stateUnder, ownerUnder}
 use Rattle.wellformed.specs.Ranges.{Ranged}
 use Rattle.wellformed.specs.WellFormed.{Buttonless, judged-same, well-mixed}
 use Rattle.backlog.specs.Coming.{owner-same, after-same}
@@ -48,7 +50,9 @@ module _ (t : Table) (none : Buttonless t) where
   -- A step on any state gives the same answer and the same successor.
   module _ (d : State) (done : Bool) (pressed : ℕ) where
     abbrev Same : Admission → Type 0
-    Same a = (pressAdmitted t d done pressed a .answer ≡ stepAdmittedBy t (tieOrder t) d done a .answer) × (pressAdmitted t d done pressed a .state ≡ stepAdmittedBy t (tieOrder t) d done a .state)
+    Same a =
+        (pressAdmitted t d done pressed a .answer ≡ stepAdmittedBy t (tieOrder t) d done a .answer)
+        × (pressAdmitted t d done pressed a .state ≡ stepAdmittedBy t (tieOrder t) d done a .state)
 
     taken-same : Ranged t → (a : Admission) → Same a
     unfolding turnBy
@@ -56,8 +60,10 @@ module _ (t : Table) (none : Buttonless t) where
     taken-same r Admission.Admitted = go (eqb (slotCount t d) slotCountLimit)
       where
         go : (full : Bool)
-            → (cond full (refusePressed (refusal 9 0) d pressed) (pressTaken t d done pressed) .answer ≡ cond full (refuseStep (refusal 9 0) d) (record { answer = SlotAnswer.Slot (turn t d done); state = after t d done }) .answer)
-            × (cond full (refusePressed (refusal 9 0) d pressed) (pressTaken t d done pressed) .state ≡ cond full (refuseStep (refusal 9 0) d) (record { answer = SlotAnswer.Slot (turn t d done); state = after t d done }) .state)
+            → (cond full (refusePressed (refusal 9 0) d pressed) (pressTaken t d done pressed) .answer
+            ≡ cond full (refuseStep (refusal 9 0) d) (record { answer = SlotAnswer.Slot (turn t d done); state = after t d done }) .answer)
+            × (cond full (refusePressed (refusal 9 0) d pressed) (pressTaken t d done pressed) .state
+            ≡ cond full (refuseStep (refusal 9 0) d) (record { answer = SlotAnswer.Slot (turn t d done); state = after t d done }) .state)
         go true = (refl, refl)
         go false = (ap (λ (o : ℕ). SlotAnswer.Slot (slotTold t d done o)) (owner-is r d done pressed), after-is r d done pressed)
 

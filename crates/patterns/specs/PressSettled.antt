@@ -1,4 +1,5 @@
--- NOTHING LEFT, FINISHED (`settled`): on a table that passes the distance test, a job that has nothing left, before another can come, had its whole cost or was reported done.
+-- NOTHING LEFT, FINISHED (`settled`): on a table that passes the distance test, a job that has nothing left, before another can come, had its whole
+-- cost or was reported done.
 use mathlib.Core.Path.{_≡_, sym, ap, _∙_}
 use mathlib.Core.Logic.{_⊎_, inl, inr, _↔_}
 use mathlib.Core.Bool.{Bool}
@@ -30,7 +31,11 @@ finished-iff t done pressed i u n h = rw (min-eq-left h) (λ x. x, λ x. x)
 module _ (t : Table) (r : Ranged t) (done : ℕ → Bool) (pressed : ℕ → ℕ) (pass : T (distancePass t)) where
   -- At its deadline a job of the streams up to m has nothing left.
   pub gone : (m i j : ℕ) → i < t .count → openFor t done (onward t r done pressed m) (D t r done pressed m .due i j) i ≡ 0
-  gone m = none-late (J t r done pressed m) (D t r done pressed m) (toldFor t done (onward t r done pressed m)) (openFor t done (onward t r done pressed m)) (readyFor t done (onward t r done pressed m)) (gaveFor t done (onward t r done pressed m)) (press-history t r done pressed m) (due-first t r done pressed m) (runOf (J t r done pressed m)) (stream-run (J t r done pressed m)) (passed-met t r done pressed m pass)
+  gone m =
+      none-late (J t r done pressed m) (D t r done pressed m) (toldFor t done (onward t r done pressed m))
+      (openFor t done (onward t r done pressed m)) (readyFor t done (onward t r done pressed m)) (gaveFor t done (onward t r done pressed m))
+      (press-history t r done pressed m) (due-first t r done pressed m) (runOf (J t r done pressed m)) (stream-run (J t r done pressed m))
+      (passed-met t r done pressed m pass)
 
   module _ (i u : ℕ) (l : i < t .count) (x : T (arrivals t done pressed i u)) where
     pub settled : (n : ℕ) → u < n → n ≤ u + task t i .period → leftOf (stateUnder t done pressed n) i ≡ 0 → FinishedUnder t done pressed i u n
@@ -60,8 +65,13 @@ module _ (t : Table) (r : Ranged t) (done : ℕ → Bool) (pressed : ℕ → ℕ
             here : J t r done pressed m .rel i j ≡ u
             here = arrives-at t r done pressed m i u l (omega (arith, r .each i l .period-pos)) x
 
-            told-or-given : ((v : ℕ) × (0 < v) × (v ≤ d) × told (J t r done pressed m .rel i j + v) i) ⊎ (givenTo gave i (J t r done pressed m .rel i j) (suc d) + open' (J t r done pressed m .rel i j + suc d) i ≡ task t i .cost)
-            told-or-given = account (J t r done pressed m) (D t r done pressed m) told open' (readyFor t done (onward t r done pressed m)) gave (press-history t r done pressed m) (due-first t r done pressed m) (runOf (J t r done pressed m)) (stream-run (J t r done pressed m)) (passed-met t r done pressed m pass) i j d l (omega (arith, here, comes-apart t (arrivals t done pressed) (taken-respects t r done pressed) m i j l))
+            told-or-given : ((v : ℕ) × (0 < v) × (v ≤ d) × told (J t r done pressed m .rel i j + v) i)
+                ⊎ (givenTo gave i (J t r done pressed m .rel i j) (suc d) + open' (J t r done pressed m .rel i j + suc d) i ≡ task t i .cost)
+            told-or-given =
+                account (J t r done pressed m) (D t r done pressed m) told open' (readyFor t done (onward t r done pressed m)) gave
+                (press-history t r done pressed m) (due-first t r done pressed m) (runOf (J t r done pressed m))
+                (stream-run (J t r done pressed m)) (passed-met t r done pressed m pass) i j d l
+                (omega (arith, here, comes-apart t (arrivals t done pressed) (taken-respects t r done pressed) m i j l))
 
             at : ((v : ℕ) × (0 < v) × (v ≤ d) × told (u + v) i) ⊎ (givenTo gave i u (suc d) + open' (u + suc d) i ≡ task t i .cost)
                 → (hadUnder t done pressed i u n ≡ task t i .cost) ⊎ ((v : ℕ) × (u < v) × (v ≤ n) × T (doneUnder t done pressed i v))

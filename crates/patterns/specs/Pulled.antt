@@ -1,4 +1,5 @@
--- PULLED BACK (`pulled-late`): where the run of some streams has missed a deadline, streams of the same costs whose jobs come no later after some instant miss one before they are ever idle.
+-- PULLED BACK (`pulled-late`): where the run of some streams has missed a deadline, streams of the same costs whose jobs come no later after some
+-- instant miss one before they are ever idle.
 use mathlib.Core.Path.{_≡_, refl, ap}
 use mathlib.Core.Bool.{_&&_}
 use Prim.Native.Nat.{ℕ, suc, _+_, _-_, _*_, _≤_, _<_, min}
@@ -24,7 +25,8 @@ pub record Pulled (J : Jobs) (D : Dues J) (J′ : Jobs) (D′ : Dues J′) (from
 
 -- So no more of the first lie in an interval from there than of the others in one from 0.
 below-pulled : (f f′ : ℕ → ℕ) → Grows f → Grows f′ → (m c x : ℕ) → ((j : ℕ) → c + f′ j ≤ f (m + j)) → below f (c + x) ≤ m + below f′ x
-below-pulled f f′ g g′ m c x h = below-most f g (c + x) (m + below f′ x) (λ j l. grows-lt f g j (m + below f′ x) (omega (arith, h (below f′ x), below-next f′ g′ x)))
+below-pulled f f′ g g′ m c x h =
+    below-most f g (c + x) (m + below f′ x) (λ j l. grows-lt f g j (m + below f′ x) (omega (arith, h (below f′ x), below-next f′ g′ x)))
 
 -- What the jobs of stream i that are released at `from` or later and due by `to` ask for.
 abbrev asked : (J : Jobs) → Dues J → ℕ → ℕ → ℕ → ℕ
@@ -48,7 +50,8 @@ module _ (J : Jobs) (D : Dues J) (J′ : Jobs) (D′ : Dues J′) (from : ℕ) (
       each i l =
           omega (
             arith,
-            mul-le-mul-left (J .cost i) (below-pulled (J .rel i) (J′ .rel i) (J .rel-grows i l) (J′ .rel-grows i (member i l)) (below (J .rel i) from) from x (λ j. p .sooner i j l)),
+            mul-le-mul-left (J .cost i)
+                (below-pulled (J .rel i) (J′ .rel i) (J .rel-grows i l) (J′ .rel-grows i (member i l)) (below (J .rel i) from) from x (λ j. p .sooner i j l)),
             ap (λ (c : ℕ). c * below (J′ .rel i) x) (p .same-cost i l),
           )
 
@@ -60,13 +63,17 @@ module _ (J : Jobs) (D : Dues J) (J′ : Jobs) (D′ : Dues J′) (from : ℕ) (
       each : (i : ℕ) → i < J .n → asked J D from (from + x) i ≤ asked J′ D′ 0 x i
       each i l =
           let few : below (D .due i) (suc (from + x)) ≤ below (J .rel i) from + below (D′ .due i) (suc x) =
-          simp unary-clauses at (below-pulled (D .due i) (D′ .due i) (D .due-grows i l) (D′ .due-grows i (member i l)) (below (J .rel i) from) from (suc x) (λ j. p .due-sooner i j l)) in
+          simp unary-clauses at
+          (below-pulled (D .due i) (D′ .due i) (D .due-grows i l) (D′ .due-grows i (member i l)) (below (J .rel i) from) from (suc x)
+          (λ j. p .due-sooner i j l)) in
           let here = count-inside (J .rel i) (D .due i) (J .rel-grows i l) (D .due-grows i l) (λ j. D .rel-due i j l) from (from + x) in
-          let there = count-inside (J′ .rel i) (D′ .due i) (J′ .rel-grows i (member i l)) (D′ .due-grows i (member i l)) (λ j. D′ .rel-due i j (member i l)) 0 x in
+          let there = count-inside (J′ .rel i) (D′ .due i) (J′ .rel-grows i (member i l)) (D′ .due-grows i (member i l))
+          (λ j. D′ .rel-due i j (member i l)) 0 x in
           rw (p .same-cost i l, here, there, below-none (J′ .rel i)) (mul-le-mul-left (J .cost i) (omega arith))
 
 -- From where the backlog of the work that is due by t2 began, other streams miss a deadline by then, and wait all the time.
-module _ (J : Jobs) (D : Dues J) (t2 from : ℕ) (b : Busy (arrive J (D .cut t2)) t2 from) (some : 0 < backlog (arrive J (D .cut t2)) t2) (J′ : Jobs) (D′ : Dues J′) (s′ : ℕ → ℕ → ℕ) (R′ : Run J′ s′) (p : Pulled J D J′ D′ from) where
+module _ (J : Jobs) (D : Dues J) (t2 from : ℕ) (b : Busy (arrive J (D .cut t2)) t2 from) (some : 0 < backlog (arrive J (D .cut t2)) t2) (J′ : Jobs)
+    (D′ : Dues J′) (s′ : ℕ → ℕ → ℕ) (R′ : Run J′ s′) (p : Pulled J D J′ D′ from) where
   abbrev κ : ℕ
   κ = D .cut t2
 
@@ -76,7 +83,15 @@ module _ (J : Jobs) (D : Dues J) (t2 from : ℕ) (b : Busy (arrive J (D .cut t2)
       too-much : t2 - from - 0 < demand J′ D′ 0 (t2 - from)
       too-much =
           let e : from + (t2 - from) ≡ t2 = omega (arith, b .early) in
-          omega (arith, b .exact, arrived J κ t2, arrived J κ from, demand-arrives J D from t2, pulled-demand J D J′ D′ from p (t2 - from), ap (λ (y : ℕ). demand J D from y) e)
+          omega (
+            arith,
+            b .exact,
+            arrived J κ t2,
+            arrived J κ from,
+            demand-arrives J D from t2,
+            pulled-demand J D J′ D′ from p (t2 - from),
+            ap (λ (y : ℕ). demand J D from y) e,
+          )
 
   waits : (x : ℕ) → 0 < x → x ≤ t2 - from → Idle J′ s′ x → ⊥
   waits x pos l idle =
@@ -95,7 +110,8 @@ module _ (J : Jobs) (D : Dues J) (t2 from : ℕ) (b : Busy (arrive J (D .cut t2)
       ))
 
 pub pulled-late : (J : Jobs) (D : Dues J) (s : ℕ → ℕ → ℕ) → Run J s → (t2 : ℕ) → Late J D s t2
-    → (from : ℕ) × (from < t2) × ((J′ : Jobs) (D′ : Dues J′) (s′ : ℕ → ℕ → ℕ) → Run J′ s′ → Pulled J D J′ D′ from → Late J′ D′ s′ (t2 - from) × ((x : ℕ) → 0 < x → x ≤ t2 - from → Idle J′ s′ x → ⊥))
+    → (from : ℕ) × (from < t2) × ((J′ : Jobs) (D′ : Dues J′) (s′ : ℕ → ℕ → ℕ) → Run J′ s′ → Pulled J D J′ D′ from → Late J′ D′ s′ (t2 - from)
+    × ((x : ℕ) → 0 < x → x ≤ t2 - from → Idle J′ s′ x → ⊥))
 pulled-late J D s R t2 late =
     let some : 0 < backlog (arrive J (D .cut t2)) t2 = omega (arith, left-is J s R (D .cut t2) t2, left-of-late J D s t2 late) in
     let (from, b) = busy-from (arrive J (D .cut t2)) t2 some in

@@ -68,7 +68,10 @@ quick-same t r start = rw (starting-load t r start, starting-round t r start, st
 -- Exactly: it says that some schedule of the simultaneous table is good.
 pub quick-iff : (t : Table) → Ranged t → T (quickPass t) ↔ Feasible (simultaneous t)
 unfolding quickPass
-quick-iff t r = (λ h. feasible-iff s q .1 (quick-never s q (rw (quick-same t r (λ i. 0)) h)), λ h. passed (feasible-iff s q .0 h) (passes-iff s q (horizon s) (le-refl _) .1 h))
+quick-iff t r = (
+  λ h. feasible-iff s q .1 (quick-never s q (rw (quick-same t r (λ i. 0)) h)),
+  λ h. passed (feasible-iff s q .0 h) (passes-iff s q (horizon s) (le-refl _) .1 h),
+)
   where
     s : Table
     s = simultaneous t

@@ -15,12 +15,14 @@ use Rattle.patterns.specs.DistancePass.{pattern-ranged}
 
 pub quick-distance : (t : Table) → Ranged t → T (quickPass t) → T (distancePass t)
 unfolding distancePass quickPass
-quick-distance t r h = and-iff (light t) (calmPatterns t) .1 (and-iff (light t) (calm (simultaneous t)) .0 h .0, go (some (λ i. not (isButton (task t i))) (t .count)))
+quick-distance t r h =
+    and-iff (light t) (calmPatterns t) .1 (and-iff (light t) (calm (simultaneous t)) .0 h .0, go (some (λ i. not (isButton (task t i))) (t .count)))
   where
     each : (i : ℕ) → i < t .count → T (calm (pattern t i))
     each i l =
         let q : Ranged (pattern t i) = pattern-ranged t r i l in
-        calm-iff (pattern t i) q .1 (λ u m. never-iff (pattern t i) .0 (quick-never (pattern t i) q (rw (quick-same t r (λ k. distance (task t i) (task t k))) h)) u)
+        calm-iff (pattern t i) q .1
+        (λ u m. never-iff (pattern t i) .0 (quick-never (pattern t i) q (rw (quick-same t r (λ k. distance (task t i) (task t k))) h)) u)
 
     go : (b : Bool) → T (cond b (every (λ i. isButton (task t i) || calm (pattern t i)) (t .count)) (calm (simultaneous t)))
     go true = every-iff (λ i. isButton (task t i) || calm (pattern t i)) (t .count) .1 (λ i l. or-right (isButton (task t i)) _ (each i l))

@@ -62,13 +62,25 @@ module _ (t : Table) (r : Ranged t) (Y : Cycle (tieSystem t r)) where
   module _ (u : ℕ) (rests : Rests u) where
     -- So it had none left at u.
     shut-before : (i : ℕ) → i < t .count → leftOf (walked t u) i ≡ 0
-    shut-before i l = omega (arith, agrees t r (tieOrder t) u (λ v m. rests .clear v (omega arith)) i l, idle-before S Y (servedOf S) (model-run S) u (λ k m. omega (arith, agrees t r (tieOrder t) (u + Y .round) (rests .clear) k m, rests .shut k m)) i l)
+    shut-before i l =
+        omega (
+          arith,
+          agrees t r (tieOrder t) u (λ v m. rests .clear v (omega arith)) i l,
+          idle-before S Y (servedOf S) (model-run S) u (λ k m. omega (arith, agrees t r (tieOrder t) (u + Y .round) (rests .clear) k m, rests .shut k m)) i l,
+        )
 
     -- And its waits are the same.
     wait-later : (i : ℕ) → i < t .count → waitOf (walked t u) i ≡ waitOf (walked t (u + Y .round)) i
     wait-later i l =
-        let more : releasedBy S i (u + Y .round) ≡ releasedBy S i u + Y .times i = below-later (releaseOf S i) ((jobs S) .rel-grows i l) (Y .times i) (Y .round) (release-later S Y i l) u (omega (arith, Y .starts i l, rests .started)) in
-        omega (arith, sound t r (tieOrder t) quiet u .next i l, sound t r (tieOrder t) quiet (u + Y .round) .next i l, ap (releaseOf S i) more, release-later S Y i l (releasedBy S i u))
+        let more : releasedBy S i (u + Y .round) ≡ releasedBy S i u + Y .times i = below-later (releaseOf S i) ((jobs S) .rel-grows i l) (Y .times i)
+        (Y .round) (release-later S Y i l) u (omega (arith, Y .starts i l, rests .started)) in
+        omega (
+          arith,
+          sound t r (tieOrder t) quiet u .next i l,
+          sound t r (tieOrder t) quiet (u + Y .round) .next i l,
+          ap (releaseOf S i) more,
+          release-later S Y i l (releasedBy S i u),
+        )
 
     same-first : SameLater u
     same-first =
@@ -81,7 +93,8 @@ module _ (t : Table) (r : Ranged t) (Y : Cycle (tieSystem t r)) where
           lefts = listed (now .lefts ∙ sym (later .lefts)) (λ i l. shut-before i l ∙ sym (rests .shut i l)) (λ i l. none i l .1 ∙ sym (none-later i l .1));
         }
       where
-        listed : {v w : List ℕ} → length v ≡ length w → ((i : ℕ) → i < t .count → getD v i 0 ≡ getD w i 0) → ((i : ℕ) → t .count ≤ i → getD v i 0 ≡ getD w i 0) → v ≡ w
+        listed : {v w : List ℕ} → length v ≡ length w → ((i : ℕ) → i < t .count → getD v i 0 ≡ getD w i 0)
+            → ((i : ℕ) → t .count ≤ i → getD v i 0 ≡ getD w i 0) → v ≡ w
         listed {v} {w} e tasks others = ext-getD 0 v w e (λ i l. elim (decLt i (t .count)) [ yes p ↦ tasks i p | no p ↦ others i (omega arith) ])
 
   same-next : (n : ℕ) → SameLater n → SameLater (suc n)

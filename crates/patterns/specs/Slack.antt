@@ -40,10 +40,24 @@ module _ (t : Table) (r : Ranged t) where
           let k = task t i in
           let spare = k .period - k .deadline in
           let fits : dueBy k u * k .period ≤ u + spare = omega (arith, div-mul-le-self (u + k .period - k .deadline) (k .period), r .each i l .deadline-le) in
-          omega (arith, shares-round t r i l (dueBy k u) (u + spare) fits, add-mul u spare (share t (round t) i), mul-left-comm spare (k .cost) (round t / k .period))
+          omega (
+            arith,
+            shares-round t r i l (dueBy k u) (u + spare) fits,
+            add-mul u spare (share t (round t) i),
+            mul-left-comm spare (k .cost) (round t / k .period),
+          )
 
   pub slack-enough : load t ≤ round t → (u : ℕ) → slack t < round t + u * (round t - load t) → asked t u ≤ u
   slack-enough light u h = elim (decLt u (asked t u)) [
-    | yes p ↦ absurd (omega (arith, asked-slack u, mul-le-mul-left {m = u + 1} {n = asked t u} (round t) (omega arith), mul-add (round t) u 1, mul-comm (round t) u, mul-sub u (round t) (load t), mul-le-mul-left u light))
+    | yes p ↦
+        absurd (omega (
+          arith,
+          asked-slack u,
+          mul-le-mul-left {m = u + 1} {n = asked t u} (round t) (omega arith),
+          mul-add (round t) u 1,
+          mul-comm (round t) u,
+          mul-sub u (round t) (load t),
+          mul-le-mul-left u light,
+        ))
     | no p ↦ omega arith
   ]

@@ -1,4 +1,5 @@
--- OTHER OFFSETS (`starting-well-formed`): a well-formed table with all its tasks periodic, from offsets on that keep their range, is well-formed, with the same H and load.
+-- OTHER OFFSETS (`starting-well-formed`): a well-formed table with all its tasks periodic, from offsets on that keep their range, is well-formed,
+-- with the same H and load.
 use mathlib.Core.Path.{_≡_, refl, ap, ap₂, _∙_}
 use mathlib.Core.Bool.{_&&_}
 use Prim.Native.Nat.{ℕ, _*_, _/_, _%_, _^_, _≤_, _<_}
@@ -72,18 +73,26 @@ pub starting-mixed : (t : Table) (m : Measure) (start : ℕ → ℕ) → judgedM
     → judgedMixed (startingAt t start) ≡ Judgement.WellFormed (record { round = m .round; load = m .load; horizon = horizon (startingAt t start) })
 starting-mixed t m start e low =
     let (r, h, same) = mixed-iff t m .0 e in
-    mixed-iff (startingAt t start) _ .1 (starting-ranged t r start low, omega (arith, starting-round t r start), rw (starting-round t r start, starting-load t r start, same) refl)
+    mixed-iff (startingAt t start) _ .1 (
+      starting-ranged t r start low,
+      omega (arith, starting-round t r start),
+      rw (starting-round t r start, starting-load t r start, same) refl,
+    )
 
 pub starting-well-formed : (t : Table) (m : Measure) (start : ℕ → ℕ) → judgedMixed t ≡ Judgement.WellFormed m → ((i : ℕ) → i < t .count → start i ≤ slotLimit)
     → judged (startingAt t start) ≡ Judgement.WellFormed (record { round = m .round; load = m .load; horizon = horizon (startingAt t start) })
-starting-well-formed t m start e low = periodic-iff (startingAt t start) _ .1 (starting-mixed t m start e low, starting-buttonless t (mixed-iff t m .0 e .0) start)
+starting-well-formed t m start e low =
+    periodic-iff (startingAt t start) _ .1 (starting-mixed t m start e low, starting-buttonless t (mixed-iff t m .0 e .0) start)
 
 -- New offsets of new offsets.
 pub starting-again : (t : Table) → Ranged t → (start start′ : ℕ → ℕ) → startingAt (startingAt t start) start′ ≡ startingAt t start′
 unfolding startingAt
-starting-again t r start start′ = ap (λ w. record { count = t .count; tasks = w }) (fill-eq (t .count) _ _ _ (λ i l. ap (startingTask (start′ i)) (starting-task t r start i l)) ∙ fill-again (t .count) _ _ (t .tasks))
+starting-again t r start start′ =
+    ap (λ w. record { count = t .count; tasks = w })
+    (fill-eq (t .count) _ _ _ (λ i l. ap (startingTask (start′ i)) (starting-task t r start i l)) ∙ fill-again (t .count) _ _ (t .tasks))
 
 -- Offsets that agree.
 pub starting-eq : (t : Table) (start start′ : ℕ → ℕ) → ((i : ℕ) → i < t .count → start i ≡ start′ i) → startingAt t start ≡ startingAt t start′
 unfolding startingAt
-starting-eq t start start′ h = ap (λ w. record { count = t .count; tasks = w }) (fill-eq (t .count) _ _ (t .tasks) (λ i l. ap (λ (o : ℕ). startingTask o (task t i)) (h i l)))
+starting-eq t start start′ h =
+    ap (λ w. record { count = t .count; tasks = w }) (fill-eq (t .count) _ _ (t .tasks) (λ i l. ap (λ (o : ℕ). startingTask o (task t i)) (h i l)))

@@ -1,4 +1,5 @@
--- WHAT IS TAKEN RESPECTS THE TABLE (`taken-respects`): under any presses and done reports, periodic tasks arrive when they are released, and a button never sooner after an arrival than its spacing. Of any table that keeps its ranges.
+-- WHAT IS TAKEN RESPECTS THE TABLE (`taken-respects`): under any presses and done reports, periodic tasks arrive when they are released, and a button
+-- never sooner after an arrival than its spacing. Of any table that keeps its ranges.
 use mathlib.Core.Path.{_≡_, sym, ap, _∙_}
 use mathlib.Core.Logic.{inl, inr, _≢_}
 use mathlib.Core.Bool.{Bool, true, false, cond}

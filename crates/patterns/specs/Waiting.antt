@@ -59,7 +59,8 @@ module _ (J : Jobs) (s : ℕ → ℕ → ℕ) (R : Run J s) where
           omega (
             arith,
             waiting-more t,
-            sum-by (J .n) (λ i. released J (suc t) i - s t i) (λ i. released J (suc t) i - s (suc t) i) k 1 (d .bound) (omega (arith, d .one, d .ready)) (λ i l e. rw (d .rest i l e)),
+            sum-by (J .n) (λ i. released J (suc t) i - s t i) (λ i. released J (suc t) i - s (suc t) i) k 1 (d .bound)
+                (omega (arith, d .one, d .ready)) (λ i l e. rw (d .rest i l e)),
           )
 
   pub waiting-is : (t : ℕ) → waiting J s t ≡ backlog (releasedAt J) t

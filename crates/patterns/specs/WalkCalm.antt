@@ -24,7 +24,12 @@ idle-not-late : (S : System) (u : ℕ) → T (idleAt (S .table) (S .rank) u) →
 idle-not-late S u h late = let (i, j, l, d, g) = missed-iff S u .1 late in absurd (omega (arith, idle-iff S u .0 h i j l (omega (arith, S .deadline-pos i l))))
 
 pub walk-calm : (t : Table) → Ranged t → load t ≤ round t → (n : ℕ) → Clear t n → firstIdle t (tieOrder t) ≤ n → T (calm t)
-walk-calm t r light n c soon = calm-iff t r .1 (λ u l late. elim (decLt u n) [ yes p ↦ c u p late | no p ↦ idle-not-late (tieSystem t r) (firstIdle t (tieOrder t)) (first-idle t r _ light .0 .0 .1) (rw (at-end u l p) at late) ])
+walk-calm t r light n c soon =
+    calm-iff t r .1 (λ u l late. elim (decLt u n) [
+      | yes p ↦ c u p late
+      | no p ↦ idle-not-late (tieSystem t r) (firstIdle t (tieOrder t))
+          (first-idle t r _ light .0 .0 .1) (rw (at-end u l p) at late)
+    ])
   where
     at-end : (u : ℕ) → u ≤ firstIdle t (tieOrder t) → ¬ (u < n) → u ≡ firstIdle t (tieOrder t)
     at-end u l p = omega arith

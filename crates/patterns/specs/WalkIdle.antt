@@ -1,4 +1,5 @@
--- IDLE INSTANTS BY A WALK (`walk-idle-at`): with no late deadline before it, an instant is idle exactly if a walk without done reports has no slot left before its releases.
+-- IDLE INSTANTS BY A WALK (`walk-idle-at`): with no late deadline before it, an instant is idle exactly if a walk without done reports has no slot
+-- left before its releases.
 use mathlib.Core.Path.{_≡_}
 use mathlib.Core.Bool.{Bool}
 use Prim.Native.Nat.{ℕ}

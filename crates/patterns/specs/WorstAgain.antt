@@ -39,10 +39,12 @@ module _ (t : Table) (r : Ranged t) where
         next : Same (walked t (suc n)) (walked t (suc (n + Y .round)))
         next = rw suc-add at (again t r Y u rests (suc n) (omega arith))
 
-        noted-before : (i : ℕ) → i < t .count → Noting t r (tieOrder t) (n + Y .round) i → Noting t r (tieOrder t) n i → getD (worstBy t (suc (n + Y .round))) i 0 ≡ getD (worstBy t (n + Y .round)) i 0
+        noted-before : (i : ℕ) → i < t .count → Noting t r (tieOrder t) (n + Y .round) i → Noting t r (tieOrder t) n i
+            → getD (worstBy t (suc (n + Y .round))) i 0 ≡ getD (worstBy t (n + Y .round)) i 0
         noted-before i l (leaving q e) x = e
         noted-before i l (noting q z e) (leaving p f) = absurd (p (owner-same t now ∙ q) (ap (λ (w : List ℕ). getD w i 0) (next .lefts) ∙ z))
-        noted-before i l (noting q z e) (noting p y f) = omega (arith, e, f, ap (λ (w : List ℕ). getD w i 0) (next .waits), grows i l (suc n) (n + Y .round) (omega (arith, Y .round-pos)))
+        noted-before i l (noting q z e) (noting p y f) =
+            omega (arith, e, f, ap (λ (w : List ℕ). getD w i 0) (next .waits), grows i l (suc n) (n + Y .round) (omega (arith, Y .round-pos)))
 
     pub worst-ever : (n : ℕ) → u + Y .round ≤ n → worstBy t n ≡ worstBy t (u + Y .round)
     worst-ever n h = le-ind (λ (x : ℕ). worstBy t x ≡ worstBy t (u + Y .round)) refl step n h

@@ -47,6 +47,7 @@ module _ (p : ℕ → Bool) where
   found [] h = absurd (omega arith)
   found (x ∷ s) h = go (p x) refl (found s) h
     where
-      go : (b : Bool) → p x ≡ b → (lengthTo p s < length s → p (getD s (lengthTo p s) 0) ≡ true) → let n = cond b 0 (suc (lengthTo p s)) in n < length (x ∷ s) → p (getD (x ∷ s) n 0) ≡ true
+      go : (b : Bool) → p x ≡ b → (lengthTo p s < length s → p (getD s (lengthTo p s) 0) ≡ true)
+          → let n = cond b 0 (suc (lengthTo p s)) in n < length (x ∷ s) → p (getD (x ∷ s) n 0) ≡ true
       go true e later l = e
       go false e later l = later (omega arith)

@@ -11,7 +11,8 @@ use Rattle.walks.specs.Tally.{idleThen}
 
 -- The responses after a slot of this owner, with the lists after the slot.
 abbrev pub notedOf : List ℕ → ℕ → List ℕ → List ℕ → List ℕ → List ℕ
-notedOf worst owner period wait left = cond (ltb owner taskLimit && eqb (getD left owner 0) 0) (noted worst owner (getD period owner 0 - getD wait owner 0)) worst
+notedOf worst owner period wait left =
+    cond (ltb owner taskLimit && eqb (getD left owner 0) 0) (noted worst owner (getD period owner 0 - getD wait owner 0)) worst
 
 -- The first idle instant after 0, up to n: the one found before, or n if the n tasks have no slot left then, or 0.
 abbrev pub idleNoted : ℕ → List ℕ → ℕ → ℕ → ℕ

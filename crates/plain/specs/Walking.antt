@@ -48,13 +48,24 @@ module _ (t : Table) (r : Ranged t) (n : ℕ) {wait left : List ℕ} {owner : �
     where
       go : (owner ≡ taskLimit) ⊎ (owner < t .count) → notedOf (worstBy t n) owner (columnsOf t .period) wait left ≡ worstBy t (suc n)
       go (inl e) = rw (le-ltb owner taskLimit (omega arith), ← owned, le-ltb owner (t .count) (omega (arith, r .few)))
-      go (inr l) = rw (lt-ltb owner taskLimit (omega (arith, r .few)), ← owned, lt-ltb owner (t .count) l, w .waits, w .lefts, fill-has (t .count) (λ i. task t i .period) (replicate taskLimit 0) (r .few) owner l)
+      go (inr l) =
+          rw (
+            lt-ltb owner taskLimit (omega (arith, r .few)),
+            ← owned,
+            lt-ltb owner (t .count) l,
+            w .waits,
+            w .lefts,
+            fill-has (t .count) (λ i. task t i .period) (replicate taskLimit 0) (r .few) owner l,
+          )
 
 -- One turn of the walk, in the lists that it holds.
 pub walking-next :
     {t : Table} (r : Ranged t) → load t ≤ round t → {n : ℕ} {period cost slack rank : List ℕ} (set : Setting t (t .count) period cost slack rank)
-    {wait left worst wait′ left′ worst′ : List ℕ} {idle idle′ : ℕ} {now : Seen} (w : Walking t n wait left worst idle) (turned : Served wait left period cost slack rank (t .count) wait′ left′ now)
-    → now .late ≡ false → worst′ ≡ notedOf worst (now .owner) period wait′ left′ → idle′ ≡ idleNoted idle left′ (t .count) (n + 1) → Walking t (n + 1) wait′ left′ worst′ idle′
+    {wait left worst wait′ left′ worst′ : List ℕ} {idle idle′ : ℕ} {now : Seen} (w : Walking t n wait left worst idle)
+    (turned : Served wait left period cost slack rank (t .count) wait′ left′ now)
+    → now .late ≡ false → worst′ ≡ notedOf worst (now .owner) period wait′ left′ → idle′ ≡ idleNoted idle left′ (t .count) (n + 1)
+    → Walking t (n + 1) wait′ left′ worst′ idle′
 walking-next {t} r light {n} set w turned e f g =
     let next : Walked t (suc n) _ _ = walked-next r set (w .walk) turned e in
-    rw (f, g, add-one, w .tally .worsts, w .tally .idles, set .periods) (record { walk = next; tally = record { worsts = worst-next t r n next (owner-is r set (w .walk) turned e); idles = noted-next t r light n next } })
+    rw (f, g, add-one, w .tally .worsts, w .tally .idles, set .periods)
+    (record { walk = next; tally = record { worsts = worst-next t r n next (owner-is r set (w .walk) turned e); idles = noted-next t r light n next } })

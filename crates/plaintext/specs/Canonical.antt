@@ -16,7 +16,9 @@ use Rattle.values.specs.declared.Line.{Line}
 use Rattle.model.specs.Notation.{text, decimal}
 use Rattle.model.specs.Limits.{taskLimit, wordLimit, budgetLimit}
 use Rattle.model.specs.TableFile.{refuseFile, admit}
-use Rattle.model.specs.PlainText.{isLineFeed, isHash, isGap, isDigit, split, filled, linesOf, contentOf, wordsOf, allDigits, valueAfter, value, numberFault, numbersFault, same, budgetSaid, budgetLine, taskLine, lineOf, readLines, textForm, sortText, taskTexts, textOf}
+use Rattle.model.specs.PlainText.{isLineFeed, isHash, isGap, isDigit, split, filled, linesOf, contentOf, wordsOf, allDigits, valueAfter, value}
+use Rattle.model.specs.PlainText.{numberFault, numbersFault, same, budgetSaid, budgetLine, taskLine, lineOf, readLines, textForm, sortText, taskTexts}
+use Rattle.model.specs.PlainText.{textOf}
 use Rattle.tablefile.specs.Written.{AllFit, Fits32}
 use Rattle.text.specs.Decimal.{one-digit, last-digit}
 use Rattle.plaintext.specs.Words.{kept}
@@ -207,7 +209,8 @@ module _ (c d p : ℕ) where
 
   name-clear : (q : Sort) → All InLine (sortText q)
   unfolding text
-  name-clear (Sort.Periodic o) = and-blank (text "task " ++ decimal o) (and-number (text "task ") o (and-blank (text "task") (word-in-line (text "task") task-name)))
+  name-clear (Sort.Periodic o) =
+      and-blank (text "task " ++ decimal o) (and-number (text "task ") o (and-blank (text "task") (word-in-line (text "task") task-name)))
   name-clear Sort.Button = and-blank (text "button") (word-in-line (text "button") button-name)
 
   sort-clear : (q : Sort) → All InLine (sortContent q)
@@ -240,9 +243,31 @@ module _ (c d p : ℕ) where
   sort-said : (q : Sort) (count : ℕ) → count < taskLimit → Fits32 (sorted q) → lineOf true count (wordsOf (contentOf (sortContent q))) ≡ Line.OneTask (sorted q)
   unfolding lineOf taskLine numbersFault same text
   sort-said (Sort.Periodic o) count room (a, b, e, t) =
-      rw (content-whole (sortContent (Sort.Periodic o)) (sort-clear (Sort.Periodic o)), sort-words (Sort.Periodic o), lt-leb taskLimit count room, no-fault wordLimit o a, no-fault wordLimit c b, no-fault wordLimit d e, no-fault wordLimit p t, means o .back, means c .back, means d .back, means p .back)
+      rw (
+        content-whole (sortContent (Sort.Periodic o)) (sort-clear (Sort.Periodic o)),
+        sort-words (Sort.Periodic o),
+        lt-leb taskLimit count room,
+        no-fault wordLimit o a,
+        no-fault wordLimit c b,
+        no-fault wordLimit d e,
+        no-fault wordLimit p t,
+        means o .back,
+        means c .back,
+        means d .back,
+        means p .back,
+      )
   sort-said Sort.Button count room (a, b, e, t) =
-      rw (content-whole (sortContent Sort.Button) (sort-clear Sort.Button), sort-words Sort.Button, lt-leb taskLimit count room, no-fault wordLimit c b, no-fault wordLimit d e, no-fault wordLimit p t, means c .back, means d .back, means p .back)
+      rw (
+        content-whole (sortContent Sort.Button) (sort-clear Sort.Button),
+        sort-words Sort.Button,
+        lt-leb taskLimit count room,
+        no-fault wordLimit c b,
+        no-fault wordLimit d e,
+        no-fault wordLimit p t,
+        means c .back,
+        means d .back,
+        means p .back,
+      )
 
 module _ (k : Task) where
   abbrev taskContent : List ℕ
@@ -261,12 +286,14 @@ nothing-left : (b n : ℕ) (ks : List Task) → readLines true b ks n (linesOf [
 unfolding readLines lineOf split filled
 nothing-left b n ks = refl
 
-tasks-read : (b n : ℕ) (ks more : List Task) → AllFit more → length ks + length more ≤ taskLimit → readLines true b ks n (linesOf (taskTexts more)) ≡ admit b (ks ++ more)
+tasks-read : (b n : ℕ) (ks more : List Task) → AllFit more → length ks + length more ≤ taskLimit
+    → readLines true b ks n (linesOf (taskTexts more)) ≡ admit b (ks ++ more)
 unfolding readLines taskTexts
 tasks-read b n ks [] fits room = nothing-left b n ks ∙ ap (admit b) (sym (append-nil ks))
 tasks-read b n ks (k ∷ more) fits room =
     rw (line-then (taskContent k) (taskTexts more) (task-clear k), task-said k (length ks) (omega arith) (fits 0 (omega arith)))
-    (tasks-read b (suc n) (ks ++ (k ∷ [])) more (λ i l. fits (suc i) (omega arith)) (omega (arith, length-append ks (k ∷ []))) ∙ ap (admit b) (append-snoc ks k more))
+    (tasks-read b (suc n) (ks ++ (k ∷ [])) more (λ i l. fits (suc i) (omega arith)) (omega (arith, length-append ks (k ∷ [])))
+    ∙ ap (admit b) (append-snoc ks k more))
 
 -- The text of a budget above 0 and below 2^64 and of at most `taskLimit` tasks, each number below 2^32, has a good form and holds these.
 pub text-read : (b : ℕ) (ks : List Task) → 0 < b → b < budgetLimit → AllFit ks → length ks ≤ taskLimit

@@ -18,7 +18,8 @@ use Rattle.values.specs.declared.Admission.{Admission}
 use Rattle.model.specs.Limits.{taskLimit, wordLimit, budgetLimit}
 use Rattle.model.specs.Notation.{text}
 use Rattle.model.specs.TableFile.{tableOf, refuseFile}
-use Rattle.model.specs.PlainText.{isLineFeed, isHash, split, linesOf, withoutReturn, contentOf, wordsOf, numbersFault, number, same, unless, budgetLine, taskIn, buttonIn, taskLine, lineOf, afterLine, readLines, textForm}
+use Rattle.model.specs.PlainText.{isLineFeed, isHash, split, linesOf, withoutReturn, contentOf, wordsOf, numbersFault, number, same, unless}
+use Rattle.model.specs.PlainText.{budgetLine, taskIn, buttonIn, taskLine, lineOf, afterLine, readLines, textForm}
 use Rattle.tablefile.specs.Built.{withTask, stored}
 use Rattle.pieces.specs.Marks.{lengthTo, length-to-le}
 use Rattle.pieces.specs.Pieces.{split-last, split-more, first-piece}
@@ -30,7 +31,8 @@ no-bytes [] h = refl
 no-bytes (x ∷ l) h = absurd (omega arith)
 
 -- The bytes before a comment.
-pub before-comment : (l : List ℕ) (n r : ℕ) → n ≤ length l → take n l ≡ withoutReturn l → r ≡ lengthTo isHash (take n l) → (r ≤ length l) × (take r l ≡ contentOf l)
+pub before-comment : (l : List ℕ) (n r : ℕ) → n ≤ length l → take n l ≡ withoutReturn l → r ≡ lengthTo isHash (take n l) → (r ≤ length l)
+    × (take r l ≡ contentOf l)
 before-comment l n r h e q =
     let size : length (take n l) ≡ n = length-take-le n l h in
     let few : lengthTo isHash (take n l) ≤ length (take n l) = length-to-le isHash (take n l) in
@@ -143,7 +145,9 @@ Follows s given b t line ls (Line.Fault f) = refuseFile f line ≡ textForm s
 first-line : (s : List ℕ) → linesOf s ≡ take (lengthTo isLineFeed s) s ∷ drop 1 (linesOf s)
 first-line s = elim (decLt (lengthTo isLineFeed s) (length s)) [
   | yes h ↦ rw (split-more isLineFeed s h)
-  | no h ↦ let all : lengthTo isLineFeed s ≡ length s = omega (arith, length-to-le isLineFeed s) in rw (split-last isLineFeed s all, take-all (lengthTo isLineFeed s) s (omega arith))
+  | no h ↦
+      let all : lengthTo isLineFeed s ≡ length s = omega (arith, length-to-le isLineFeed s) in
+      rw (split-last isLineFeed s all, take-all (lengthTo isLineFeed s) s (omega arith))
 ]
 
 module _ {s : List ℕ} {given : Bool} {b : ℕ} {t : Table} {line : ℕ} (left : List ℕ) (r : Reached s given b t line (linesOf left)) where

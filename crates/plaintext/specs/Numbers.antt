@@ -35,7 +35,8 @@ unfolding lengthTo allDigits
 all-digits [] e = refl
 all-digits (x ∷ w) e = go (isDigit x) (all-digits w) e
   where
-    go : (b : Bool) → (lengthTo stranger w ≡ length w → allDigits w ≡ true) → cond (not b) 0 (suc (lengthTo stranger w)) ≡ length (x ∷ w) → b && allDigits w ≡ true
+    go : (b : Bool) → (lengthTo stranger w ≡ length w → allDigits w ≡ true) → cond (not b) 0 (suc (lengthTo stranger w)) ≡ length (x ∷ w)
+        → b && allDigits w ≡ true
     go true later h = later (omega arith)
     go false later h = absurd (omega arith)
 
@@ -44,7 +45,8 @@ unfolding lengthTo allDigits
 a-stranger [] h = absurd (omega arith)
 a-stranger (x ∷ w) h = go (isDigit x) (a-stranger w) h
   where
-    go : (b : Bool) → (lengthTo stranger w < length w → allDigits w ≡ false) → cond (not b) 0 (suc (lengthTo stranger w)) < length (x ∷ w) → b && allDigits w ≡ false
+    go : (b : Bool) → (lengthTo stranger w < length w → allDigits w ≡ false) → cond (not b) 0 (suc (lengthTo stranger w)) < length (x ∷ w)
+        → b && allDigits w ≡ false
     go true later l = later (omega arith)
     go false later l = refl
 
@@ -81,7 +83,11 @@ read-number limit w v digits e h = record { fault-is = rw (digits, e, lt-ltb v l
 
 pub too-large : (limit : ℕ) (w rest : List ℕ) (n v : ℕ) → allDigits w ≡ true → value w ≡ valueAfter n rest → limit ≤ n → NumberRead limit w 62 v
 too-large limit w rest n v digits e h =
-    record { fault-is = rw (digits, le-ltb (value w) limit (omega (arith, value-grows n rest))); value-is = λ z. absurd (omega arith); below = λ z. absurd (omega arith) }
+    record {
+      fault-is = rw (digits, le-ltb (value w) limit (omega (arith, value-grows n rest)));
+      value-is = λ z. absurd (omega arith);
+      below = λ z. absurd (omega arith);
+    }
 
 pub no-number : (limit : ℕ) (w : List ℕ) (v : ℕ) → allDigits w ≡ false → NumberRead limit w 61 v
 no-number limit w v e = record { fault-is = rw e; value-is = λ z. absurd (omega arith); below = λ z. absurd (omega arith) }
@@ -149,7 +155,8 @@ unfolding numbersFault
 no-limit limit [] = refl
 no-limit limit (w ∷ ws) = refl
 
-pub all-read : {limit n : ℕ} {ws : List (List ℕ)} {i f : ℕ} {left vs : List ℕ} → Reading limit n ws i left vs → n ≤ i → f ≡ numbersFault 0 0 (wordsOf left) → NumbersRead limit n ws f vs
+pub all-read : {limit n : ℕ} {ws : List (List ℕ)} {i f : ℕ} {left vs : List ℕ} → Reading limit n ws i left vs → n ≤ i
+    → f ≡ numbersFault 0 0 (wordsOf left) → NumbersRead limit n ws f vs
 all-read {limit} {n} {ws} {i} {f} {left} r h e =
     let done : n - i ≡ 0 = omega arith in
     record {

@@ -1,4 +1,5 @@
--- What is written as a text is read with the same budget and tasks; from a file to its text and back the bytes are the same, and so from a text in its canonical form.
+-- What is written as a text is read with the same budget and tasks; from a file to its text and back the bytes are the same, and so from a text in
+-- its canonical form.
 use mathlib.Core.Path.{_≡_, refl, sym, ap, _∙_}
 use mathlib.Core.List.{List}
 use Prim.Native.Nat.{ℕ, _<_}
@@ -34,7 +35,8 @@ pub written-text-reads : (t : Table) (b : ℕ) (buffer : List ℕ) (n : ℕ) →
 unfolding textWritten
 written-text-reads t b buffer n limit = go (judgedMixed t) refl
   where
-    go : (j : Judgement) → judgedMixed t ≡ j → writtenBy b (textOf b (tasksOf t)) buffer j .said ≡ Writing.Bytes n → textRead (take n (writtenBy b (textOf b (tasksOf t)) buffer j .buffer)) ≡ admit b (tasksOf t)
+    go : (j : Judgement) → judgedMixed t ≡ j → writtenBy b (textOf b (tasksOf t)) buffer j .said ≡ Writing.Bytes n
+        → textRead (take n (writtenBy b (textOf b (tasksOf t)) buffer j .buffer)) ≡ admit b (tasksOf t)
     go (Judgement.Refused r) well e = let z : _≡_ {A = ℕ} 0 1 = cc in absurd (omega arith)
     go (Judgement.WellFormed m) well e =
         let (some, front) = budgeted-front b (textOf b (tasksOf t)) buffer n e in
@@ -57,12 +59,14 @@ module _ (t : Table) (m : Measure) (b : ℕ) (buffer : List ℕ) (some : 0 < b) 
       (ap (λ (ks : List Task). fitted (textOf b ks) buffer) (tasks-back (tasksOf t)))
 
 -- The file of the text that was written of a file that is not refused is that file.
-pub back-to-file : (file lent buffer : List ℕ) (n : ℕ) → ((i : ℕ) → getD file i 0 < 256) → fileRead file .admission ≡ Admission.Admitted → toText file lent .said ≡ Writing.Bytes n
+pub back-to-file : (file lent buffer : List ℕ) (n : ℕ) → ((i : ℕ) → getD file i 0 < 256) → fileRead file .admission ≡ Admission.Admitted
+    → toText file lent .said ≡ Writing.Bytes n
     → fromText (take n (toText file lent .buffer)) buffer ≡ fitted file buffer
 back-to-file file lent buffer n bytes h said =
     let (some, limit, same, (m, well)) = file-of-read file bytes h in
     let t = fileRead file .table in
     let b = fileRead file .budget in
-    let made : toText file lent ≡ fitted (textOf b (tasksOf t)) lent = ap (λ (s : List ℕ). toText s lent) (sym same) ∙ file-to-text t m b lent some limit well in
+    let made : toText file lent ≡ fitted (textOf b (tasksOf t)) lent = ap (λ (s : List ℕ). toText s lent) (sym same)
+    ∙ file-to-text t m b lent some limit well in
     rw (made, fitted-front (textOf b (tasksOf t)) lent n (ap (λ (f : Filled). f .said) (sym made) ∙ said))
     (text-to-file t m b buffer some limit well ∙ ap (λ (s : List ℕ). fitted s buffer) same)

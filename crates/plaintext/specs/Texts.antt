@@ -47,7 +47,13 @@ pub task-short : (k : Task) → InRange k → length (taskText k) ≤ taskLineBy
 unfolding text
 task-short k r =
     simp length-append
-    (omega (arith, sort-short (k .sort) (r .offset-le), five (k .cost) (omega (arith, r .cost-le, r .deadline-le, r .period-le)), five (k .deadline) (omega (arith, r .deadline-le, r .period-le)), five (k .period) (r .period-le)))
+    (omega (
+      arith,
+      sort-short (k .sort) (r .offset-le),
+      five (k .cost) (omega (arith, r .cost-le, r .deadline-le, r .period-le)),
+      five (k .deadline) (omega (arith, r .deadline-le, r .period-le)),
+      five (k .period) (r .period-le),
+    ))
 
 texts-append : (ks : List Task) (k : Task) → taskTexts (ks ++ (k ∷ [])) ≡ taskTexts ks ++ taskText k
 unfolding taskTexts
@@ -59,12 +65,14 @@ pub task-put : (k : Task) {at next : ℕ} {before after : List ℕ}
     → Put ((sortText (k .sort) ++ decimal (k .cost)) ++ ((text " " ++ decimal (k .deadline)) ++ line (text " " ++ decimal (k .period)))) at before after next
     → Put (taskText k) at before after next
 task-put k {at} {next} {before} {after} =
-    let grouped : (sortText (k .sort) ++ decimal (k .cost)) ++ ((text " " ++ decimal (k .deadline)) ++ line (text " " ++ decimal (k .period))) ≡ taskText k = simp append-assoc in
+    let grouped : (sortText (k .sort) ++ decimal (k .cost)) ++ ((text " " ++ decimal (k .deadline)) ++ line (text " " ++ decimal (k .period)))
+    ≡ taskText k = simp append-assoc in
     subst (λ (l : List ℕ). Put l at before after next) grouped
 
 -- A turn of the loop that puts the tasks.
 pub one-more : (ks : List Task) (i : ℕ) {before between after : List ℕ} {at middle next : ℕ} → i < length ks
-    → Put (taskTexts (take i ks)) at before between middle → Put (taskText (getD ks i noTask)) middle between after next → Put (taskTexts (take (i + 1) ks)) at before after next
+    → Put (taskTexts (take i ks)) at before between middle → Put (taskText (getD ks i noTask)) middle between after next
+    → Put (taskTexts (take (i + 1) ks)) at before after next
 one-more ks i h p q = rw (add-one i, take-suc ks i noTask, texts-append (take i ks) (getD ks i noTask)) (join p q)
 
 -- What was put at the front of a buffer stands there.

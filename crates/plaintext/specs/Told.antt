@@ -21,7 +21,9 @@ use Rattle.model.specs.Values.{refusalSaid, writingSaid, admissionSaid}
 use Rattle.model.specs.Tasks.{noTask, judgedMixed}
 use Rattle.model.specs.TableFile.{fileOf, judgedTable, judgedForm, formOf, fileRead}
 use Rattle.model.specs.Writer.{Filled, tasksOf, writtenBy, fileWritten, fillTold}
-use Rattle.model.specs.PlainText.{same, numbersFault, number, unless, budgetSaid, budgetLine, taskIn, buttonIn, taskLine, lineOf, afterLine, readLines, linesOf, contentOf, wordsOf, textForm, formWritten, taskText, taskTexts, textOf, textWritten, toText, fromTextExported, toTextExported}
+use Rattle.model.specs.PlainText.{same, numbersFault, number, unless, budgetSaid, budgetLine, taskIn, buttonIn, taskLine, lineOf, afterLine}
+use Rattle.model.specs.PlainText.{readLines, linesOf, contentOf, wordsOf, textForm, formWritten, taskText, taskTexts, textOf, textWritten, toText}
+use Rattle.model.specs.PlainText.{fromTextExported, toTextExported}
 use Rattle.wellformed.specs.Ranges.{InRange, Ranged, holds-all}
 use Rattle.tablefile.specs.Refused.{AdmissionTellable, form-tellable}
 use Rattle.tablefile.specs.Written.{read-written}
@@ -70,7 +72,8 @@ unfolding readLines
 lines-tellable true b ks n [] = tt
 lines-tellable false b ks n [] = (lit< tt, omega arith)
 lines-tellable given b ks n (l ∷ ls) =
-    after-tellable (λ g x js. readLines g x js (suc n) ls) given b ks (suc n) (lineOf given (length ks) (wordsOf (contentOf l))) (line-faulty given (length ks) (wordsOf (contentOf l)))
+    after-tellable (λ g x js. readLines g x js (suc n) ls) given b ks (suc n) (lineOf given (length ks) (wordsOf (contentOf l)))
+    (line-faulty given (length ks) (wordsOf (contentOf l)))
     (λ g x js. lines-tellable g x js (suc n) ls)
 
 pub text-tellable : (s : List ℕ) → AdmissionTellable (textForm s .admission)
@@ -96,7 +99,8 @@ text-short t b limit r =
 -- ---- The calls
 
 -- The form comes first; what is written of a good one may use that it is good.
-form-apart : (most : ℕ) (buffer bytes : List ℕ) (go : Filled) (a : Admission) → AdmissionTellable a → (a ≡ Admission.Admitted → Apart most buffer bytes (fillTold (go .buffer) (go .said)))
+form-apart : (most : ℕ) (buffer bytes : List ℕ) (go : Filled) (a : Admission) → AdmissionTellable a
+    → (a ≡ Admission.Admitted → Apart most buffer bytes (fillTold (go .buffer) (go .said)))
     → let f = formWritten buffer go a in Apart most buffer bytes (fillTold (f .buffer) (f .said))
 form-apart most buffer bytes go (Admission.Refused r) n h = inr (r, refl, n)
 form-apart most buffer bytes go Admission.Admitted n h = h refl
@@ -104,14 +108,17 @@ form-apart most buffer bytes go Admission.Admitted n h = h refl
 pub from-text-apart : (s buffer : List ℕ) → let l = textForm s in Apart longestFile buffer (fileOf (l .budget) (tasksOf (l .table))) (fromTextExported s buffer)
 from-text-apart s buffer =
     let l = textForm s in
-    form-apart longestFile buffer (fileOf (l .budget) (tasksOf (l .table))) (fileWritten (l .table) (l .budget) buffer) (l .admission) (text-tellable s) (λ good. file-apart buffer (l .table) (l .budget))
+    form-apart longestFile buffer (fileOf (l .budget) (tasksOf (l .table))) (fileWritten (l .table) (l .budget) buffer) (l .admission)
+    (text-tellable s) (λ good. file-apart buffer (l .table) (l .budget))
 
-pub to-text-apart : (file buffer : List ℕ) → ((i : ℕ) → getD file i 0 < 256) → let l = formOf file in Apart longestText buffer (textOf (l .budget) (tasksOf (l .table))) (toTextExported file buffer)
+pub to-text-apart : (file buffer : List ℕ) → ((i : ℕ) → getD file i 0 < 256)
+    → let l = formOf file in Apart longestText buffer (textOf (l .budget) (tasksOf (l .table))) (toTextExported file buffer)
 unfolding textWritten
 to-text-apart file buffer bytes =
     let l = formOf file in
     form-apart longestText buffer (textOf (l .budget) (tasksOf (l .table))) (textWritten (l .table) (l .budget) buffer) (l .admission) (form-tellable file)
-    (λ good. table-apart longestText (lit< tt) buffer (l .table) (l .budget) (textOf (l .budget) (tasksOf (l .table))) (text-short (l .table) (l .budget) (read-written file bytes good .1)))
+    (λ good. table-apart longestText (lit< tt) buffer (l .table) (l .budget) (textOf (l .budget) (tasksOf (l .table)))
+    (text-short (l .table) (l .budget) (read-written file bytes good .1)))
 
 -- A file that is refused when it is read is refused in the same way when its text is to be written.
 pub refused-to-text : (file buffer : List ℕ) (r : Refusal) → fileRead file .admission ≡ Admission.Refused r
@@ -124,6 +131,7 @@ refused-to-text file buffer r = go (formOf file) (formOf file .admission) refl
     go l (Admission.Refused q) e h = (ap admissionSaid (sym e ∙ h), refl)
     go l Admission.Admitted e h = by-table (judgedMixed (l .table)) h
       where
-        by-table : (j : Judgement) → judgedTable l j .admission ≡ Admission.Refused r → let f = writtenBy (l .budget) (textOf (l .budget) (tasksOf (l .table))) buffer j in (writingSaid (f .said) ≡ refusalSaid r) × (f .buffer ≡ buffer)
+        by-table : (j : Judgement) → judgedTable l j .admission ≡ Admission.Refused r
+            → let f = writtenBy (l .budget) (textOf (l .budget) (tasksOf (l .table))) buffer j in (writingSaid (f .said) ≡ refusalSaid r) × (f .buffer ≡ buffer)
         by-table (Judgement.Refused q) h = (ap admissionSaid h, refl)
         by-table (Judgement.WellFormed m) h = let z : _≡_ {A = ℕ} 0 1 = cc in absurd (omega arith)

@@ -66,11 +66,13 @@ module _ (p : ℕ → Bool) where
         let n = lengthTo p s in
         let size : length (take n s) ≡ n = length-take-le n s (omega arith) in
         let next : drop n s ≡ getD s n 0 ∷ drop (suc n) s = drop-cons s n 0 l in
-        rw (split-more p s l, kept (take n s) (split p (drop (suc n) s)) (omega arith), next) (ap (λ (ws : List (List ℕ)). take n s ∷ ws) (sym (gap-first (getD s n 0) (drop (suc n) s) (found p s l))))
+        rw (split-more p s l, kept (take n s) (split p (drop (suc n) s)) (omega arith), next)
+        (ap (λ (ws : List (List ℕ)). take n s ∷ ws) (sym (gap-first (getD s n 0) (drop (suc n) s) (found p s l))))
     | no l ↦
         let n = lengthTo p s in
         let all : n ≡ length s = omega (arith, length-to-le p s) in
-        rw (split-last p s all, kept s [] (omega arith), take-all n s (omega arith), drop-of-length-le s {i = n} (omega arith)) (ap (λ (ws : List (List ℕ)). s ∷ ws) (sym nothing))
+        rw (split-last p s all, kept s [] (omega arith), take-all n s (omega arith), drop-of-length-le s {i = n} (omega arith))
+        (ap (λ (ws : List (List ℕ)). s ∷ ws) (sym nothing))
   ]
 
   -- Where a word begins, there is no gap.
@@ -91,8 +93,14 @@ next-word s =
     record {
       order = omega arith;
       inside = omega (arith, length-drop from s, length-to-le (λ x. not (isGap x)) s);
-      none = λ e. no-word isGap s (elim (decLt from (length s)) [ yes l ↦ absurd (omega (arith, begins l)) | no l ↦ omega (arith, length-to-le (λ x. not (isGap x)) s) ]);
-      some = λ l. let size : from + word - from ≡ word = omega arith in gaps isGap s ∙ one-word isGap (drop from s) (omega arith) ∙ rw (size, drop-drop word from s);
+      none =
+          λ e. no-word isGap s (elim (decLt from (length s)) [
+            | yes l ↦ absurd (omega (arith, begins l))
+            | no l ↦ omega (arith, length-to-le (λ x. not (isGap x)) s)
+          ]);
+      some =
+          λ l. let size : from + word - from ≡ word = omega arith in gaps isGap s ∙ one-word isGap (drop from s) (omega arith)
+          ∙ rw (size, drop-drop word from s);
     }
 
 pub found-word : (s : List ℕ) {from word : ℕ} → from ≡ lengthTo (λ x. not (isGap x)) s → word ≡ lengthTo isGap (drop from s) → NextWord s from (from + word)

@@ -49,7 +49,8 @@ pub record Pressable (t : Table) (d : State) : Type 0 where
   pub fits : Fitting t d
   pub room : slotCount t d < slotCountLimit
 
-pub pressable : (t : Table) (d : State) → Ranged t → admittedBy t d (Judgement.WellFormed (measure t)) ≡ Admission.Admitted → slotCount t d < slotCountLimit → Pressable t d
+pub pressable : (t : Table) (d : State) → Ranged t → admittedBy t d (Judgement.WellFormed (measure t)) ≡ Admission.Admitted
+    → slotCount t d < slotCountLimit → Pressable t d
 pressable t d r e l = record { ranged = r; fits = fitting t d (measure t) e; room = l }
 
 -- The lists are those that a step leaves, and the owner, the late set and the presses that were not taken are its own.
@@ -75,7 +76,8 @@ module _ (t : Table) (d : State) (done : Bool) (pressed : ℕ) (p : Pressable t 
   held i = cond (holds i) 1 (waitOf d i)
 
   -- The presses that are not taken, and the waits with those buttons held, from the set of the free ones.
-  untaken-is : {free untaken : ℕ} → free ≡ bits (isFree t (d .wait)) taskLimit → untaken ≡ bits (λ i. inSet pressed i && not (inSet free i)) taskLimit → untaken ≡ notTaken t d pressed
+  untaken-is : {free untaken : ℕ} → free ≡ bits (isFree t (d .wait)) taskLimit → untaken ≡ bits (λ i. inSet pressed i && not (inSet free i)) taskLimit
+      → untaken ≡ notTaken t d pressed
   unfolding notTaken
   untaken-is e q = q ∙ bits-eq _ _ taskLimit (λ i l. rw (e, in-bits (isFree t (d .wait)) taskLimit i l) (both (inSet pressed i) (isFree t (d .wait) i)))
     where
@@ -83,9 +85,16 @@ module _ (t : Table) (d : State) (done : Bool) (pressed : ℕ) (p : Pressable t 
       both true b = refl
       both false b = refl
 
-  held-fill : {free idle : ℕ} {wait : List ℕ} → free ≡ bits (isFree t (d .wait)) taskLimit → idle ≡ bits (λ i. inSet free i && not (inSet pressed i)) taskLimit → wait ≡ putAll (d .wait) idle 1 (t .count) → wait ≡ fill (t .count) held (d .wait)
+  held-fill : {free idle : ℕ} {wait : List ℕ} → free ≡ bits (isFree t (d .wait)) taskLimit
+      → idle ≡ bits (λ i. inSet free i && not (inSet pressed i)) taskLimit → wait ≡ putAll (d .wait) idle 1 (t .count) → wait ≡ fill (t .count) held (d .wait)
   unfolding putAll
-  held-fill {free} e q s = s ∙ fill-eq (t .count) _ _ (d .wait) (λ i l. let few : i < taskLimit = omega (arith, p .ranged .few) in rw (q, in-bits (λ k. inSet free k && not (inSet pressed k)) taskLimit i few, e, in-bits (isFree t (d .wait)) taskLimit i few))
+  held-fill {free} e q s =
+      s ∙ fill-eq (t .count) _ _ (d .wait) (λ i l. let few : i < taskLimit = omega (arith, p .ranged .few) in rw (
+        q,
+        in-bits (λ k. inSet free k && not (inSet pressed k)) taskLimit i few,
+        e,
+        in-bits (isFree t (d .wait)) taskLimit i few,
+      ))
 
   -- A task whose wait is 0 has no open job once the late ones are closed.
   none-open : (i : ℕ) → i < t .count → waitOf d i ≡ 0 → leftLate t d done i ≡ 0
@@ -103,7 +112,8 @@ module _ (t : Table) (d : State) (done : Bool) (pressed : ℕ) (p : Pressable t 
   unfolding Cases
   cases i l = rw (lt-ltb i (t .count) l) (go (isButton (task t i)) (inSet pressed i) (eqb (waitOf d i) 0) refl)
     where
-      go : (b s z : Bool) → eqb (waitOf d i) 0 ≡ z → (((b && z) && not s ≡ true) × (cond b (s && (b && z)) z ≡ false) × (waitOf d i ≡ 0)) ⊎ (((b && z) && not s ≡ false) × (cond b (s && (b && z)) z ≡ z))
+      go : (b s z : Bool) → eqb (waitOf d i) 0 ≡ z → (((b && z) && not s ≡ true) × (cond b (s && (b && z)) z ≡ false) × (waitOf d i ≡ 0))
+          ⊎ (((b && z) && not s ≡ false) × (cond b (s && (b && z)) z ≡ z))
       go true true true e = inr (refl, refl)
       go true false true e = inl (refl, refl, eqb→eq (waitOf d i) 0 (rw e tt))
       go true true false e = inr (refl, refl)
@@ -130,7 +140,8 @@ module _ (t : Table) (d : State) (done : Bool) (pressed : ℕ) (p : Pressable t 
       go (inl (h, c, z)) = rw (h, c) (omega arith)
       go (inr (h, c)) = rw (h, c)
 
-  due-same : (i : ℕ) → i < t .count → 0 < leftCome t d done (comes t d pressed) i → waitThen held (λ k. task t k .period) i ≡ waitCome t d done (comes t d pressed) i
+  due-same : (i : ℕ) → i < t .count → 0 < leftCome t d done (comes t d pressed) i
+      → waitThen held (λ k. task t k .period) i ≡ waitCome t d done (comes t d pressed) i
   unfolding Cases
   due-same i l = go (cases i l)
     where
@@ -167,13 +178,16 @@ module _ (t : Table) (d : State) (done : Bool) (pressed : ℕ) (p : Pressable t 
         go true q = let (i, l, h) = s .found q in absurd (calm i l h)
         go false q = q
 
-    slot : Slotted (t .count) held (leftLate t d done) (λ i. task t i .period) (λ i. task t i .cost) (λ i. task t i .period - task t i .deadline) (tieOrder t) wait left wait′ left′ (seen .owner)
+    slot : Slotted (t .count) held (leftLate t d done) (λ i. task t i .period) (λ i. task t i .cost) (λ i. task t i .period - task t i .deadline)
+        (tieOrder t) wait left wait′ left′ (seen .owner)
     slot = table-served t (p .ranged .few) wait left held (leftLate t d done) has-waits has-lefts (s .slot none-late)
 
     owner-is : seen .owner ≡ ownerCome t d done (comes t d pressed)
     owner-is =
         slot .owned
-        ∙ chosen-same (λ i. ltb 0 (leftThen held (leftLate t d done) (λ k. task t k .cost) i)) (λ i. ltb 0 (leftCome t d done (comes t d pressed) i)) (λ i. waitThen held (λ k. task t k .period) i - (task t i .period - task t i .deadline)) (dueCome t (p .ranged) d done (comes t d pressed)) (tieOrder t) (t .count) _ _ (p .ranged .few)
+        ∙ chosen-same (λ i. ltb 0 (leftThen held (leftLate t d done) (λ k. task t k .cost) i)) (λ i. ltb 0 (leftCome t d done (comes t d pressed) i))
+        (λ i. waitThen held (λ k. task t k .period) i - (task t i .period - task t i .deadline))
+        (dueCome t (p .ranged) d done (comes t d pressed)) (tieOrder t) (t .count) _ _ (p .ranged .few)
         (λ i l h. rw (left-same i l) at h)
         (λ i l h. rw (left-same i l) h)
         (λ i k l m x y h. rw (due-same i l (opened i l x), due-same k m (opened k m y)) h)
@@ -183,13 +197,16 @@ module _ (t : Table) (d : State) (done : Bool) (pressed : ℕ) (p : Pressable t 
         opened i l x = ltb→lt 0 (leftCome t d done (comes t d pressed) i) (rw (left-same i l) at x)
 
     lefts-are : left′ ≡ fill (t .count) (λ i. leftCome t d done (comes t d pressed) i - cond (eqb (ownerCome t d done (comes t d pressed)) i) 1 0) (d .left)
-    lefts-are = rw owner-is at (slot .lefts ∙ ap (fill (t .count) _) e ∙ fill-again (t .count) _ _ (d .left)) ∙ fill-eq (t .count) _ _ (d .left) (λ i l. rw (left-same i l))
+    lefts-are =
+        rw owner-is at (slot .lefts ∙ ap (fill (t .count) _) e ∙ fill-again (t .count) _ _ (d .left))
+        ∙ fill-eq (t .count) _ _ (d .left) (λ i l. rw (left-same i l))
 
     waits-are : wait′ ≡ fill (t .count) (λ i. waitCome t d done (comes t d pressed) i - 1) (d .wait)
     waits-are = slot .waits ∙ ap (fill (t .count) _) w ∙ fill-again (t .count) _ _ (d .wait) ∙ fill-eq (t .count) _ _ (d .wait) wait-same
 
   -- All four, from the lists that the code makes.
-  module _ {period cost slack rank : List ℕ} {n : ℕ} (k : Unpacked t period cost slack rank n) {free untaken idle late : ℕ} {left left₂ wait₂ wait′ left′ : List ℕ} {seen : Seen}
+  module _ {period cost slack rank : List ℕ} {n : ℕ}
+      (k : Unpacked t period cost slack rank n) {free untaken idle late : ℕ} {left left₂ wait₂ wait′ left′ : List ℕ} {seen : Seen}
       (f : free ≡ bits (isFree t (d .wait)) taskLimit)
       (u : untaken ≡ bits (λ i. inSet pressed i && not (inSet free i)) taskLimit)
       (q : idle ≡ bits (λ i. inSet free i && not (inSet pressed i)) taskLimit)
@@ -215,7 +232,14 @@ module _ (t : Table) (d : State) (done : Bool) (pressed : ℕ) (p : Pressable t 
 
     pub advanced-is : Advanced t d done pressed (record { wait = wait′; left = left′; owner = seen .owner; late = late; untaken = untaken })
     unfolding afterCome
-    advanced-is = record { waits = waits-are waits-held lefts-left serving; lefts = lefts-are waits-held lefts-left serving; owned = owner-is waits-held lefts-left serving; lates = late-are; untakes = untaken-is f u }
+    advanced-is =
+        record {
+          waits = waits-are waits-held lefts-left serving;
+          lefts = lefts-are waits-held lefts-left serving;
+          owned = owner-is waits-held lefts-left serving;
+          lates = late-are;
+          untakes = untaken-is f u;
+        }
 
 -- And the slot counted: the owner is a task of the table or none, and its count has room for one slot more.
 module _ (t : Table) (d : State) (done : Bool) (pressed : ℕ) (p : Pressable t d) (m : Moved) (a : Advanced t d done pressed m) where
@@ -226,12 +250,16 @@ module _ (t : Table) (d : State) (done : Bool) (pressed : ℕ) (p : Pressable t 
   unfolding slotCount
   owner-room l = elim one [ inl e ↦ absurd (omega arith) | inr k ↦ omega (arith, p .room, sum-member (t .count) (givenOf d) (m .owner) k) ]
 
-  state-is : {given : List ℕ} {empty : ℕ} → given ≡ counted (d .given) (m .owner) → empty ≡ d .empty + bit (eqb (m .owner) taskLimit) → stateWith (m .wait) (m .left) (m .owner) given empty ≡ afterCome t d done (comes t d pressed)
+  state-is : {given : List ℕ} {empty : ℕ} → given ≡ counted (d .given) (m .owner) → empty ≡ d .empty + bit (eqb (m .owner) taskLimit)
+      → stateWith (m .wait) (m .left) (m .owner) given empty ≡ afterCome t d done (comes t d pressed)
   unfolding afterCome
   state-is g h =
-      let gives : counted (d .given) (m .owner) ≡ fill (t .count) (λ i. givenOf d i + bit (eqb (ownerCome t d done (comes t d pressed)) i)) (d .given) = counted-fill (t .count) (d .given) (m .owner) (p .ranged .few) one ∙ rw (a .owned) in
+      let gives : counted (d .given) (m .owner) ≡ fill (t .count) (λ i. givenOf d i + bit (eqb (ownerCome t d done (comes t d pressed)) i))
+      (d .given) = counted-fill (t .count) (d .given) (m .owner) (p .ranged .few) one ∙ rw (a .owned) in
       rw (g, h, gives, a .waits, a .lefts, a .owned)
 
-  pub taken-is : {answer : Turn} {given : List ℕ} {empty : ℕ} → given ≡ counted (d .given) (m .owner) → answer ≡ turnOf (m .owner) (m .late) → empty ≡ d .empty + bit (eqb (m .owner) taskLimit)
-      → record { answer = SlotAnswer.Slot answer; untaken = m .untaken; state = stateWith (m .wait) (m .left) (m .owner) given empty } ≡ pressTaken t d done pressed
+  pub taken-is : {answer : Turn} {given : List ℕ} {empty : ℕ} → given ≡ counted (d .given) (m .owner) → answer ≡ turnOf (m .owner) (m .late)
+      → empty ≡ d .empty + bit (eqb (m .owner) taskLimit)
+      → record { answer = SlotAnswer.Slot answer; untaken = m .untaken; state = stateWith (m .wait) (m .left) (m .owner) given empty }
+      ≡ pressTaken t d done pressed
   taken-is g w h = rw (w, state-is g h, a .owned, a .lates, a .untakes, ones-bits, trailing-bits)

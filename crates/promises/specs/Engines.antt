@@ -1,5 +1,5 @@
--- TWO ENGINES, ONE ANSWER (section 3.6): `jump::test` leaps from one release or finish to the next,
--- `exact::test` walks slot by slot. Each has the contract `Permitted`,
+-- TWO ENGINES, ONE ANSWER (section 3.6): `leaping::walk` goes from one release or finish to the next, `plain::walk` slot
+-- by slot, and `exact::test` makes the answer of either. With either engine its contract is `Permitted`,
 -- and so has each of the two exported checks the contract `Checked`; each permits one result.
 use mathlib.Core.Path.{_≡_, refl}
 use mathlib.Core.List.{List}

@@ -25,7 +25,8 @@ module _ (k : Task) (r : InRange k) where
 
   -- Before the cost, the slack of a task is at most H.
   pub spare-le : (h : ℕ) → h ≤ roundLimit → (k .period - k .deadline) * (h / k .period) ≤ roundLimit
-  spare-le h l = le-trans (mul-le-mul-right {m = k .period - k .deadline} {n = k .period} (h / k .period) (omega arith)) (omega (arith, mul-div-le h (k .period)))
+  spare-le h l =
+      le-trans (mul-le-mul-right {m = k .period - k .deadline} {n = k .period} (h / k .period) (omega arith)) (omega (arith, mul-div-le h (k .period)))
 
   pub slack-le : (h : ℕ) → h ≤ roundLimit → slackOf k h ≤ slackLimit
   slack-le h l = mul-le-mul {n₂ = slotLimit} {m₂ = roundLimit} (omega (arith, r .cost-le, r .deadline-le, r .period-le)) (spare-le h l)

@@ -22,7 +22,8 @@ use Rattle.patterns.specs.Slack.{slack, slack-enough}
 
 module _ (t : Table) (r : Ranged t) (bound : ℕ) where
   -- Further down: by an earlier instant no more is asked for than by `high`.
-  pub enough-down : (high next : ℕ) → high ≤ bound → EnoughBetween t high bound → asked t high ≤ high → min (asked t high) (high - 1) ≤ next → EnoughBetween t next bound
+  pub enough-down : (high next : ℕ) → high ≤ bound → EnoughBetween t high bound → asked t high ≤ high → min (asked t high) (high - 1) ≤ next
+      → EnoughBetween t next bound
   enough-down high next l down fits far u a b = elim (decLe u high) [
     | yes p ↦ omega (arith, asked-mono t r u high p)
     | no p ↦ down u (omega arith) b

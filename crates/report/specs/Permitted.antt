@@ -54,8 +54,12 @@ module _ (t : Table) (m : Measure) (well : WellFormed t m) where
   late-wide : T (lateAt t (needed t)) → VerdictWide (lateVerdict t (needed t))
   late-wide h =
       let n = needed-le t in
-      let (a, b) = too-much-iff t (lateStart t (needed t)) (needed t) .0 (start-asks t (needed t) h) in
-      (omega (arith, well .horizon-le), omega (arith, well .horizon-le), omega (arith, demand-le t (well .ranged) (lateStart t (needed t)) (needed t) (omega (arith, well .horizon-le))))
+      let (a, b) = too-much-iff t (lateStart t (needed t)) (needed t) .0 (start-asks t (needed t) h) in (
+        omega (arith, well .horizon-le),
+        omega (arith, well .horizon-le),
+        omega
+            (arith, demand-le t (well .ranged) (lateStart t (needed t)) (needed t) (omega (arith, well .horizon-le))),
+      )
 
   verdict-wide : {budget : ℕ} (v : Verdict) (n : ℕ) → Case t budget v n → VerdictWide v × (n ≤ horizon t)
   verdict-wide v n (overload g) = (tt, omega arith)
@@ -120,4 +124,5 @@ permitted-fits t budget quick a p = go (judged t) refl p (judged-tellable t)
     go : (j : Judgement) → judged t ≡ j → PermittedBy t budget a j → JudgementTellable j → Fitting (t .count) quick a (a .outcome)
     go (Judgement.Refused r) q f h = rw f h
     go (Judgement.WellFormed m) q f h =
-        subst (Fitting (t .count) quick a) (sym (answers-say t budget m a (verdict t budget) f .0)) (fits (t .count) quick a (verdict t budget) (printable t m (well-formed t m q) budget a (verdict t budget) refl f))
+        subst (Fitting (t .count) quick a) (sym (answers-say t budget m a (verdict t budget) f .0))
+        (fits (t .count) quick a (verdict t budget) (printable t m (well-formed t m q) budget a (verdict t budget) refl f))

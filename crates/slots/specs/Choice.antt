@@ -48,7 +48,8 @@ module _ (open? : ℕ → Bool) (deadline : ℕ → ℕ) (rank : Order) where
   unfolding choose
   best-none = record { owned = refl; none = λ e. refl; some = λ h. absurd (h refl) }
 
-  module _ (i : ℕ) {owner least key : ℕ} (few : i < taskLimit) (best : Best i owner least) (is : key ≡ keyOf (open? i) (deadline i) (rank i)) (small : Small i) where
+  module _ (i : ℕ) {owner least key : ℕ} (few : i < taskLimit) (best : Best i owner least) (is : key ≡ keyOf (open? i) (deadline i) (rank i))
+      (small : Small i) where
     least-le : least ≤ noKey
     least-le = go (ℕ-discrete owner taskLimit)
       where
@@ -60,9 +61,12 @@ module _ (open? : ℕ → Bool) (deadline : ℕ → ℕ) (rank : Order) where
     comes-first : ltb key least ≡ (open? i && (eqb owner taskLimit || precedes deadline rank i owner))
     comes-first = go (open? i) (ℕ-discrete owner taskLimit) is
       where
-        go : (b : Bool) → Dec (owner ≡ taskLimit) → key ≡ keyOf b (deadline i) (rank i) → ltb key least ≡ (b && (eqb owner taskLimit || precedes deadline rank i owner))
+        go : (b : Bool) → Dec (owner ≡ taskLimit) → key ≡ keyOf b (deadline i) (rank i)
+            → ltb key least ≡ (b && (eqb owner taskLimit || precedes deadline rank i owner))
         go true (yes e) q = rw (eq-eqb owner taskLimit e, q, best .none e) (lt-ltb (deadline i * ranks + rank i) noKey (omega (arith, small .due, small .low)))
-        go true (no e) q = let (p, s) = best .some e in rw (ne-eqb owner taskLimit e, q, p) (key-order (deadline i) (deadline owner) (rank i) (rank owner) (small .low) (s .low))
+        go true (no e) q =
+            let (p, s) = best .some e in
+            rw (ne-eqb owner taskLimit e, q, p) (key-order (deadline i) (deadline owner) (rank i) (rank owner) (small .low) (s .low))
         go false r q = le-ltb key least (omega (arith, least-le))
 
     more : {b : Bool} → ltb key least ≡ b → cond b i owner ≡ choose open? deadline rank (i + 1)
@@ -92,9 +96,11 @@ module _ (open? : ℕ → Bool) (deadline : ℕ → ℕ) (rank : Order) where
   pub choose-range : (n : ℕ) → (choose open? deadline rank n ≡ taskLimit) ⊎ (choose open? deadline rank n < n)
   unfolding choose
   choose-range zero = inl refl
-  choose-range (suc n) = go (open? n && (eqb (choose open? deadline rank n) taskLimit || precedes deadline rank n (choose open? deadline rank n))) (choose-range n)
+  choose-range (suc n) =
+      go (open? n && (eqb (choose open? deadline rank n) taskLimit || precedes deadline rank n (choose open? deadline rank n))) (choose-range n)
     where
-      go : (b : Bool) → (choose open? deadline rank n ≡ taskLimit) ⊎ (choose open? deadline rank n < n) → (cond b n (choose open? deadline rank n) ≡ taskLimit) ⊎ (cond b n (choose open? deadline rank n) < suc n)
+      go : (b : Bool) → (choose open? deadline rank n ≡ taskLimit) ⊎ (choose open? deadline rank n < n)
+          → (cond b n (choose open? deadline rank n) ≡ taskLimit) ⊎ (cond b n (choose open? deadline rank n) < suc n)
       go true r = inr (le-refl (suc n))
       go false (inl e) = inl e
       go false (inr l) = inr (le-step l)

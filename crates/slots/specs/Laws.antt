@@ -21,7 +21,8 @@ use Rattle.slots.specs.Columns.{columnsOf}
 use Rattle.slots.specs.Choice.{choose-eq}
 
 -- The end of a loop that finds the tasks that pass: past the n tasks there are none.
-pub found-done : (p : ℕ → Bool) {tasks : ℕ} (i n : ℕ) → i ≤ n → n ≤ i → n ≤ taskLimit → tasks ≡ bits (λ k. ltb k n && p k) i → tasks ≡ bits (λ k. ltb k n && p k) taskLimit
+pub found-done : (p : ℕ → Bool) {tasks : ℕ} (i n : ℕ) → i ≤ n → n ≤ i → n ≤ taskLimit → tasks ≡ bits (λ k. ltb k n && p k) i
+    → tasks ≡ bits (λ k. ltb k n && p k) taskLimit
 found-done p i n a b h e =
     at-end (bits (λ k. ltb k n && p k)) i n a b e
     ∙ sym (bits-past (λ k. ltb k n && p k) n taskLimit h (λ k l m t. let q : k < n = ltb→lt k n (and-iff (ltb k n) (p k) .0 t .0) in omega arith))
@@ -42,17 +43,20 @@ pub fill-has : (n : ℕ) (f : ℕ → ℕ) (l : List ℕ) → n ≤ length l →
 fill-has n f l h i a = fill-passed n f l i 0 a (omega arith)
 
 -- One task's number is changed: none of them, if it is no task.
-pub store-fill : (n : ℕ) (f g : ℕ → ℕ) (w : List ℕ) (task v : ℕ) → n ≤ taskLimit → (task ≡ taskLimit) ⊎ (task < n) → (task < n → v ≡ g task) → ((i : ℕ) → i < n → (i ≡ task → ⊥) → f i ≡ g i)
+pub store-fill : (n : ℕ) (f g : ℕ → ℕ) (w : List ℕ) (task v : ℕ) → n ≤ taskLimit → (task ≡ taskLimit) ⊎ (task < n) → (task < n → v ≡ g task)
+    → ((i : ℕ) → i < n → (i ≡ task → ⊥) → f i ≡ g i)
     → cond (ltb task taskLimit) (set (fill n f w) task v) (fill n f w) ≡ fill n g w
 store-fill n f g w task v h (inl e) q s = rw (le-ltb task taskLimit (omega arith)) (fill-eq n f g w (λ i l. s i l (omega arith)))
 store-fill n f g w task v h (inr l) q s = rw (lt-ltb task taskLimit (omega arith)) (fill-set n f g w task l (q l) s)
 
 -- The job of one task is closed.
-pub closed-fill : (n : ℕ) (left : List ℕ) (task : ℕ) → n ≤ taskLimit → (task ≡ taskLimit) ⊎ (task < n) → closed left task ≡ fill n (λ i. cond (eqb task i) 0 (at left i)) left
+pub closed-fill : (n : ℕ) (left : List ℕ) (task : ℕ) → n ≤ taskLimit → (task ≡ taskLimit) ⊎ (task < n)
+    → closed left task ≡ fill n (λ i. cond (eqb task i) 0 (at left i)) left
 unfolding closed
 closed-fill n left task h r =
     ap (λ (l : List ℕ). cond (ltb task taskLimit) (set l task 0) l) (sym (fill-same n left 0))
-    ∙ store-fill n (at left) (λ i. cond (eqb task i) 0 (at left i)) left task 0 h r (λ l. rw (eq-eqb task task refl)) (λ i l q. rw (ne-eqb task i (λ e. q (sym e))))
+    ∙ store-fill n (at left) (λ i. cond (eqb task i) 0 (at left i)) left task 0 h r (λ l. rw (eq-eqb task task refl))
+    (λ i l q. rw (ne-eqb task i (λ e. q (sym e))))
 
 -- A slot's releases, for waits W, slots left L, periods P and costs C.
 abbrev pub waitThen : (ℕ → ℕ) → (ℕ → ℕ) → ℕ → ℕ
@@ -101,6 +105,10 @@ module _ (t : Table) (few : t .count ≤ taskLimit) where
   -- A slot of the table's tasks.
   pub table-served :
       (wait left : List ℕ) (W L : ℕ → ℕ) {wait′ left′ : List ℕ} {owner : ℕ} → Has (t .count) wait W → Has (t .count) left L
-      → Slotted (t .count) (at wait) (at left) (at (columnsOf t .period)) (at (columnsOf t .cost)) (at (columnsOf t .slack)) (at (columnsOf t .rank)) wait left wait′ left′ owner
-      → Slotted (t .count) W L (λ i. task t i .period) (λ i. task t i .cost) (λ i. task t i .period - task t i .deadline) (tieOrder t) wait left wait′ left′ owner
-  table-served wait left W L wait-has left-has = slotted-has (t .count) wait left (columnsOf t .period) (columnsOf t .cost) (columnsOf t .slack) (columnsOf t .rank) W L _ _ _ _ wait-has left-has period-has cost-has slack-has rank-has
+      → Slotted (t .count) (at wait) (at left) (at (columnsOf t .period)) (at (columnsOf t .cost)) (at (columnsOf t .slack))
+      (at (columnsOf t .rank)) wait left wait′ left′ owner
+      → Slotted (t .count) W L (λ i. task t i .period) (λ i. task t i .cost) (λ i. task t i .period - task t i .deadline)
+      (tieOrder t) wait left wait′ left′ owner
+  table-served wait left W L wait-has left-has =
+      slotted-has (t .count) wait left (columnsOf t .period) (columnsOf t .cost) (columnsOf t .slack)
+      (columnsOf t .rank) W L _ _ _ _ wait-has left-has period-has cost-has slack-has rank-has

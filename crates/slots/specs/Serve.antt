@@ -51,7 +51,8 @@ module _ (wait₀ left₀ period cost slack rank : List ℕ) (n : ℕ) where
   late-here i l h e = rw (lt-ltb i n l, lt-ltb 0 (at left₀ i) h, eq-eqb (at wait₀ i) (at slack i) e) tt
 
   -- It is not, and neither were those before.
-  quiet-more : (i : ℕ) → ((k : ℕ) → k < i → T (isLate wait₀ left₀ slack n k) → ⊥) → (0 < at left₀ i → at wait₀ i ≡ at slack i → ⊥) → (k : ℕ) → k < i + 1 → T (isLate wait₀ left₀ slack n k) → ⊥
+  quiet-more : (i : ℕ) → ((k : ℕ) → k < i → T (isLate wait₀ left₀ slack n k) → ⊥) → (0 < at left₀ i → at wait₀ i ≡ at slack i → ⊥) → (k : ℕ)
+      → k < i + 1 → T (isLate wait₀ left₀ slack n k) → ⊥
   quiet-more i q h = below-more (λ k. T (isLate wait₀ left₀ slack n k) → ⊥) i q calm
     where
       calm : T (isLate wait₀ left₀ slack n i) → ⊥
@@ -81,7 +82,8 @@ module _ (wait₀ left₀ period cost slack rank : List ℕ) (n : ℕ) where
             quiet = quiet-more i (v .quiet) calm;
           }
 
-      module _ {key : ℕ} (few : i < taskLimit) (is : key ≡ keyOf (ltb 0 l) (w - at slack i) (at rank i)) (small : w - at slack i < 2 ^ 32) (low : at rank i < ranks) where
+      module _ {key : ℕ} (few : i < taskLimit) (is : key ≡ keyOf (ltb 0 l) (w - at slack i) (at rank i)) (small : w - at slack i < 2 ^ 32)
+          (low : at rank i < ranks) where
         turn : (key < least → BestOf (i + 1) i key) × (least ≤ key → BestOf (i + 1) owner least)
         turn = best-turn _ _ _ i {key = key} few (v .best) (is ∙ rw (wait-is, left-is)) (record { due = rw wait-is at small; low = low })
 
@@ -106,7 +108,8 @@ module _ (wait₀ left₀ period cost slack rank : List ℕ) (n : ℕ) where
             }
 
   -- A pass that met a late job.
-  pub served-late : (i : ℕ) {wait′ left′ : List ℕ} {owner : ℕ} → i < n → T (isLate wait₀ left₀ slack n i) → Served wait₀ left₀ period cost slack rank n wait′ left′ (record { late = true; owner = owner })
+  pub served-late : (i : ℕ) {wait′ left′ : List ℕ} {owner : ℕ} → i < n → T (isLate wait₀ left₀ slack n i)
+      → Served wait₀ left₀ period cost slack rank n wait′ left′ (record { late = true; owner = owner })
   served-late i l h =
       record {
         found = λ e. (i, l, h);
@@ -134,7 +137,8 @@ module _ (wait₀ left₀ period cost slack rank : List ℕ) (n : ℕ) where
           lefts = e ∙ left-end;
         }
 
-    pub served-quiet : {left′ : List ℕ} → left′ ≡ cond (ltb owner taskLimit) (set left owner rest) left → Served wait₀ left₀ period cost slack rank n wait left′ (record { late = false; owner = owner })
+    pub served-quiet : {left′ : List ℕ} → left′ ≡ cond (ltb owner taskLimit) (set left owner rest) left
+        → Served wait₀ left₀ period cost slack rank n wait left′ (record { late = false; owner = owner })
     served-quiet e =
         record {
           found = λ q. absurd (subst T (sym q) tt);

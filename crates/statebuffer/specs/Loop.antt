@@ -43,12 +43,23 @@ module _ (t : Table) (r : Ranged t) (done : ℕ → Bool) where
 
   left-small : (n i : ℕ) → getD (stateAt t done n .left) i 0 < wordLimit
   left-small n i = elim (decLt i (t .count)) [
-    | yes l ↦ omega (arith, known t (stateAt t done n) (sound t r (tieOrder t) done n .belongs) i l .left-le, r .each i l .cost-le, r .each i l .deadline-le, r .each i l .period-le)
+    | yes l ↦
+        omega (
+          arith,
+          known t (stateAt t done n) (sound t r (tieOrder t) done n .belongs) i l .left-le,
+          r .each i l .cost-le,
+          r .each i l .deadline-le,
+          r .each i l .period-le,
+        )
     | no l ↦ omega (arith, past-none t (tieOrder t) done n i (omega arith) .1)
   ]
 
   last-small : (n : ℕ) → stateAt t done n .last < wordLimit
-  last-small n = elim (one-of-iff (stateAt t done n .last) taskLimit (t .count) .0 (sound t r (tieOrder t) done n .belongs .ran)) [ inl e ↦ omega arith | inr l ↦ omega (arith, r .few) ]
+  last-small n =
+      elim (one-of-iff (stateAt t done n .last) taskLimit (t .count) .0 (sound t r (tieOrder t) done n .belongs .ran)) [
+        | inl e ↦ omega arith
+        | inr l ↦ omega (arith, r .few)
+      ]
 
   given-small : (n : ℕ) → n ≤ slotCountLimit → (i : ℕ) → getD (stateAt t done n .given) i 0 < budgetLimit
   given-small n h i = elim (decLt i (t .count)) [
@@ -69,10 +80,12 @@ module _ (t : Table) (r : Ranged t) (done : ℕ → Bool) where
   }
 
 -- A file whose form is good and a buffer of the right length lead to the table.
-pub on-table : (bytes : ℕ) (file buffer : List ℕ) (t : Table) (go : Table → Exported) → formOf file .admission ≡ Admission.Admitted → formOf file .table ≡ t → length buffer ≡ bytes → onFile bytes file buffer go ≡ go t
+pub on-table : (bytes : ℕ) (file buffer : List ℕ) (t : Table) (go : Table → Exported) → formOf file .admission ≡ Admission.Admitted
+    → formOf file .table ≡ t → length buffer ≡ bytes → onFile bytes file buffer go ≡ go t
 on-table bytes file buffer t go formed held size = rw (eq-eqb (length buffer) bytes size, formed, held, onFile)
 
-module _ (file : List ℕ) (t : Table) (m : Measure) (formed : formOf file .admission ≡ Admission.Admitted) (held : formOf file .table ≡ t) (well : judged t ≡ Judgement.WellFormed m) (lent : List ℕ) (size : length lent ≡ stateBytes) (done : ℕ → ℕ) where
+module _ (file : List ℕ) (t : Table) (m : Measure) (formed : formOf file .admission ≡ Admission.Admitted) (held : formOf file .table ≡ t)
+    (well : judged t ≡ Judgement.WellFormed m) (lent : List ℕ) (size : length lent ≡ stateBytes) (done : ℕ → ℕ) where
   r : Ranged t
   r = well-formed t m well .ranged
 
@@ -87,9 +100,11 @@ module _ (file : List ℕ) (t : Table) (m : Measure) (formed : formOf file .admi
   abbrev told : ℕ → Turn
   told n = turn t (stateAt t reports n) (reports n)
 
-  stepped-in : (n : ℕ) → n < slotCountLimit → (buffer : List ℕ) (u : Turn) → buffer ≡ bufferOf (stateAt t reports n) u → stepExported file buffer (done n) ≡ record { number = told n .owner; buffer = bufferOf (stateAt t reports (suc n)) (told n) }
+  stepped-in : (n : ℕ) → n < slotCountLimit → (buffer : List ℕ) (u : Turn) → buffer ≡ bufferOf (stateAt t reports n) u
+      → stepExported file buffer (done n) ≡ record { number = told n .owner; buffer = bufferOf (stateAt t reports (suc n)) (told n) }
   stepped-in n h buffer u e =
-      on-table stateBytes file buffer t (λ k. let s = stepped k (stateIn buffer) (reports n) in stepWritten buffer (s .state) (s .answer)) formed held (ap length e ∙ buffer-size _ u (fits t r reports n (omega arith)))
+      on-table stateBytes file buffer t (λ k. let s = stepped k (stateIn buffer) (reports n) in stepWritten buffer (s .state) (s .answer)) formed held
+      (ap length e ∙ buffer-size _ u (fits t r reports n (omega arith)))
       ∙ rw (e, state-back _ u (fits t r reports n (omega arith)), never-refused t m well (tieOrder t) reports n h)
 
   holds : (n : ℕ) → n ≤ slotCountLimit → (u : Turn) × (handed file lent done n ≡ bufferOf (stateAt t reports n) u)
@@ -97,19 +112,25 @@ module _ (file : List ℕ) (t : Table) (m : Measure) (formed : formOf file .admi
   holds zero h = (quiet, ap (λ (e : Exported). e .buffer) starts)
   holds (suc n) h = let (u, e) = holds n (omega arith) in (told n, ap (λ (x : Exported). x .buffer) (stepped-in n (omega arith) (handed file lent done n) u e))
 
-  pub steps : (n : ℕ) → n < slotCountLimit → stepExported file (handed file lent done n) (done n) ≡ record { number = ownerAt t reports n; buffer = bufferOf (stateAt t reports (suc n)) (turn t (stateAt t reports n) (reports n)) }
+  pub steps : (n : ℕ) → n < slotCountLimit → stepExported file (handed file lent done n) (done n)
+      ≡ record { number = ownerAt t reports n; buffer = bufferOf (stateAt t reports (suc n)) (turn t (stateAt t reports n) (reports n)) }
   unfolding turnBy
   steps n h = let (u, e) = holds n (omega arith) in stepped-in n h (handed file lent done n) u e
 
   -- After n steps the counts in the buffer are those of the history of owners.
   pub counts : (n : ℕ) → n ≤ slotCountLimit → let b = handed file lent done n in
-      ((i : ℕ) → i < t .count → eight b (countsAt + 8 * i) ≡ count (λ k. eqb (ownerAt t reports k) i) n) × (eight b (countsAt + 8 * taskLimit) ≡ count (λ k. eqb (ownerAt t reports k) taskLimit) n)
+      ((i : ℕ) → i < t .count → eight b (countsAt + 8 * i) ≡ count (λ k. eqb (ownerAt t reports k) i) n)
+      × (eight b (countsAt + 8 * taskLimit) ≡ count (λ k. eqb (ownerAt t reports k) taskLimit) n)
   unfolding stateIn
-  counts n h =
-      (λ i l. given-read i (omega (arith, r .few)) ∙ ap (λ (d : State). givenOf d i) held-state ∙ given-is t r (tieOrder t) reports n i l, ap (λ (d : State). d .empty) held-state ∙ empty-is t (tieOrder t) reports n)
+  counts n h = (
+    λ i l. given-read i (omega (arith, r .few)) ∙ ap (λ (d : State). givenOf d i) held-state ∙ given-is t r (tieOrder t) reports n i l,
+    ap (λ (d : State). d .empty) held-state ∙ empty-is t (tieOrder t) reports n,
+  )
     where
       held-state : stateIn (handed file lent done n) ≡ stateAt t reports n
       held-state = let (u, e) = holds n h in rw e (state-back (stateAt t reports n) u (fits t r reports n h))
 
       given-read : (i : ℕ) → i < taskLimit → eight (handed file lent done n) (countsAt + 8 * i) ≡ givenOf (stateIn (handed file lent done n)) i
-      given-read i l = sym (fill-passed taskLimit (λ k. eight (handed file lent done n) (countsAt + 8 * k)) (replicate taskLimit 0) i 0 l (omega (arith, length-replicate {A = ℕ} taskLimit 0)))
+      given-read i l =
+          sym (fill-passed taskLimit (λ k. eight (handed file lent done n) (countsAt + 8 * k)) (replicate taskLimit 0) i 0 l
+          (omega (arith, length-replicate {A = ℕ} taskLimit 0)))

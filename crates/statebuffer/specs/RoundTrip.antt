@@ -55,7 +55,12 @@ as-words : (d : State) (u : Turn) → bufferOf d u ≡ bytesOf (words d u)
 unfolding bufferOf
 as-words d u =
     let told = d .last ∷ u .late ∷ u .closed ∷ u .lowest ∷ [] in
-    rw (bytes-append (d .wait ++ d .left ++ told ++ halves (d .given)) (twoWords (d .empty)), bytes-append (d .wait ++ d .left ++ told) (halves (d .given)), bytes-append (d .wait ++ d .left) told, bytes-append (d .wait) (d .left))
+    rw (
+      bytes-append (d .wait ++ d .left ++ told ++ halves (d .given)) (twoWords (d .empty)),
+      bytes-append (d .wait ++ d .left ++ told) (halves (d .given)),
+      bytes-append (d .wait ++ d .left) told,
+      bytes-append (d .wait) (d .left),
+    )
 
 -- A state whose lists have their length and whose numbers fit a word.
 pub record Fits (d : State) : Type 0 where
@@ -72,7 +77,8 @@ pub record Fits (d : State) : Type 0 where
 list-back : (f : ℕ → ℕ) (w : List ℕ) → length w ≡ taskLimit → ((i : ℕ) → i < taskLimit → f i ≡ getD w i 0) → fill taskLimit f (replicate taskLimit 0) ≡ w
 list-back f w size same =
     ext-getD 0 (fill taskLimit f (replicate taskLimit 0)) w (filled ∙ sym size)
-    (λ i l. fill-passed taskLimit f (replicate taskLimit 0) i 0 (omega (arith, filled)) (omega (arith, filled, length-replicate {A = ℕ} taskLimit 0)) ∙ same i (omega (arith, filled)))
+    (λ i l. fill-passed taskLimit f (replicate taskLimit 0) i 0 (omega (arith, filled)) (omega (arith, filled, length-replicate {A = ℕ} taskLimit 0))
+    ∙ same i (omega (arith, filled)))
   where
     filled : length (fill taskLimit f (replicate taskLimit 0)) ≡ taskLimit
     filled = fill-length taskLimit f (replicate taskLimit 0) ∙ length-replicate {A = ℕ} taskLimit 0
@@ -128,7 +134,8 @@ module _ (d : State) (u : Turn) (fits : Fits d) where
   read i at l e h = rw (as-words d u, e) (word-at (words d u) i (omega (arith, size)) h)
 
   -- A count is read from its two halves.
-  read-count : (x i at : ℕ) → i + 1 < 4 * taskLimit + 6 → at ≡ 4 * i → x < budgetLimit → getD (words d u) i 0 ≡ x % wordLimit → getD (words d u) (i + 1) 0 ≡ x / wordLimit → eight (bufferOf d u) at ≡ x
+  read-count : (x i at : ℕ) → i + 1 < 4 * taskLimit + 6 → at ≡ 4 * i → x < budgetLimit → getD (words d u) i 0 ≡ x % wordLimit
+      → getD (words d u) (i + 1) 0 ≡ x / wordLimit → eight (bufferOf d u) at ≡ x
   read-count x i at l e h low high =
       let first = read i at (omega arith) e (omega arith) in
       let second = read (i + 1) (at + 4) l (omega arith) (omega arith) in
@@ -137,11 +144,16 @@ module _ (d : State) (u : Turn) (fits : Fits d) where
   pub state-back : stateIn (bufferOf d u) ≡ d
   unfolding stateIn
   state-back =
-      let wait : wordsIn (bufferOf d u) 0 ≡ d .wait = list-back _ (d .wait) (fits .waits) (λ i l. read i (0 + 4 * i) (omega arith) (omega arith) (omega (arith, wait-word i l, fits .wait-fits i l)) ∙ wait-word i l) in
-      let left : wordsIn (bufferOf d u) (4 * taskLimit) ≡ d .left = list-back _ (d .left) (fits .lefts) (λ i l. read (taskLimit + i) (4 * taskLimit + 4 * i) (omega arith) (omega arith) (omega (arith, left-word i l, fits .left-fits i l)) ∙ left-word i l) in
-      let last : four (bufferOf d u) (8 * taskLimit) ≡ d .last = read (taskLimit + taskLimit) (8 * taskLimit) (omega arith) (omega arith) (omega (arith, last-word, fits .last-fits)) ∙ last-word in
+      let wait : wordsIn (bufferOf d u) 0 ≡ d .wait = list-back _ (d .wait) (fits .waits)
+      (λ i l. read i (0 + 4 * i) (omega arith) (omega arith) (omega (arith, wait-word i l, fits .wait-fits i l)) ∙ wait-word i l) in
+      let left : wordsIn (bufferOf d u) (4 * taskLimit) ≡ d .left = list-back _ (d .left) (fits .lefts)
+      (λ i l. read (taskLimit + i) (4 * taskLimit + 4 * i) (omega arith) (omega arith) (omega (arith, left-word i l, fits .left-fits i l))
+      ∙ left-word i l) in
+      let last : four (bufferOf d u) (8 * taskLimit) ≡ d .last = read (taskLimit + taskLimit) (8 * taskLimit) (omega arith) (omega arith)
+      (omega (arith, last-word, fits .last-fits)) ∙ last-word in
       let given : countsIn (bufferOf d u) countsAt ≡ d .given = list-back _ (d .given) (fits .gives) given-back in
-      let empty : eight (bufferOf d u) (countsAt + 8 * taskLimit) ≡ d .empty = read-count (d .empty) (4 * taskLimit + 4 + 0) (countsAt + 8 * taskLimit) (omega arith) (omega arith) (fits .empty-fits) (empty-word 0) (empty-word 1) in
+      let empty : eight (bufferOf d u) (countsAt + 8 * taskLimit) ≡ d .empty = read-count (d .empty) (4 * taskLimit + 4 + 0)
+      (countsAt + 8 * taskLimit) (omega arith) (omega arith) (fits .empty-fits) (empty-word 0) (empty-word 1) in
       rw (wait, left, last, given, empty)
     where
       given-back : (i : ℕ) → i < taskLimit → eight (bufferOf d u) (countsAt + 8 * i) ≡ getD (d .given) i 0
@@ -156,7 +168,13 @@ module _ (d : State) (u : Turn) (fits : Fits d) where
 
 -- A state at the front of a buffer is read from there alone.
 four-front : (a b : List ℕ) (at : ℕ) → at + 4 ≤ length a → four (a ++ b) at ≡ four a at
-four-front a b at h = rw (List·getD-append a b 0 at (omega arith), List·getD-append a b 0 (at + 1) (omega arith), List·getD-append a b 0 (at + 2) (omega arith), List·getD-append a b 0 (at + 3) (omega arith))
+four-front a b at h =
+    rw (
+      List·getD-append a b 0 at (omega arith),
+      List·getD-append a b 0 (at + 1) (omega arith),
+      List·getD-append a b 0 (at + 2) (omega arith),
+      List·getD-append a b 0 (at + 3) (omega arith),
+    )
 
 eight-front : (a b : List ℕ) (at : ℕ) → at + 8 ≤ length a → eight (a ++ b) at ≡ eight a at
 eight-front a b at h = let low = four-front a b at (omega arith) in let high = four-front a b (at + 4) (omega arith) in omega arith
@@ -165,8 +183,10 @@ pub state-front : (a b : List ℕ) → length a ≡ stateBytes → stateIn (a ++
 unfolding stateIn
 state-front a b size =
     let wait : wordsIn (a ++ b) 0 ≡ wordsIn a 0 = fill-eq taskLimit _ _ (replicate taskLimit 0) (λ i l. four-front a b (0 + 4 * i) (omega arith)) in
-    let left : wordsIn (a ++ b) (4 * taskLimit) ≡ wordsIn a (4 * taskLimit) = fill-eq taskLimit _ _ (replicate taskLimit 0) (λ i l. four-front a b (4 * taskLimit + 4 * i) (omega arith)) in
+    let left : wordsIn (a ++ b) (4 * taskLimit) ≡ wordsIn a (4 * taskLimit) = fill-eq taskLimit _ _ (replicate taskLimit 0)
+    (λ i l. four-front a b (4 * taskLimit + 4 * i) (omega arith)) in
     let last : four (a ++ b) (8 * taskLimit) ≡ four a (8 * taskLimit) = four-front a b (8 * taskLimit) (omega arith) in
-    let given : countsIn (a ++ b) countsAt ≡ countsIn a countsAt = fill-eq taskLimit _ _ (replicate taskLimit 0) (λ i l. eight-front a b (countsAt + 8 * i) (omega arith)) in
+    let given : countsIn (a ++ b) countsAt ≡ countsIn a countsAt = fill-eq taskLimit _ _ (replicate taskLimit 0)
+    (λ i l. eight-front a b (countsAt + 8 * i) (omega arith)) in
     let empty : eight (a ++ b) (countsAt + 8 * taskLimit) ≡ eight a (countsAt + 8 * taskLimit) = eight-front a b (countsAt + 8 * taskLimit) (omega arith) in
     rw (wait, left, last, given, empty)

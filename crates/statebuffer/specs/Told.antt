@@ -18,7 +18,8 @@ use Rattle.model.specs.Tasks.{judged}
 use Rattle.model.specs.TableFile.{formOf}
 use Rattle.model.specs.Values.{refusal}
 use Rattle.model.specs.Run.{tieOrder}
-use Rattle.model.specs.Dispatcher.{State, slotCount, firstStrange, lastStrange, admittedBy, admitted, after, turn, turnBy, startJudged, started, refuseStep, stepAdmittedBy, stepped, steppedBy}
+use Rattle.model.specs.Dispatcher.{State, slotCount, firstStrange, lastStrange, admittedBy, admitted, after, turn, turnBy, startJudged, started}
+use Rattle.model.specs.Dispatcher.{refuseStep, stepAdmittedBy, stepped, steppedBy}
 use Rattle.model.specs.Report.{Exported, refused}
 use Rattle.model.specs.StateBuffer.{stateBytes, stateIn, startWritten, stepWritten, onFile, startExported, stepExported}
 use Rattle.wellformed.specs.WellFormed.{well-formed}
@@ -41,7 +42,8 @@ TakenStep t e = (e .number ≤ taskLimit) × ((e .number ≡ taskLimit) ⊎ (e .
 
 -- The buffer and the form are looked at first.
 module _ (Taken : Exported → Type 0) (bytes : ℕ) (file buffer : List ℕ) (go : Table → Exported) (h : Apart Taken buffer (go (formOf file .table))) where
-  admission-apart : (a : Admission) → AdmissionTellable a → Apart Taken buffer (elim a [ Admission.Refused r ↦ refused r buffer | Admission.Admitted ↦ go (formOf file .table) ])
+  admission-apart : (a : Admission) → AdmissionTellable a → Apart Taken buffer
+      (elim a [ Admission.Refused r ↦ refused r buffer | Admission.Admitted ↦ go (formOf file .table) ])
   admission-apart (Admission.Refused r) n = inr (r, refl, n)
   admission-apart Admission.Admitted n = h
 
@@ -57,14 +59,17 @@ module _ (Taken : Exported → Type 0) (bytes : ℕ) (file buffer : List ℕ) (g
 
 pub start-apart : (file buffer : List ℕ) → Apart TakenStart buffer (startExported file buffer)
 unfolding started
-start-apart file buffer = file-apart TakenStart stateBytes file buffer (λ t. startWritten buffer (started t .state) (started t .admission)) (by (formOf file .table) (judged (formOf file .table)) (judged-tellable (formOf file .table)))
+start-apart file buffer =
+    file-apart TakenStart stateBytes file buffer (λ t. startWritten buffer (started t .state) (started t .admission))
+    (by (formOf file .table) (judged (formOf file .table)) (judged-tellable (formOf file .table)))
   where
     by : (t : Table) (j : Judgement) → JudgementTellable j → let s = startJudged t j in Apart TakenStart buffer (startWritten buffer (s .state) (s .admission))
     by t (Judgement.Refused r) n = inr (r, refl, n)
     by t (Judgement.WellFormed m) n = inl refl
 
 -- The owner of a slot is a task or none.
-owner-range : (t : Table) (d : State) (done : Bool) → t .count ≤ taskLimit → let k = turn t d done .owner in (k ≤ taskLimit) × ((k ≡ taskLimit) ⊎ (k < t .count))
+owner-range : (t : Table) (d : State) (done : Bool) → t .count ≤ taskLimit → let k = turn t d done .owner in (k ≤ taskLimit)
+    × ((k ≡ taskLimit) ⊎ (k < t .count))
 unfolding turnBy
 owner-range t d done few = go (owner-one t (tieOrder t) d done few)
   where
@@ -81,7 +86,9 @@ admitted-tellable t d = by (judged t) refl (judged-tellable t)
     by (Judgement.Refused r) e n = n
     by (Judgement.WellFormed m) e n = go (ltb (firstStrange t d) (t .count)) (lastStrange t d) (ltb slotCountLimit (slotCount t d)) refl
       where
-        go : (a b c : Bool) → ltb (firstStrange t d) (t .count) ≡ a → AdmissionTellable (cond a (Admission.Refused (refusal 8 (firstStrange t d))) (cond b (Admission.Refused (refusal 8 taskLimit)) (cond c (Admission.Refused (refusal 8 sumPlace)) Admission.Admitted)))
+        go : (a b c : Bool) → ltb (firstStrange t d) (t .count) ≡ a → AdmissionTellable
+            (cond a (Admission.Refused (refusal 8 (firstStrange t d)))
+            (cond b (Admission.Refused (refusal 8 taskLimit)) (cond c (Admission.Refused (refusal 8 sumPlace)) Admission.Admitted)))
         go true b c p = (omega arith, omega (arith, well-formed t m e .ranged .few, ltb-true (firstStrange t d) (t .count) p))
         go false true c p = (omega arith, omega arith)
         go false false true p = (omega arith, omega arith)
@@ -91,15 +98,20 @@ pub step-apart : (file buffer : List ℕ) (done : ℕ) → Apart (TakenStep (for
 unfolding steppedBy
 step-apart file buffer done =
     let t = formOf file .table in
-    file-apart (TakenStep t) stateBytes file buffer (λ t. let s = stepped t (stateIn buffer) (not (eqb done 0)) in stepWritten buffer (s .state) (s .answer)) (by t (stateIn buffer) (not (eqb done 0)) (admitted t (stateIn buffer)) refl (admitted-tellable t (stateIn buffer)))
+    file-apart (TakenStep t) stateBytes file buffer
+    (λ t. let s = stepped t (stateIn buffer) (not (eqb done 0)) in stepWritten buffer (s .state) (s .answer))
+    (by t (stateIn buffer) (not (eqb done 0)) (admitted t (stateIn buffer)) refl (admitted-tellable t (stateIn buffer)))
   where
-    by : (t : Table) (d : State) (report : Bool) (a : Admission) → admitted t d ≡ a → AdmissionTellable a → let s = stepAdmittedBy t (tieOrder t) d report a in Apart (TakenStep t) buffer (stepWritten buffer (s .state) (s .answer))
+    by : (t : Table) (d : State) (report : Bool) (a : Admission) → admitted t d ≡ a → AdmissionTellable a
+        → let s = stepAdmittedBy t (tieOrder t) d report a in Apart (TakenStep t) buffer (stepWritten buffer (s .state) (s .answer))
     by t d report (Admission.Refused r) e n = inr (r, refl, n)
     by t d report Admission.Admitted e n = go (eqb (slotCount t d) slotCountLimit)
       where
         few : t .count ≤ taskLimit
         few = let a = admitted-iff t d .0 e in well-formed t (a .measure) (a .well) .ranged .few
 
-        go : (full : Bool) → let s = cond full (refuseStep (refusal 9 0) d) (record { answer = SlotAnswer.Slot (turn t d report); state = after t d report }) in Apart (TakenStep t) buffer (stepWritten buffer (s .state) (s .answer))
+        go : (full : Bool) → let s = cond full (refuseStep (refusal 9 0) d)
+            (record { answer = SlotAnswer.Slot (turn t d report); state = after t d report }) in Apart (TakenStep t) buffer
+            (stepWritten buffer (s .state) (s .answer))
         go true = inr (refusal 9 0, refl, (omega arith, omega arith))
         go false = inl (owner-range t d report few)

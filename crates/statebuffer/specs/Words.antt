@@ -35,18 +35,30 @@ unfolding halves
 one-half x = refl
 
 -- A turn of the loop that puts counts.
-pub one-count : (w : List ℕ) (i : ℕ) {before between after : List ℕ} {at middle next : ℕ} → i < length w → Put (bytesOf (halves (take i w))) at before between middle → Put (bytesOf (twoWords (getD w i 0))) middle between after next → Put (bytesOf (halves (take (i + 1) w))) at before after next
+pub one-count : (w : List ℕ) (i : ℕ) {before between after : List ℕ} {at middle next : ℕ} → i < length w
+    → Put (bytesOf (halves (take i w))) at before between middle → Put (bytesOf (twoWords (getD w i 0))) middle between after next
+    → Put (bytesOf (halves (take (i + 1) w))) at before after next
 one-count w i h p q =
-    rw (add-one i, take-suc w i 0, halves-append (take i w) (getD w i 0 ∷ []), one-half (getD w i 0), bytes-append (halves (take i w)) (twoWords (getD w i 0))) (join p q)
+    rw (
+      add-one i,
+      take-suc w i 0,
+      halves-append (take i w) (getD w i 0 ∷ []),
+      one-half (getD w i 0),
+      bytes-append (halves (take i w)) (twoWords (getD w i 0)),
+    ) (join p q)
 
 -- A state whose lists have their length, in bytes.
-pub buffer-length : (d : State) (u : Turn) → length (d .wait) ≡ taskLimit → length (d .left) ≡ taskLimit → length (d .given) ≡ taskLimit → length (bufferOf d u) ≡ stateBytes
+pub buffer-length : (d : State) (u : Turn) → length (d .wait) ≡ taskLimit → length (d .left) ≡ taskLimit → length (d .given) ≡ taskLimit
+    → length (bufferOf d u) ≡ stateBytes
 unfolding bufferOf bytesOf
-buffer-length d u waits lefts gives = simp length-append (omega (arith, bytes-length (d .wait), bytes-length (d .left), bytes-length (halves (d .given)), halves-length (d .given)))
+buffer-length d u waits lefts gives =
+    simp length-append (omega (arith, bytes-length (d .wait), bytes-length (d .left), bytes-length (halves (d .given)), halves-length (d .given)))
 
 -- The parts of a state, put one after another.
-pub state-put : (d : State) (u : Turn) {b₀ b₁ b₂ b₃ b₄ b₅ b₆ b₇ b₈ : List ℕ} {a₁ a₂ a₃ a₄ a₅ a₆ a₇ a₈ : ℕ} → Put (bytesOf (d .wait)) 0 b₀ b₁ a₁ → Put (bytesOf (d .left)) a₁ b₁ b₂ a₂
-    → Put (wordBytes (d .last)) a₂ b₂ b₃ a₃ → Put (wordBytes (u .late)) a₃ b₃ b₄ a₄ → Put (wordBytes (u .closed)) a₄ b₄ b₅ a₅ → Put (wordBytes (u .lowest)) a₅ b₅ b₆ a₆
+pub state-put : (d : State) (u : Turn) {b₀ b₁ b₂ b₃ b₄ b₅ b₆ b₇ b₈ : List ℕ} {a₁ a₂ a₃ a₄ a₅ a₆ a₇ a₈ : ℕ} → Put (bytesOf (d .wait)) 0 b₀ b₁ a₁
+    → Put (bytesOf (d .left)) a₁ b₁ b₂ a₂
+    → Put (wordBytes (d .last)) a₂ b₂ b₃ a₃ → Put (wordBytes (u .late)) a₃ b₃ b₄ a₄ → Put (wordBytes (u .closed)) a₄ b₄ b₅ a₅
+    → Put (wordBytes (u .lowest)) a₅ b₅ b₆ a₆
     → Put (bytesOf (halves (d .given))) a₆ b₆ b₇ a₇ → Put (bytesOf (twoWords (d .empty))) a₇ b₇ b₈ a₈ → Put (bufferOf d u) 0 b₀ b₈ a₈
 unfolding bufferOf bytesOf
 state-put d u wait left last late closed lowest given empty = join (join (join (join wait left) (join last (join late (join closed lowest)))) given) empty

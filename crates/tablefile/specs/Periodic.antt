@@ -17,28 +17,38 @@ use Rattle.tablefile.specs.Admitted.{few-tasks, periodic-admitted, perio
 use Rattle.tablefile.specs.Refused.{AdmissionTellable, form-tellable}
 
 -- A file of good form and a well-formed table is read as its form has it.
-read-formed : (file : List ℕ) (m : Measure) → formOf file .admission ≡ Admission.Admitted → judgedMixed (formOf file .table) ≡ Judgement.WellFormed m → fileRead file ≡ formOf file
+read-formed : (file : List ℕ) (m : Measure) → formOf file .admission ≡ Admission.Admitted → judgedMixed (formOf file .table) ≡ Judgement.WellFormed m
+    → fileRead file ≡ formOf file
 unfolding fileRead
 read-formed file m good well = rw (good, well)
 
 pub periodic-read : (file : List ℕ) → periodicFrom file .admission ≡ Admission.Admitted
-    → (fileRead file .admission ≡ Admission.Admitted) × (periodicFrom file ≡ fileRead file) × ((m : Measure) × (judged (fileRead file .table) ≡ Judgement.WellFormed m))
+    → (fileRead file .admission ≡ Admission.Admitted) × (periodicFrom file ≡ fileRead file)
+    × ((m : Measure) × (judged (fileRead file .table) ≡ Judgement.WellFormed m))
 periodic-read file h =
     let (same, (m, well)) = periodic-admitted file h in
     let good : formOf file .admission ≡ Admission.Admitted = ap (λ (l : Contents). l .admission) (sym same) ∙ h in
     let read = read-formed file m good (periodic-iff (formOf file .table) m .0 well .0) in
     (ap (λ (l : Contents). l .admission) read ∙ good, same ∙ sym read, (m, rw read well))
 
-pub well-periodic : (file : List ℕ) → periodicFrom file .admission ≡ Admission.Admitted → (m : Measure) × (judged (periodicFrom file .table) ≡ Judgement.WellFormed m)
+pub well-periodic : (file : List ℕ) → periodicFrom file .admission ≡ Admission.Admitted → (m : Measure)
+    × (judged (periodicFrom file .table) ≡ Judgement.WellFormed m)
 well-periodic file h = let (same, well) = periodic-admitted file h in rw same well
 
 pub periodic-refused : (file : List ℕ) (r : Refusal) → periodicFrom file .admission ≡ Admission.Refused r
-    → (fileRead file .admission ≡ Admission.Refused r) ⊎ ((fileRead file .admission ≡ Admission.Admitted) × (judged (fileRead file .table) ≡ Judgement.Refused r))
+    → (fileRead file .admission ≡ Admission.Refused r) ⊎
+    ((fileRead file .admission ≡ Admission.Admitted) × (judged (fileRead file .table) ≡ Judgement.Refused r))
 unfolding fileRead
-periodic-refused file r h = elim (periodic-for file r h) [ inl f ↦ inl (ap (λ (a : Admission). judgedForm judgedMixed (formOf file) a .admission) f ∙ f) | inr (f, j) ↦ table (judgedMixed (formOf file .table)) refl f j ]
+periodic-refused file r h =
+    elim (periodic-for file r h) [
+      | inl f ↦ inl (ap (λ (a : Admission). judgedForm judgedMixed (formOf file) a .admission) f ∙ f)
+      | inr (f, j) ↦ table (judgedMixed (formOf file .table)) refl f j
+    ]
   where
-    table : (k : Judgement) → judgedMixed (formOf file .table) ≡ k → formOf file .admission ≡ Admission.Admitted → judged (formOf file .table) ≡ Judgement.Refused r
-        → (fileRead file .admission ≡ Admission.Refused r) ⊎ ((fileRead file .admission ≡ Admission.Admitted) × (judged (fileRead file .table) ≡ Judgement.Refused r))
+    table : (k : Judgement) → judgedMixed (formOf file .table) ≡ k → formOf file .admission ≡ Admission.Admitted
+        → judged (formOf file .table) ≡ Judgement.Refused r
+        → (fileRead file .admission ≡ Admission.Refused r) ⊎
+        ((fileRead file .admission ≡ Admission.Admitted) × (judged (fileRead file .table) ≡ Judgement.Refused r))
     table (Judgement.Refused w) e good j =
         let both = sym (refused-both (formOf file .table) w e) ∙ j in
         let same : w ≡ r = cc in
@@ -54,4 +64,5 @@ periodic-tellable file = go (periodicFrom file .admission) refl
   where
     go : (a : Admission) → periodicFrom file .admission ≡ a → AdmissionTellable a
     go Admission.Admitted e = tt
-    go (Admission.Refused r) e = elim (periodic-for file r e) [ inl f ↦ rw f at (form-tellable file) | inr (f, j) ↦ rw j at (judged-tellable (formOf file .table)) ]
+    go (Admission.Refused r) e =
+        elim (periodic-for file r e) [ inl f ↦ rw f at (form-tellable file) | inr (f, j) ↦ rw j at (judged-tellable (formOf file .table)) ]

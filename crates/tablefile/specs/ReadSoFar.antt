@@ -41,5 +41,6 @@ module _ {s : List ℕ} {b : ℕ} {t : Table} {at : ℕ} (l : ReadSoFar s b t at
   after-task {k} e =
       record { ks = l .ks ++ (k ∷ []); table = rw (l .table) (stored (l .ks) k (rw (l .table) at (has-room e))); reached = follows e }
 
-  pub after-end : Reading.Whole Record.End ≡ readingAt s at (t .count) → _≡_ {A = Contents} (record { admission = Admission.Admitted; budget = b; table = t }) (formOf s)
+  pub after-end : Reading.Whole Record.End ≡ readingAt s at (t .count) → _≡_ {A = Contents}
+      (record { admission = Admission.Admitted; budget = b; table = t }) (formOf s)
   after-end e = rw (l .table) (follows e)

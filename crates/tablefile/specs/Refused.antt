@@ -39,11 +39,15 @@ module _ (s : List ℕ) where
   record-tellable : (b : ℕ) (ks : List Task) (at : ℕ) (next : ℕ → Task → Contents) → at < longestFile
       → AdmissionTellable (next taskBytes (taskIn s (at + 1)) .admission) → AdmissionTellable (next buttonBytes (buttonIn s (at + 1)) .admission)
       → AdmissionTellable (readRecord s b ks at next .admission)
-  record-tellable b ks at next near h p = go (leb (length s) at) (eqb (getD s at 0) 1) (eqb (getD s at 0) 2) (eqb (getD s at 0) 4) (eqb (getD s at 0) 3) (ltb (at + 1) (length s)) (leb-true (length s) at)
+  record-tellable b ks at next near h p =
+      go (leb (length s) at) (eqb (getD s at 0) 1) (eqb (getD s at 0) 2) (eqb (getD s at 0) 4) (eqb (getD s at 0) 3) (ltb (at + 1) (length s))
+      (leb-true (length s) at)
     where
       go : (past budget task button end more : Bool) → (past ≡ true → length s ≤ at)
           → let ended = cond end (cond more (refuseFile 24 (at + 1)) (admit b ks)) (refuseFile 21 at) in
-          AdmissionTellable (cond past (refuseFile 26 (length s)) (cond budget (refuseFile 23 at) (cond task (next taskBytes (taskIn s (at + 1))) (cond button (next buttonBytes (buttonIn s (at + 1))) ended))) .admission)
+          AdmissionTellable (cond past (refuseFile 26 (length s))
+          (cond budget (refuseFile 23 at)
+          (cond task (next taskBytes (taskIn s (at + 1))) (cond button (next buttonBytes (buttonIn s (at + 1))) ended))) .admission)
       go true budget task button end more e = let p = e refl in (omega arith, omega arith)
       go false true task button end more e = (omega arith, omega arith)
       go false false true button end more e = h
@@ -65,9 +69,12 @@ module _ (s : List ℕ) where
   form-tellable = go (eqb (length s) 0) (eqb (getD s 0 0) 1) (eqb (getD s 0 0) 2 || (eqb (getD s 0 0) 3 || eqb (getD s 0 0) 4))
     where
       go : (none budget other : Bool)
-          → AdmissionTellable (cond none (refuseFile 22 0) (cond budget (whole s 0 budgetBytes (worth (eight s 1) (readFrom s (eight s 1) [] taskLimit budgetBytes))) (cond other (refuseFile 22 0) (refuseFile 21 0))) .admission)
+          → AdmissionTellable (cond none (refuseFile 22 0)
+          (cond budget (whole s 0 budgetBytes (worth (eight s 1) (readFrom s (eight s 1) [] taskLimit budgetBytes)))
+          (cond other (refuseFile 22 0) (refuseFile 21 0))) .admission)
       go true budget other = (omega arith, omega arith)
-      go false true other = whole-tellable 0 budgetBytes _ (omega arith) (worth-tellable (eight s 1) _ (from-tellable (eight s 1) [] taskLimit budgetBytes (omega arith)))
+      go false true other =
+          whole-tellable 0 budgetBytes _ (omega arith) (worth-tellable (eight s 1) _ (from-tellable (eight s 1) [] taskLimit budgetBytes (omega arith)))
       go false false true = (omega arith, omega arith)
       go false false false = (omega arith, omega arith)
 

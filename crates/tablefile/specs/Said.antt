@@ -46,7 +46,17 @@ record-said s at n =
     let rest = drop (at + 1) s in
     let by = either (Has (numbersAt s at)) in
     by (leb (length s) at) _ _ (λ e. by (eqb at 0) _ _ (λ e. tt) (λ e. tt))
-    (λ e. by (eqb kind 1) _ _ (λ k. by (ltb 0 at) _ _ (λ e. tt) (λ e. by (ltb (length rest) budgetBody) _ _ (λ e. tt) (λ e. by (eqb (eight rest 0) 0) _ _ (λ e. tt) (λ e. rw (eqb-true kind 1 k, eight-part)))))
-    (λ e. by (eqb kind 2) _ _ (λ k. by (eqb at 0) _ _ (λ e. tt) (λ e. by (leb taskLimit n) _ _ (λ e. tt) (λ e. by (ltb (length rest) (bodyBytes false)) _ _ (λ e. tt) (λ e. rw (eqb-true kind 2 k) (ap (λ (t : Task). recordSaid (Record.OneTask t)) (task-part false s (at + 1)))))))
-    (λ e. by (eqb kind 4) _ _ (λ k. by (eqb at 0) _ _ (λ e. tt) (λ e. by (leb taskLimit n) _ _ (λ e. tt) (λ e. by (ltb (length rest) (bodyBytes true)) _ _ (λ e. tt) (λ e. rw (eqb-true kind 4 k) (ap (λ (t : Task). recordSaid (Record.OneTask t)) (task-part true s (at + 1)))))))
+    (λ e. by (eqb kind 1) _ _
+    (λ k. by (ltb 0 at) _ _ (λ e. tt)
+    (λ e. by (ltb (length rest) budgetBody) _ _ (λ e. tt) (λ e. by (eqb (eight rest 0) 0) _ _ (λ e. tt) (λ e. rw (eqb-true kind 1 k, eight-part)))))
+    (λ e. by (eqb kind 2) _ _
+    (λ k. by (eqb at 0) _ _ (λ e. tt)
+    (λ e. by (leb taskLimit n) _ _ (λ e. tt)
+    (λ e. by (ltb (length rest) (bodyBytes false)) _ _ (λ e. tt)
+    (λ e. rw (eqb-true kind 2 k) (ap (λ (t : Task). recordSaid (Record.OneTask t)) (task-part false s (at + 1)))))))
+    (λ e. by (eqb kind 4) _ _
+    (λ k. by (eqb at 0) _ _ (λ e. tt)
+    (λ e. by (leb taskLimit n) _ _ (λ e. tt)
+    (λ e. by (ltb (length rest) (bodyBytes true)) _ _ (λ e. tt)
+    (λ e. rw (eqb-true kind 4 k) (ap (λ (t : Task). recordSaid (Record.OneTask t)) (task-part true s (at + 1)))))))
     (λ e. by (eqb kind 3) _ _ (λ k. by (eqb at 0) _ _ (λ e. tt) (λ e. by (ltb 0 (length rest)) _ _ (λ e. tt) (λ e. rw (eqb-true kind 3 k)))) (λ e. tt)))))

@@ -19,7 +19,8 @@ use Rattle.tablefile.specs.Part.{eight-part, task-part}
 -- Up to a place the budget b and the tasks ks were read: nothing yet, or all so that reading on from there makes the form of the file.
 pub data Reached (s : List ℕ) : ℕ → List Task → ℕ → Type 0 where
   first : Reached s 0 [] 0
-  later : {b : ℕ} {ks : List Task} {at : ℕ} (room : ℕ) → length ks + room ≡ taskLimit → budgetBytes ≤ at → at ≤ budgetBytes + taskBytes * length ks → at ≤ length s
+  later : {b : ℕ} {ks : List Task} {at : ℕ} (room : ℕ) → length ks + room ≡ taskLimit → budgetBytes ≤ at → at ≤ budgetBytes + taskBytes * length ks
+      → at ≤ length s
       → readFrom s b ks room at ≡ formOf s → Reached s b ks at
 
 -- What was reached lies in the file and in the longest legal file, and fits a table.
@@ -49,7 +50,8 @@ step-first : (s : List ℕ) → Follows s 0 [] 0 (readingAt s 0 0)
 unfolding readingAt formOf
 step-first s =
     either (Follows s 0 [] 0) (leb (length s) 0) _ _ (λ z. rw (eq-eqb (length s) 0 (omega (arith, leb-true (length s) 0 z))))
-    (λ z. let e0 : eqb (length s) 0 ≡ false = ne-eqb (length s) 0 (λ q. omega (arith, leb-false (length s) 0 z)) in either (Follows s 0 [] 0) (eqb (getD s 0 0) 1) _ _
+    (λ z. let e0 : eqb (length s) 0 ≡ false = ne-eqb (length s) 0 (λ q. omega (arith, leb-false (length s) 0 z)) in either (Follows s 0 [] 0)
+    (eqb (getD s 0 0) 1) _ _
     (λ e1. either (Follows s 0 [] 0) (ltb (length (drop 1 s)) budgetBody) _ _
     (λ e. rw (e0, e1, lt-ltb (length s) budgetBytes (omega (arith, ltb-true, length-drop 1 s))))
     (λ e. let e2 : ltb (length s) budgetBytes ≡ false = le-ltb (length s) budgetBytes (omega (arith, ltb-false, length-drop 1 s)) in
@@ -62,12 +64,14 @@ step-first s =
     (λ e4. either (Follows s 0 [] 0) (eqb (getD s 0 0) 3) _ _ (λ e3. rw (e0, e1, e2, e3)) (λ e3. rw (e0, e1, e2, e3, e4))))))
   where
     -- a button first, whether or not its kind is the end's
-    other : eqb (length s) 0 ≡ false → eqb (getD s 0 0) 1 ≡ false → eqb (getD s 0 0) 2 ≡ false → eqb (getD s 0 0) 4 ≡ true → (b : Bool) → eqb (getD s 0 0) 3 ≡ b → refuseFile 22 0 ≡ formOf s
+    other : eqb (length s) 0 ≡ false → eqb (getD s 0 0) 1 ≡ false → eqb (getD s 0 0) 2 ≡ false → eqb (getD s 0 0) 4 ≡ true → (b : Bool)
+        → eqb (getD s 0 0) 3 ≡ b → refuseFile 22 0 ≡ formOf s
     other e0 e1 e2 e4 true e3 = rw (e0, e1, e2, e3)
     other e0 e1 e2 e4 false e3 = rw (e0, e1, e2, e3, e4)
 
 module _ (s : List ℕ) (b : ℕ) (ks : List Task) (at : ℕ) (from : budgetBytes ≤ at) (here : at ≤ budgetBytes + taskBytes * length ks) where
-  step-task : (button : Bool) (room : ℕ) → length ks + room ≡ taskLimit → at < length s → afterTask s b ks room at (recordSize button) (bodyIn button s (at + 1)) ≡ formOf s
+  step-task : (button : Bool) (room : ℕ) → length ks + room ≡ taskLimit → at < length s
+      → afterTask s b ks room at (recordSize button) (bodyIn button s (at + 1)) ≡ formOf s
       → Follows s b ks at (taskReading button (drop (at + 1) s) at (length ks))
   unfolding afterTask
   step-task button zero all inside same = rw (ne-eqb at 0 (omega arith), le-leb taskLimit (length ks) (omega arith)) same
@@ -75,7 +79,9 @@ module _ (s : List ℕ) (b : ℕ) (ks : List Task) (at : ℕ) (from : budgetByte
       rw (ne-eqb at 0 (omega arith), lt-leb taskLimit (length ks) (omega arith))
       (either (Follows s b ks at) (ltb (length (drop (at + 1) s)) (bodyBytes button)) _ _
       (λ e. rw (lt-ltb (length s) (at + recordSize button) (omega (arith, ltb-true, record-size button, length-drop (at + 1) s))) at same)
-      (λ e. rw (body-sort, task-part) (later {ks = ks ++ (bodyIn button s (at + 1) ∷ [])} {at = at + recordSize button} room (simp length-append (omega arith)) (omega arith) (simp length-append (omega (arith, record-size button))) (omega (arith, ltb-false, length-drop (at + 1) s))
+      (λ e. rw (body-sort, task-part)
+      (later {ks = ks ++ (bodyIn button s (at + 1) ∷ [])} {at = at + recordSize button} room (simp length-append (omega arith)) (omega arith)
+      (simp length-append (omega (arith, record-size button))) (omega (arith, ltb-false, length-drop (at + 1) s))
       (rw (le-ltb (length s) (at + recordSize button) (omega (arith, ltb-false, record-size button, length-drop (at + 1) s))) at same))))
 
   step-later : (room : ℕ) → length ks + room ≡ taskLimit → at ≤ length s → readRecord s b ks at (afterTask s b ks room at) ≡ formOf s

@@ -33,7 +33,8 @@ module _ {A : Type 0} (refuse : Refusal → A) (tell : List ℕ → A) (file : L
   unfolding fileRead
   form-refused r e = rw e refl
 
-  pub table-told : (x : A) → formOf file .admission ≡ Admission.Admitted → TableTold refuse tell (formOf file .table) (formOf file .budget) x (judged (formOf file .table))
+  pub table-told : (x : A) → formOf file .admission ≡ Admission.Admitted → TableTold refuse tell (formOf file .table) (formOf file .budget) x
+      (judged (formOf file .table))
       → FileTold refuse tell (fileRead file) x (fileRead file .admission)
   unfolding Permitted
   table-told x e h = rw (read-is e) (go (judgedMixed t) refl (judged t) refl h)

@@ -15,7 +15,8 @@ use Rattle.values.specs.declared.Admission.{Admission}
 use Rattle.values.specs.declared.Contents.{Contents}
 use Rattle.model.specs.Limits.{taskLimit, wordLimit, budgetLimit, budgetBytes, taskBytes, buttonBytes}
 use Rattle.model.specs.Tasks.{noTask, buttonSort, isButton, offset}
-use Rattle.model.specs.TableFile.{budgetKind, taskKind, endKind, buttonKind, four, eight, taskIn, buttonIn, refuseFile, admit, whole, readRecord, readFrom, formOf, bytesOf, taskRecord, taskRecords, fileOf}
+use Rattle.model.specs.TableFile.{budgetKind, taskKind, endKind, buttonKind, four, eight, taskIn, buttonIn, refuseFile, admit, whole, readRecord}
+use Rattle.model.specs.TableFile.{readFrom, formOf, bytesOf, taskRecord, taskRecords, fileOf}
 use Rattle.tablefile.specs.Reading.{recordSize, recordBytes, bodyIn, record-size}
 use Rattle.tablefile.specs.Part.{task-part}
 use Rattle.words.specs.Word.{word-back, word-fits, word-here}
@@ -57,14 +58,16 @@ module _ (s : List ℕ) where
   Stand at [] = (getD s at 0 ≡ 3) × (length s ≡ at + 1)
   Stand at (k ∷ ks) = (getD s at 0 ≡ kindOf (isButton k)) × (bodyIn (isButton k) s (at + 1) ≡ k) × Stand (at + recordBytes k) ks
 
-  stand-body : (button : Bool) (at : ℕ) (ks : List Task) → getD s at 0 ≡ kindOf button → Stand (at + recordSize button) ks → Stand at (bodyIn button s (at + 1) ∷ ks)
+  stand-body : (button : Bool) (at : ℕ) (ks : List Task) → getD s at 0 ≡ kindOf button → Stand (at + recordSize button) ks
+      → Stand at (bodyIn button s (at + 1) ∷ ks)
   stand-body true at ks kind rest = (kind, refl, rest)
   stand-body false at ks kind rest = (kind, refl, rest)
 
   stand-length : (at : ℕ) (ks : List Task) → Stand at ks → length s ≡ at + length (taskRecords ks) + 1
   unfolding taskRecords
   stand-length at [] (kind, stop) = omega arith
-  stand-length at (k ∷ ks) (kind, body, rest) = omega (arith, stand-length (at + recordBytes k) ks rest, record-length k, length-append (taskRecord k) (taskRecords ks))
+  stand-length at (k ∷ ks) (kind, body, rest) =
+      omega (arith, stand-length (at + recordBytes k) ks rest, record-length k, length-append (taskRecord k) (taskRecords ks))
 
   -- If the file is taken, tasks stand from this place on, no more than there is room for, and were read after the tasks ks.
   abbrev Takes : ℕ → List Task → ℕ → ℕ → Contents → Type 0
@@ -81,7 +84,8 @@ module _ (s : List ℕ) where
       go false = h
 
   record-takes : (b : ℕ) (ks : List Task) (room at : ℕ) (next : ℕ → Task → Contents)
-      → ((button : Bool) → getD s at 0 ≡ kindOf button → Takes b ks room at (next (recordSize button) (bodyIn button s (at + 1)))) → Takes b ks room at (readRecord s b ks at next)
+      → ((button : Bool) → getD s at 0 ≡ kindOf button → Takes b ks room at (next (recordSize button) (bodyIn button s (at + 1))))
+      → Takes b ks room at (readRecord s b ks at next)
   record-takes b ks room at next task =
       go (leb (length s) at) (eqb (getD s at 0) 1) (eqb (getD s at 0) 2) (eqb (getD s at 0) 4) (eqb (getD s at 0) 3) (ltb (at + 1) (length s))
       (leb-false (length s) at) (eqb-true (getD s at 0) 2) (eqb-true (getD s at 0) 4) (eqb-true (getD s at 0) 3) (ltb-false (at + 1) (length s))
@@ -90,9 +94,11 @@ module _ (s : List ℕ) where
       refuses = refusal-takes b ks room at
 
       go : (past budget two four three more : Bool)
-          → (past ≡ false → at < length s) → (two ≡ true → getD s at 0 ≡ 2) → (four ≡ true → getD s at 0 ≡ 4) → (three ≡ true → getD s at 0 ≡ 3) → (more ≡ false → length s ≤ at + 1)
+          → (past ≡ false → at < length s) → (two ≡ true → getD s at 0 ≡ 2) → (four ≡ true → getD s at 0 ≡ 4) → (three ≡ true → getD s at 0 ≡ 3)
+          → (more ≡ false → length s ≤ at + 1)
           → let ended = cond three (cond more (refuseFile 24 (at + 1)) (admit b ks)) (refuseFile 21 at) in
-          Takes b ks room at (cond past (refuseFile 26 (length s)) (cond budget (refuseFile 23 at) (cond two (next taskBytes (taskIn s (at + 1))) (cond four (next buttonBytes (buttonIn s (at + 1))) ended))))
+          Takes b ks room at (cond past (refuseFile 26 (length s))
+          (cond budget (refuseFile 23 at) (cond two (next taskBytes (taskIn s (at + 1))) (cond four (next buttonBytes (buttonIn s (at + 1))) ended))))
       go true budget two four three more inside task-kind button-kind end-kind last = refuses 26 (length s)
       go false true two four three more inside task-kind button-kind end-kind last = refuses 23 at
       go false false true four three more inside task-kind button-kind end-kind last = task false (task-kind refl)
@@ -107,8 +113,10 @@ module _ (s : List ℕ) where
   from-takes b ks zero at = record-takes b ks zero at (λ bytes k. refuseFile 25 at) (λ button kind. refusal-takes b ks zero at 25 at)
   from-takes b ks (suc room) at =
       record-takes b ks (suc room) at (λ bytes k. whole s at bytes (readFrom s b (ks ++ (k ∷ [])) room (at + bytes)))
-      (λ button kind. let k = bodyIn button s (at + 1) in whole-takes b ks (suc room) at at (recordSize button) (readFrom s b (ks ++ (k ∷ [])) room (at + recordSize button))
-      (λ h. let (more, few, stand, same) = from-takes b (ks ++ (k ∷ [])) room (at + recordSize button) h in (k ∷ more, omega arith, stand-body button at more kind stand, same ∙ ap (admit b) (append-snoc ks k more))))
+      (λ button kind. let k = bodyIn button s (at + 1) in whole-takes b ks (suc room) at at (recordSize button)
+      (readFrom s b (ks ++ (k ∷ [])) room (at + recordSize button))
+      (λ h. let (more, few, stand, same) = from-takes b (ks ++ (k ∷ [])) room (at + recordSize button) h in
+      (k ∷ more, omega arith, stand-body button at more kind stand, same ∙ ap (admit b) (append-snoc ks k more))))
 
   -- If the file is taken, it holds a budget and tasks, and these were read.
   abbrev Holds : Contents → Type 0
@@ -121,7 +129,8 @@ module _ (s : List ℕ) where
   form-holds : Holds (formOf s)
   unfolding formOf
   form-holds =
-      go (eqb (length s) 0) (eqb (getD s 0 0) 1) (ltb (length s) budgetBytes) (eqb (eight s 1) 0) (eqb (getD s 0 0) 2 || (eqb (getD s 0 0) 3 || eqb (getD s 0 0) 4))
+      go (eqb (length s) 0) (eqb (getD s 0 0) 1) (ltb (length s) budgetBytes) (eqb (eight s 1) 0)
+      (eqb (getD s 0 0) 2 || (eqb (getD s 0 0) 3 || eqb (getD s 0 0) 4))
       (eqb-true (getD s 0 0) 1) (λ e. omega (arith, eqb-false (eight s 1) 0 e))
     where
       go : (none budget short nothing other : Bool) → (budget ≡ true → getD s 0 0 ≡ 1) → (nothing ≡ false → 0 < eight s 1)
@@ -163,7 +172,8 @@ module _ (s : List ℕ) where
   stand-read b ks (suc room) at [] stand few = end-read b ks at (λ bytes j. whole s at bytes (readFrom s b (ks ++ (j ∷ [])) room (at + bytes))) stand
   stand-read b ks zero at (k ∷ more) stand few = absurd (omega arith)
   stand-read b ks (suc room) at (k ∷ more) (kind, body, rest) few =
-      task-read b ks at (isButton k) (λ bytes j. whole s at bytes (readFrom s b (ks ++ (j ∷ [])) room (at + bytes))) (omega (arith, stand-length (at + recordBytes k) more rest)) kind
+      task-read b ks at (isButton k) (λ bytes j. whole s at bytes (readFrom s b (ks ++ (j ∷ [])) room (at + bytes)))
+      (omega (arith, stand-length (at + recordBytes k) more rest)) kind
       ∙ rw (le-ltb (length s) (at + recordBytes k) (omega (arith, stand-length (at + recordBytes k) more rest)), body)
       (stand-read b (ks ++ (k ∷ [])) room (at + recordBytes k) more rest (omega arith) ∙ ap (admit b) (append-snoc ks k more))
 
@@ -208,10 +218,12 @@ written-stands s at [] fits e = (kind-at s at e, omega (arith, length-drop at s,
 written-stands s at (k ∷ ks) fits e =
     let rest = taskRecords ks ++ (endKind ∷ []) in
     let here : drop at s ≡ taskRecord k ++ rest = e ∙ append-assoc (taskRecord k) (taskRecords ks) (endKind ∷ []) in
-    let body : bodyIn (isButton k) s (at + 1) ≡ bodyIn (isButton k) (drop 1 (taskRecord k ++ rest)) 0 = sym (task-part (isButton k) s (at + 1)) ∙ ap (λ (r : List ℕ). bodyIn (isButton k) r 0) (behind s at 1 here) in (
+    let body : bodyIn (isButton k) s (at + 1) ≡ bodyIn (isButton k) (drop 1 (taskRecord k ++ rest)) 0 = sym (task-part (isButton k) s (at + 1))
+    ∙ ap (λ (r : List ℕ). bodyIn (isButton k) r 0) (behind s at 1 here) in (
       kind-at s at here ∙ sort-kind (k .cost) (k .deadline) (k .period) rest (k .sort),
       body ∙ sort-back (k .cost) (k .deadline) (k .period) rest (k .sort) (fits 0 (omega arith)),
-      written-stands s (at + recordBytes k) ks (λ i l. fits (suc i) (omega arith)) (behind s at (recordBytes k) here ∙ sort-behind (k .cost) (k .deadline) (k .period) rest (k .sort)),
+      written-stands s (at + recordBytes k) ks (λ i l. fits (suc i) (omega arith))
+          (behind s at (recordBytes k) here ∙ sort-behind (k .cost) (k .deadline) (k .period) rest (k .sort)),
     )
 
 pub written-read : (b : ℕ) (ks : List Task) → 0 < b → b < budgetLimit → AllFit ks → length ks ≤ taskLimit
@@ -235,7 +247,8 @@ module _ (s : List ℕ) (bytes : (i : ℕ) → getD s i 0 < 256) where
   stand-fits at (k ∷ ks) (kind, body, rest) zero l = subst Fits32 body (body-fits (isButton k) (at + 1))
   stand-fits at (k ∷ ks) (kind, body, rest) (suc i) l = stand-fits (at + recordBytes k) ks rest i (omega arith)
 
-  task-written : (button : Bool) (at : ℕ) → getD s at 0 ≡ kindOf button → at + recordSize button ≤ length s → drop at s ≡ taskRecord (bodyIn button s (at + 1)) ++ drop (at + recordSize button) s
+  task-written : (button : Bool) (at : ℕ) → getD s at 0 ≡ kindOf button → at + recordSize button ≤ length s
+      → drop at s ≡ taskRecord (bodyIn button s (at + 1)) ++ drop (at + recordSize button) s
   unfolding bytesOf
   task-written true at kind h =
       let body : suc at ≡ at + 1 = omega arith in

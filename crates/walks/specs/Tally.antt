@@ -71,16 +71,20 @@ module _ (t : Table) (r : Ranged t) (light : load t ≤ round t) (n e : ℕ) (l 
   pub idle-stays : ((v : ℕ) → n < v → v ≤ e → T (idleAt t (tieOrder t) v) → ⊥) → idleBy t e ≡ idleBy t n
   idle-stays none = elim (decLe u n) [
     | yes p ↦ omega (arith, idle-is t n p, idle-is t e (omega arith))
-    | no p ↦ elim (decLe u e) [ yes q ↦ absurd (none u (omega arith) q is-idle) | no q ↦ omega (arith, idle-none t n (omega arith), idle-none t e (omega arith)) ]
+    | no p ↦
+        elim (decLe u e) [ yes q ↦ absurd (none u (omega arith) q is-idle) | no q ↦ omega (arith, idle-none t n (omega arith), idle-none t e (omega arith)) ]
   ]
 
   -- None between n and e is, and it is known of e.
-  pub idle-next : n < e → ((v : ℕ) → n < v → v < e → T (idleAt t (tieOrder t) v) → ⊥) → (here : Bool) → idleAt t (tieOrder t) e ≡ here → idleBy t e ≡ idleThen (idleBy t n) here e
+  pub idle-next : n < e → ((v : ℕ) → n < v → v < e → T (idleAt t (tieOrder t) v) → ⊥) → (here : Bool) → idleAt t (tieOrder t) e ≡ here
+      → idleBy t e ≡ idleThen (idleBy t n) here e
   idle-next after none true h = elim (decLe u n) [
     | yes p ↦ rw (idle-is t n p, lt-ltb 0 u (idle-later t)) (idle-is t e (omega arith))
     | no p ↦ elim (decLe e u) [
       | no q ↦ absurd (none u (omega arith) (omega arith) is-idle)
-      | yes q ↦ (let m : u ≤ e = least-le (λ (v : ℕ). (0 < v) × T (idleAt t (tieOrder t) v)) u e (first-idle t r _ light .0) (omega arith, subst T (sym h) tt) in rw (idle-none t n (omega arith)) (omega (arith, idle-is t e m)))
+      | yes q ↦
+          (let m : u ≤ e = least-le (λ (v : ℕ). (0 < v) × T (idleAt t (tieOrder t) v)) u e (first-idle t r _ light .0)
+          (omega arith, subst T (sym h) tt) in rw (idle-none t n (omega arith)) (omega (arith, idle-is t e m)))
     ]
   ]
   idle-next after none false h = idle-stays all ∙ sym (idle-same (idleBy t n))

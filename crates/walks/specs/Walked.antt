@@ -64,17 +64,22 @@ module _ (t : Table) (r : Ranged t) (n : ℕ) where
   ]
 
   clear-more : Clear t n → ((i : ℕ) → i < t .count → T (seen i) → ⊥) → Clear t (suc n)
-  clear-more c none = below-suc (λ u. T (lateAt t u) → ⊥) n c (λ h. let (i, m, x) = late-iff t r (tieOrder t) n c .1 h in none i m (subst T (sym (same-late i)) x))
+  clear-more c none =
+      below-suc (λ u. T (lateAt t u) → ⊥) n c (λ h. let (i, m, x) = late-iff t r (tieOrder t) n c .1 h in none i m (subst T (sym (same-late i)) x))
 
   late-found : Clear t n → (i : ℕ) × (i < t .count) × T (seen i) → T (lateAt t n)
   late-found c h = let (i, l, x) = h in late-iff t r (tieOrder t) n c .0 (i, l, subst T (same-late i) x)
 
   -- A served slot is step n.
-  module _ (clear : Clear t (suc n)) {wait′ left′ : List ℕ} {owner : ℕ} (s : Slotted (t .count) (slot.at (st .wait)) (slot.at (st .left)) (slot.at (columnsOf t .period)) (slot.at (columnsOf t .cost)) (slot.at (columnsOf t .slack)) (slot.at (columnsOf t .rank)) (st .wait) (st .left) wait′ left′ owner) where
+  module _ (clear : Clear t (suc n)) {wait′ left′ : List ℕ} {owner : ℕ}
+      (s : Slotted (t .count) (slot.at (st .wait)) (slot.at (st .left)) (slot.at (columnsOf t .period)) (slot.at (columnsOf t .cost))
+      (slot.at (columnsOf t .slack)) (slot.at (columnsOf t .rank)) (st .wait) (st .left) wait′ left′ owner) where
     lefts-have : Has (t .count) (st .left) (leftLate t st false)
-    lefts-have i l = rw (is-false (isLate t st false i) (λ h. clear n (le-refl (suc n)) (late-iff t r (tieOrder t) n (λ u m. clear u (le-step m)) .0 (i, l, h)))) refl
+    lefts-have i l =
+        rw (is-false (isLate t st false i) (λ h. clear n (le-refl (suc n)) (late-iff t r (tieOrder t) n (λ u m. clear u (le-step m)) .0 (i, l, h)))) refl
 
-    slotted : Slotted (t .count) (waitOf st) (leftLate t st false) (λ i. task t i .period) (λ i. task t i .cost) (λ i. task t i .period - task t i .deadline) (tieOrder t) (st .wait) (st .left) wait′ left′ owner
+    slotted : Slotted (t .count) (waitOf st) (leftLate t st false) (λ i. task t i .period) (λ i. task t i .cost)
+        (λ i. task t i .period - task t i .deadline) (tieOrder t) (st .wait) (st .left) wait′ left′ owner
     slotted = table-served t (r .few) (st .wait) (st .left) (waitOf st) (leftLate t st false) (λ i l. refl) lefts-have s
 
     step-owner : owner ≡ ownerAt t quiet n
@@ -100,7 +105,9 @@ module _
     pub one-found : now .late ≡ true → T (lateAt t n)
     one-found e = late-found t r n (w .clear) (rw (w .waits, w .lefts, set .slacks) at (turned .found e))
 
-    served-slot : now .late ≡ false → Slotted (t .count) (slot.at (walked t n .wait)) (slot.at (walked t n .left)) (slot.at (columnsOf t .period)) (slot.at (columnsOf t .cost)) (slot.at (columnsOf t .slack)) (slot.at (columnsOf t .rank)) (walked t n .wait) (walked t n .left) wait′ left′ (now .owner)
+    served-slot : now .late ≡ false → Slotted (t .count) (slot.at (walked t n .wait)) (slot.at (walked t n .left)) (slot.at (columnsOf t .period))
+        (slot.at (columnsOf t .cost)) (slot.at (columnsOf t .slack)) (slot.at (columnsOf t .rank)) (walked t n .wait) (walked t n .left) wait′ left′
+        (now .owner)
     served-slot e = rw (w .waits, w .lefts, set .periods, set .costs, set .slacks, set .ranks) at (turned .slot e)
 
     -- Its owner is that of step n.
@@ -108,4 +115,5 @@ module _
     owner-is e = step-owner t r n (none-found e) (served-slot e)
 
     pub walked-next : now .late ≡ false → Walked t (suc n) wait′ left′
-    walked-next e = record { clear = none-found e; waits = step-waits t r n (none-found e) (served-slot e); lefts = step-lefts t r n (none-found e) (served-slot e) }
+    walked-next e =
+        record { clear = none-found e; waits = step-waits t r n (none-found e) (served-slot e); lefts = step-lefts t r n (none-found e) (served-slot e) }

@@ -51,5 +51,7 @@ admitted-by-iff t d j = (fwd j, λ ((m, e), f). rw (e, le-ltb (firstStrange t d)
 
 pub admitted-iff : (t : Table) (d : State) → (admitted t d ≡ Admission.Admitted) ↔ Admissible t d
 unfolding admitted
-admitted-iff t d =
-    (λ e. let ((m, w), f) = admitted-by-iff t d (judged t) .0 e in record { measure = m; well = w; fits = f }, λ a. admitted-by-iff t d (judged t) .1 ((a .measure, a .well), a .fits))
+admitted-iff t d = (
+  λ e. let ((m, w), f) = admitted-by-iff t d (judged t) .0 e in record { measure = m; well = w; fits = f },
+  λ a. admitted-by-iff t d (judged t) .1 ((a .measure, a .well), a .fits),
+)

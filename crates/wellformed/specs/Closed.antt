@@ -18,7 +18,8 @@ module _ (k : Task) (r : InRange k) where
 
   -- The jobs that are due by `to`, but for those released before `from`.
   pub jobs-inside : (from to : ℕ) → jobsIn k from to ≡ below (due k) (suc to) - below (release k) from
-  jobs-inside from to = jobs-numbered k (r .period-pos) (r .deadline-pos) from to ∙ count-inside (release k) (due k) releases dues (λ j. omega (arith, r .deadline-pos)) from to
+  jobs-inside from to =
+      jobs-numbered k (r .period-pos) (r .deadline-pos) from to ∙ count-inside (release k) (due k) releases dues (λ j. omega (arith, r .deadline-pos)) from to
 
   pub jobs-closed : (from to : ℕ) → jobsIn k from to ≡ (to + k .period - (offset k + k .deadline)) / k .period - (from - offset k + (k .period - 1)) / k .period
   jobs-closed from to =

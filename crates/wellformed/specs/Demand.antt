@@ -25,7 +25,8 @@ released-enumerates k n u l = (
       ((u - offset k) / k .period, omega (tests, mod-add-div' (u - offset k) (k .period), eqb→eq ((u - offset k) % k .period) 0 b)),
   λ (j, e).
       let q : u - offset k ≡ j * k .period = omega arith in
-      and-iff (leb (offset k) u) (eqb ((u - offset k) % k .period) 0) .1 (omega tests, eq→eqb _ 0 (ap (λ (x : ℕ). x % k .period) q ∙ mul-mod-left j (k .period))),
+      and-iff (leb (offset k) u) (eqb ((u - offset k) % k .period) 0) .1
+      (omega tests, eq→eqb _ 0 (ap (λ (x : ℕ). x % k .period) q ∙ mul-mod-left j (k .period))),
 )
 
 -- So its jobs inside an interval can be counted by their numbers. There is no job before job 0, and a job's number is below its deadline.
@@ -51,4 +52,9 @@ asks-le t r from to i l h =
 
 pub demand-le : (t : Table) → Ranged t → (from to : ℕ) → to ≤ horizonLimit → demand t from to ≤ taskLimit * asksLimit
 unfolding demand
-demand-le t r from to h = omega (arith, sum-bound (t .count) (asks t from to) asksLimit (λ i l. asks-le t r from to i l h), mul-le-mul {n₂ = taskLimit} {m₂ = asksLimit} (r .few) (le-refl asksLimit))
+demand-le t r from to h =
+    omega (
+      arith,
+      sum-bound (t .count) (asks t from to) asksLimit (λ i l. asks-le t r from to i l h),
+      mul-le-mul {n₂ = taskLimit} {m₂ = asksLimit} (r .few) (le-refl asksLimit),
+    )

@@ -105,7 +105,12 @@ unfolding firstFaulty
 ranged t some few none = record { some = some; few = few; each = λ i l. faultless (task t i) (faultless-at i l) }
   where
     faultless-at : (i : ℕ) → i < t .count → taskFault (task t i) ≡ 0
-    faultless-at i l = elim (ℕ-discrete (taskFault (task t i)) 0) [ yes e ↦ e | no e ↦ absurd (first-before (faulty t) 0 (t .count) i (omega arith) (omega arith) (marked (taskFault (task t i)) e)) ]
+    faultless-at i l =
+        elim (ℕ-discrete (taskFault (task t i)) 0) [
+          | yes e ↦ e
+          | no e ↦ absurd
+              (first-before (faulty t) 0 (t .count) i (omega arith) (omega arith) (marked (taskFault (task t i)) e))
+        ]
 
 -- In a table that keeps its ranges none is found.
 pub none-faulty : (t : Table) → Ranged t → firstFaulty t ≡ t .count

@@ -36,7 +36,10 @@ unfolding judgedMixed
 mixed-tellable t = go (eqb (t .count) 0) (ltb taskLimit (t .count)) (ltb (firstFaulty t) (t .count)) (ltb roundLimit (round t)) refl refl
   where
     go : (a b c d : Bool) → ltb taskLimit (t .count) ≡ b → ltb (firstFaulty t) (t .count) ≡ c
-        → JudgementTellable (cond a (Judgement.Refused (refusal 1 0)) (cond b (Judgement.Refused (refusal 2 taskLimit)) (cond c (Judgement.Refused (refusal (taskFault (task t (firstFaulty t))) (firstFaulty t))) (cond d (Judgement.Refused (refusal 7 0)) (Judgement.WellFormed (measure t))))))
+        → JudgementTellable (cond a (Judgement.Refused (refusal 1 0))
+        (cond b (Judgement.Refused (refusal 2 taskLimit))
+        (cond c (Judgement.Refused (refusal (taskFault (task t (firstFaulty t))) (firstFaulty t)))
+        (cond d (Judgement.Refused (refusal 7 0)) (Judgement.WellFormed (measure t))))))
     go true b c d few e = (omega arith, omega arith)
     go false true c d few e = (omega arith, omega arith)
     go false false true d few e = let l : firstFaulty t < t .count = ltb-true _ _ e in (fault-pos t l, omega (arith, ltb-false taskLimit (t .count) few))
@@ -51,7 +54,8 @@ pub judged-tellable : (t : Table) → JudgementTellable (judged t)
 unfolding judged
 judged-tellable t = go (judgedMixed t) refl (mixed-tellable t)
   where
-    button : (b : Bool) (m : Measure) → ltb (firstButton t) (t .count) ≡ b → judgedMixed t ≡ Judgement.WellFormed m → JudgementTellable (cond b (Judgement.Refused (refusal 11 (firstButton t))) (Judgement.WellFormed m))
+    button : (b : Bool) (m : Measure) → ltb (firstButton t) (t .count) ≡ b → judgedMixed t ≡ Judgement.WellFormed m
+        → JudgementTellable (cond b (Judgement.Refused (refusal 11 (firstButton t))) (Judgement.WellFormed m))
     button true m e w = (omega arith, omega (arith, ltb-true (firstButton t) (t .count) e, few-mixed t m w))
     button false m e w = tt
 

@@ -79,7 +79,8 @@ share-le t r h i l =
 -- For H = q · p and b periods p within x slots.
 cross : (c b q p x : ℕ) → b * p ≤ x → q * p * (c * b) ≤ x * (c * q)
 cross c b q p x h =
-    let e : q * p * (c * b) ≡ b * p * (c * q) = rw (mul-comm c b, mul-comm c q) (mul-mul-mul-comm q p b c ∙ rw (mul-comm q b) (sym (mul-mul-mul-comm b p q c))) in
+    let e : q * p * (c * b) ≡ b * p * (c * q) = rw (mul-comm c b, mul-comm c q)
+    (mul-mul-mul-comm q p b c ∙ rw (mul-comm q b) (sym (mul-mul-mul-comm b p q c))) in
     rw e (mul-le-mul h (le-refl (c * q)))
 
 -- H-fold, what b jobs of task i ask for is at most x times what it asks for in a round, where b of its periods are at most x slots.

@@ -37,7 +37,8 @@ pub record WellFormed (t : Table) (m : Measure) : Type 0 where
 -- Of a table that keeps its ranges, H decides.
 mixed-ranged : (t : Table) → Ranged t → judgedMixed t ≡ cond (ltb roundLimit (round t)) (Judgement.Refused (refusal 7 0)) (Judgement.WellFormed (measure t))
 unfolding judgedMixed
-mixed-ranged t r = rw (ne-eqb (t .count) 0 (omega arith), le-ltb taskLimit (t .count) (omega arith), le-ltb (firstFaulty t) (t .count) (omega (arith, none-faulty t r)))
+mixed-ranged t r =
+    rw (ne-eqb (t .count) 0 (omega arith), le-ltb taskLimit (t .count) (omega arith), le-ltb (firstFaulty t) (t .count) (omega (arith, none-faulty t r)))
 
 -- It is refused where H is above its limit.
 pub mixed-long : (t : Table) → Ranged t → roundLimit < round t → judgedMixed t ≡ Judgement.Refused (refusal 7 0)
@@ -69,7 +70,8 @@ unfolding judged
 judged-of t r h none = rw (mixed-of t r h, le-ltb (firstButton t) (t .count) (buttonless-iff t .1 none))
 
 -- A table that one test does not refuse goes on to the next.
-passed : (p : Bool) (n place : ℕ) {j : Judgement} {m : Measure} → cond p (Judgement.Refused (refusal n place)) j ≡ Judgement.WellFormed m → (p ≡ false) × (j ≡ Judgement.WellFormed m)
+passed : (p : Bool) (n place : ℕ) {j : Judgement} {m : Measure} → cond p (Judgement.Refused (refusal n place)) j ≡ Judgement.WellFormed m
+    → (p ≡ false) × (j ≡ Judgement.WellFormed m)
 passed true n place e = let z : _≡_ {A = ℕ} 0 1 = cc in absurd (omega arith)
 passed false n place e = (refl, e)
 
@@ -84,9 +86,18 @@ unfolding horizon
 offset-bound t i l = omega (arith, le-largest (t .count) (λ j. offset (task t j)) i l)
 
 -- Tables with the same offsets and periods have the same horizon.
-pub horizon-same : (t u : Table) → Ranged t → Ranged u → u .count ≡ t .count → ((i : ℕ) → i < t .count → (offset (task u i) ≡ offset (task t i)) × (task u i .period ≡ task t i .period)) → horizon u ≡ horizon t
+pub horizon-same : (t u : Table) → Ranged t → Ranged u → u .count ≡ t .count
+    → ((i : ℕ) → i < t .count → (offset (task u i) ≡ offset (task t i)) × (task u i .period ≡ task t i .period)) → horizon u ≡ horizon t
 unfolding horizon
-horizon-same t u r q n e = omega (arith, round-same t u r q n (λ i l. e i l .1), largest-le (u .count) (λ i. offset (task u i)) (offsets t) (λ i l. omega (arith, e i (omega arith) .0, le-largest (t .count) (λ k. offset (task t k)) i (omega arith))), largest-le (t .count) (λ i. offset (task t i)) (offsets u) (λ i l. omega (arith, e i l .0, le-largest (u .count) (λ k. offset (task u k)) i (omega arith))))
+horizon-same t u r q n e =
+    omega (
+      arith,
+      round-same t u r q n (λ i l. e i l .1),
+      largest-le (u .count) (λ i. offset (task u i)) (offsets t)
+          (λ i l. omega (arith, e i (omega arith) .0, le-largest (t .count) (λ k. offset (task t k)) i (omega arith))),
+      largest-le (t .count) (λ i. offset (task t i)) (offsets u)
+          (λ i l. omega (arith, e i l .0, le-largest (u .count) (λ k. offset (task u k)) i (omega arith))),
+    )
   where
     offsets : Table → ℕ
     offsets a = largest (a .count) (λ k. offset (task a k))
@@ -102,8 +113,11 @@ mixed-iff t m = (fwd, λ (r, h, same). mixed-of t r h ∙ ap Judgement.WellForme
         let (b, e₂) = passed (ltb taskLimit (t .count)) 2 taskLimit e₁ in
         let (c, e₃) = passed (ltb (firstFaulty t) (t .count)) (taskFault (task t (firstFaulty t))) (firstFaulty t) e₂ in
         let (d, e₄) = passed (ltb roundLimit (round t)) 7 0 e₃ in
-        let same : m ≡ measure t = cc in
-        (ranged t (omega (arith, eqb-false (t .count) 0 a)) (ltb-false taskLimit (t .count) b) (ltb-false (firstFaulty t) (t .count) c), ltb-false roundLimit (round t) d, same)
+        let same : m ≡ measure t = cc in (
+          ranged t (omega (arith, eqb-false (t .count) 0 a)) (ltb-false taskLimit (t .count) b) (ltb-false (firstFaulty t) (t .count) c),
+          ltb-false roundLimit (round t) d,
+          same,
+        )
 
 -- EXACTLY: where only periodic tasks are allowed it is well-formed if it is so at all and has no button.
 pub periodic-iff : (t : Table) (m : Measure) → (judged t ≡ Judgement.WellFormed m) ↔ ((judgedMixed t ≡ Judgement.WellFormed m) × Buttonless t)
@@ -133,12 +147,15 @@ pub refused-both : (t : Table) (r : Refusal) → judgedMixed t ≡ Judgement.Ref
 unfolding judged
 refused-both t r e = rw e refl
 
-pub refused-button : (t : Table) (m : Measure) (i : ℕ) → judgedMixed t ≡ Judgement.WellFormed m → Least (λ k. (k < t .count) × (isButton (task t k) ≡ true)) i → judged t ≡ Judgement.Refused (refusal 11 i)
+pub refused-button : (t : Table) (m : Measure) (i : ℕ) → judgedMixed t ≡ Judgement.WellFormed m
+    → Least (λ k. (k < t .count) × (isButton (task t k) ≡ true)) i → judged t ≡ Judgement.Refused (refusal 11 i)
 unfolding judged firstButton
 refused-button t m i e ((l, b), before) = rw (e, at, lt-ltb i (t .count) l) refl
   where
     at : firstButton t ≡ i
-    at = first-is (λ k. isButton (task t k)) 0 (t .count) i (omega arith) (omega arith) (rw b tt) (λ k x y h. before k y (omega arith, is-true (isButton (task t k)) h))
+    at =
+        first-is (λ k. isButton (task t k)) 0 (t .count) i (omega arith) (omega arith) (rw b tt)
+        (λ k x y h. before k y (omega arith, is-true (isButton (task t k)) h))
 
 -- EXACTLY: by its ranges, H and the sorts of its tasks.
 pub judged-iff : (t : Table) (m : Measure) → (judged t ≡ Judgement.WellFormed m) ↔ (Ranged t × (round t ≤ roundLimit) × (m ≡ measure t) × Buttonless t)
@@ -165,9 +182,15 @@ pub well-formed : (t : Table) (m : Measure) → judged t ≡ Judgement.WellForme
 well-formed t m e = well-mixed t m (periodic-iff t m .0 e .0)
 
 -- Tables with the same tasks are well-formed together, whatever stands behind their tasks.
-pub same-well-formed : (t u : Table) (m : Measure) → u .count ≡ t .count → ((i : ℕ) → i < t .count → task u i ≡ task t i) → judgedMixed t ≡ Judgement.WellFormed m → judgedMixed u ≡ Judgement.WellFormed (measure u)
+pub same-well-formed : (t u : Table) (m : Measure) → u .count ≡ t .count → ((i : ℕ) → i < t .count → task u i ≡ task t i)
+    → judgedMixed t ≡ Judgement.WellFormed m → judgedMixed u ≡ Judgement.WellFormed (measure u)
 same-well-formed t u m size same well =
     let (r, h, _) = mixed-iff t m .0 well in
-    let u-ranged : Ranged u = record { some = omega (arith, r .some); few = omega (arith, r .few); each = λ i l. rw (same i (omega arith)) (r .each i (omega arith)) } in
-    let le : round u ≤ round t = round-least u u-ranged (round t) (round-pos t r) (λ i l. subst (λ (k : Task). k .period ∣ round t) (sym (same i (omega arith))) (period-divides t r i (omega arith))) in
+    let u-ranged : Ranged u = record {
+      some = omega (arith, r .some);
+      few = omega (arith, r .few);
+      each = λ i l. rw (same i (omega arith)) (r .each i (omega arith));
+    } in
+    let le : round u ≤ round t = round-least u u-ranged (round t) (round-pos t r)
+    (λ i l. subst (λ (k : Task). k .period ∣ round t) (sym (same i (omega arith))) (period-divides t r i (omega arith))) in
     mixed-of u u-ranged (omega arith)

@@ -10,7 +10,8 @@ use Rattle.model.specs.TableFile.{wordBytes, bytesOf}
 use Rattle.counting.specs.Put.{Put, join}
 
 -- Four bytes put one by one.
-pub four-put : {l : List ℕ} {at a b c d p q r s : ℕ} → p ≡ a → q ≡ b → r ≡ c → s ≡ d → Put (a ∷ b ∷ c ∷ d ∷ []) at l (set (set (set (set l at p) (at + 1) q) (at + 2) r) (at + 3) s) (at + 4)
+pub four-put : {l : List ℕ} {at a b c d p q r s : ℕ} → p ≡ a → q ≡ b → r ≡ c → s ≡ d
+    → Put (a ∷ b ∷ c ∷ d ∷ []) at l (set (set (set (set l at p) (at + 1) q) (at + 2) r) (at + 3) s) (at + 4)
 four-put {at = at} first second third fourth =
     let one : at + 1 ≡ suc at = omega arith in
     let two : at + 2 ≡ suc (suc at) = omega arith in
@@ -32,6 +33,8 @@ unfolding bytesOf
 one-word x = refl
 
 -- A turn of the loop that puts words.
-pub one-more : (w : List ℕ) (i : ℕ) {before between after : List ℕ} {at middle next : ℕ} → i < length w → Put (bytesOf (take i w)) at before between middle → Put (wordBytes (getD w i 0)) middle between after next → Put (bytesOf (take (i + 1) w)) at before after next
+pub one-more : (w : List ℕ) (i : ℕ) {before between after : List ℕ} {at middle next : ℕ} → i < length w
+    → Put (bytesOf (take i w)) at before between middle → Put (wordBytes (getD w i 0)) middle between after next
+    → Put (bytesOf (take (i + 1) w)) at before after next
 one-more w i h p q =
     rw (add-one i, take-suc w i 0, bytes-append (take i w) (getD w i 0 ∷ []), one-word) (join p q)

@@ -19,7 +19,8 @@ word-back x h =
 lowest : (x a rest : ℕ) → x ≡ a + 256 * rest → a < 256 → x % 256 ≡ a
 lowest x a rest e h = omega arith
 
-bytes-back : (x a b c d : ℕ) (s : List ℕ) → x ≡ a + 256 * b + 65536 * c + 16777216 * d → a < 256 → b < 256 → c < 256 → d < 256 → wordBytes x ++ s ≡ a ∷ b ∷ c ∷ d ∷ s
+bytes-back : (x a b c d : ℕ) (s : List ℕ) → x ≡ a + 256 * b + 65536 * c + 16777216 * d → a < 256 → b < 256 → c < 256 → d < 256
+    → wordBytes x ++ s ≡ a ∷ b ∷ c ∷ d ∷ s
 bytes-back x a b c d s e ha hb hc hd =
     let first : x % 256 ≡ a = lowest x a (b + 256 * c + 65536 * d) (omega arith) ha in
     let second : x / 256 % 256 ≡ b = lowest (x / 256) b (c + 256 * d) (omega arith) hb in
@@ -44,4 +45,5 @@ module _ (s : List ℕ) (bytes : (i : ℕ) → getD s i 0 < 256) where
   -- From a place on the list is the bytes of the word there, and then what stands behind it.
   pub word-here : (at next : ℕ) → at + 4 ≡ next → next ≤ length s → drop at s ≡ wordBytes (four s at) ++ drop next s
   word-here at next e h =
-      rw (← e) (four-bytes at (omega arith) ∙ sym (bytes-back (four s at) _ _ _ _ (drop (at + 4) s) refl (bytes at) (bytes (at + 1)) (bytes (at + 2)) (bytes (at + 3))))
+      rw (← e) (four-bytes at (omega arith) ∙ sym
+      (bytes-back (four s at) _ _ _ _ (drop (at + 4) s) refl (bytes at) (bytes (at + 1)) (bytes (at + 2)) (bytes (at + 3))))

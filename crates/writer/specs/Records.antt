@@ -43,7 +43,12 @@ unfolding taskRecords
 records-more ks zero n h = omega arith
 records-more [] (suc i) (suc n) h = omega arith
 records-more (k ∷ ks) (suc i) (suc n) h =
-    omega (arith, records-more ks i n (omega arith), length-append (taskRecord k) (taskRecords (take i ks)), length-append (taskRecord k) (taskRecords (take n ks)))
+    omega (
+      arith,
+      records-more ks i n (omega arith),
+      length-append (taskRecord k) (taskRecords (take i ks)),
+      length-append (taskRecord k) (taskRecords (take n ks)),
+    )
 
 records-append : (ks : List Task) (k : Task) → taskRecords (ks ++ (k ∷ [])) ≡ taskRecords ks ++ taskRecord k
 unfolding taskRecords
@@ -51,13 +56,16 @@ records-append [] k = append-nil (taskRecord k)
 records-append (x ∷ ks) k = simp (records-append ks k, append-assoc)
 
 -- One task more has its own bytes more.
-pub records-step : (ks : List Task) (i : ℕ) → i < length ks → length (taskRecords (take (i + 1) ks)) ≡ length (taskRecords (take i ks)) + recordBytes (getD ks i noTask)
+pub records-step : (ks : List Task) (i : ℕ) → i < length ks → length (taskRecords (take (i + 1) ks)) ≡ length (taskRecords (take i ks)) + recordBytes
+    (getD ks i noTask)
 records-step ks i h =
-    rw (add-one i, take-suc ks i noTask, records-append (take i ks) (getD ks i noTask)) (omega (arith, length-append (taskRecords (take i ks)) (taskRecord (getD ks i noTask)), record-length (getD ks i noTask)))
+    rw (add-one i, take-suc ks i noTask, records-append (take i ks) (getD ks i noTask))
+    (omega (arith, length-append (taskRecords (take i ks)) (taskRecord (getD ks i noTask)), record-length (getD ks i noTask)))
 
 -- A turn of the loop that puts the tasks.
 pub one-more : (ks : List Task) (i : ℕ) {before between after : List ℕ} {at middle next : ℕ} → i < length ks
-    → Put (taskRecords (take i ks)) at before between middle → Put (taskRecord (getD ks i noTask)) middle between after next → Put (taskRecords (take (i + 1) ks)) at before after next
+    → Put (taskRecords (take i ks)) at before between middle → Put (taskRecord (getD ks i noTask)) middle between after next
+    → Put (taskRecords (take (i + 1) ks)) at before after next
 one-more ks i h p q = rw (add-one i, take-suc ks i noTask, records-append (take i ks) (getD ks i noTask)) (join p q)
 
 -- A budget of 0, and any other.
@@ -69,11 +77,13 @@ pub something : {f : Filled} (b : ℕ) (bytes before : List ℕ) → b ≢ 0 →
 something b bytes before h e = rw (ne-eqb b 0 h) e
 
 -- A buffer that is too short.
-pub short : {w : Writing} (bytes before : List ℕ) → length before < length bytes → w ≡ Writing.Refused (refusal 31 (length before)) → filled w before ≡ fitted bytes before
+pub short : {w : Writing} (bytes before : List ℕ) → length before < length bytes → w ≡ Writing.Refused (refusal 31 (length before))
+    → filled w before ≡ fitted bytes before
 short bytes before h e = rw (lt-ltb (length before) (length bytes) h, e)
 
 -- Bytes at the front of a buffer that is long enough.
-pub fits : {bytes before after : List ℕ} {next : ℕ} → Put bytes 0 before after next → length bytes ≤ length before → filled (Writing.Bytes next) after ≡ fitted bytes before
+pub fits : {bytes before after : List ℕ} {next : ℕ} → Put bytes 0 before after next → length bytes ≤ length before
+    → filled (Writing.Bytes next) after ≡ fitted bytes before
 fits {bytes} {before} p h =
     let n : 0 + length bytes ≡ length bytes = omega arith in
     let place = p .place in

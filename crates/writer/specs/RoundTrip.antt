@@ -34,7 +34,12 @@ ranged-fit : (t : Table) → Ranged t → AllFit (tasksOf t)
 ranged-fit t r i l =
     let size : length (tasksOf t) ≡ t .count = length-take-le (t .count) (t .tasks) (holds-all t r) in
     let k = r .each i (omega arith) in
-    rw (getD-take (t .count) (t .tasks) i noTask (omega arith)) (omega (arith, k .offset-le), omega (arith, k .cost-le, k .deadline-le, k .period-le), omega (arith, k .deadline-le, k .period-le), omega (arith, k .period-le))
+    rw (getD-take (t .count) (t .tasks) i noTask (omega arith)) (
+      omega (arith, k .offset-le),
+      omega (arith, k .cost-le, k .deadline-le, k .period-le),
+      omega (arith, k .deadline-le, k .period-le),
+      omega (arith, k .period-le),
+    )
 
 module _ (t : Table) (m : Measure) (b : ℕ) (well : judgedMixed t ≡ Judgement.WellFormed m) where
   ranged : Ranged t
@@ -50,7 +55,8 @@ module _ (t : Table) (m : Measure) (b : ℕ) (well : judgedMixed t ≡ Judgement
   -- A table of these tasks is well-formed too.
   pub tasks-well-formed : judgedMixed (tableOf (tasksOf t)) ≡ Judgement.WellFormed (measure (tableOf (tasksOf t)))
   tasks-well-formed =
-      let same : (i : ℕ) → i < t .count → task (tableOf (tasksOf t)) i ≡ task t i = λ i l. List·getD-append (tasksOf t) _ noTask i (omega (arith, size)) ∙ getD-take (t .count) (t .tasks) i noTask l in
+      let same : (i : ℕ) → i < t .count → task (tableOf (tasksOf t)) i ≡ task t i = λ i l. List·getD-append (tasksOf t) _ noTask i
+      (omega (arith, size)) ∙ getD-take (t .count) (t .tasks) i noTask l in
       same-well-formed t (tableOf (tasksOf t)) m size same well
 
   -- What has a form that holds this budget and these tasks is read as such.
@@ -66,7 +72,8 @@ module _ (t : Table) (m : Measure) (b : ℕ) (well : judgedMixed t ≡ Judgement
 pub fitted-front : (bytes buffer : List ℕ) (n : ℕ) → fitted bytes buffer .said ≡ Writing.Bytes n → take n (fitted bytes buffer .buffer) ≡ bytes
 fitted-front bytes buffer n = go (ltb (length buffer) (length bytes))
   where
-    go : (short : Bool) → let f = cond short (unwritten 31 (length buffer) buffer) (record { said = Writing.Bytes (length bytes); buffer = bytes ++ drop (length bytes) buffer }) in f .said ≡ Writing.Bytes n → take n (f .buffer) ≡ bytes
+    go : (short : Bool) → let f = cond short (unwritten 31 (length buffer) buffer)
+        (record { said = Writing.Bytes (length bytes); buffer = bytes ++ drop (length bytes) buffer }) in f .said ≡ Writing.Bytes n → take n (f .buffer) ≡ bytes
     go true e = let z : _≡_ {A = ℕ} 0 1 = cc in absurd (omega arith)
     go false e = let size : length bytes ≡ n = cc in take-at bytes _ n size
 
@@ -86,7 +93,8 @@ pub written-reads : (t : Table) (b : ℕ) (buffer : List ℕ) (n : ℕ) → b < 
 unfolding fileWritten
 written-reads t b buffer n limit = go (judgedMixed t) refl
   where
-    go : (j : Judgement) → judgedMixed t ≡ j → writtenBy b (fileOf b (tasksOf t)) buffer j .said ≡ Writing.Bytes n → fileRead (take n (writtenBy b (fileOf b (tasksOf t)) buffer j .buffer)) ≡ admit b (tasksOf t)
+    go : (j : Judgement) → judgedMixed t ≡ j → writtenBy b (fileOf b (tasksOf t)) buffer j .said ≡ Writing.Bytes n
+        → fileRead (take n (writtenBy b (fileOf b (tasksOf t)) buffer j .buffer)) ≡ admit b (tasksOf t)
     go (Judgement.Refused r) well e = let z : _≡_ {A = ℕ} 0 1 = cc in absurd (omega arith)
     go (Judgement.WellFormed m) well e =
         let (some, front) = budgeted-front b (fileOf b (tasksOf t)) buffer n e in

@@ -13,7 +13,8 @@ walk-requires c κs = (c .pre .0, (c .pre .1 .0, (omega arith, λ e. absurd (sub
 returns : tie.Need-returns
 returns c =
     let b = c .before .before in
-    calmed _ (b .before .pre .0) (b .before .pre .1 .0) (omega (arith, b .before .pre .1 .1)) (b .walk .ensures) _ (λ h. omega (tests, h)) (λ h. lt→ltb 0 (b .walk .result .here .idle) h)
+    calmed _ (b .before .pre .0) (b .before .pre .1 .0) (omega (arith, b .before .pre .1 .1)) (b .walk .ensures) _ (λ h. omega (tests, h))
+    (λ h. lt→ltb 0 (b .walk .result .here .idle) h)
 
 pub is-calm-spec : {M : Type 1} → statement M
 is-calm-spec = tie.close (tie.spec walk-requires returns)

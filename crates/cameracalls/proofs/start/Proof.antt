@@ -18,7 +18,12 @@ returns c =
     let known = c .before .before in
     let form = known .before .before in
     let s = form .before .before .before .args in
-    rw (on-form stateBytes (s .file .now) (s .state .now) (form .form-for .ensures) (λ t. startWritten (s .state .now) (started t .state) (started t .admission)), known .admission .given .1, c .refusal-number .ensures)
+    rw (
+      on-form stateBytes (s .file .now) (s .state .now) (form .form-for .ensures)
+          (λ t. startWritten (s .state .now) (started t .state) (started t .admission)),
+      known .admission .given .1,
+      c .refusal-number .ensures,
+    )
 
 returns-2 : tie.Need-returns-2
 returns-2 c =
@@ -26,7 +31,11 @@ returns-2 c =
     let told = called .before .before .before in
     let form = told .before .before in
     let s = form .before .before .before .args in
-    rw (on-form stateBytes (s .file .now) (s .state .now) (form .form-for .ensures) (λ t. startWritten (s .state .now) (started t .state) (started t .admission)), told .enum-told .given .1) (called .start-table .ensures)
+    rw (
+      on-form stateBytes (s .file .now) (s .state .now) (form .form-for .ensures)
+          (λ t. startWritten (s .state .now) (started t .state) (started t .admission)),
+      told .enum-told .given .1,
+    ) (called .start-table .ensures)
 
 pub start-spec : {M : Type 1} → statement M
 start-spec =

@@ -20,7 +20,12 @@ returns c =
     let known = c .before .before in
     let form = known .before .before in
     let s = form .before .before .before .args in
-    rw (on-form stateBytes (s .file .now) (s .state .now) (form .form-for .ensures) (λ t. let x = stepped t (stateIn (s .state .now)) (not (eqb (s .done) 0)) in stepWritten (s .state .now) (x .state) (x .answer)), known .admission .given .1, c .refusal-number .ensures)
+    rw (
+      on-form stateBytes (s .file .now) (s .state .now) (form .form-for .ensures)
+          (λ t. let x = stepped t (stateIn (s .state .now)) (not (eqb (s .done) 0)) in stepWritten (s .state .now) (x .state) (x .answer)),
+      known .admission .given .1,
+      c .refusal-number .ensures,
+    )
 
 returns-2 : tie.Need-returns-2
 returns-2 c =
@@ -28,7 +33,11 @@ returns-2 c =
     let told = called .before .before .before in
     let form = told .before .before in
     let s = form .before .before .before .args in
-    rw (on-form stateBytes (s .file .now) (s .state .now) (form .form-for .ensures) (λ t. let x = stepped t (stateIn (s .state .now)) (not (eqb (s .done) 0)) in stepWritten (s .state .now) (x .state) (x .answer)), told .enum-told .given .1) (called .step-table .ensures)
+    rw (
+      on-form stateBytes (s .file .now) (s .state .now) (form .form-for .ensures)
+          (λ t. let x = stepped t (stateIn (s .state .now)) (not (eqb (s .done) 0)) in stepWritten (s .state .now) (x .state) (x .answer)),
+      told .enum-told .given .1,
+    ) (called .step-table .ensures)
 
 pub step-spec : {M : Type 1} → statement M
 step-spec =

@@ -24,8 +24,11 @@ returns c =
 
 loop-again : tie.Need-loop-again Inv-loop μ-loop
 loop-again c =
-    let turn = c .before .before .before in
-    (omega arith, room-again (now (turn .before .args .given)) (turn .before .args .empty) (turn .before .args .n) (turn .loop .i) (turn .loop .room) (turn .loop .inv .1) (omega arith))
+    let turn = c .before .before .before in (
+      omega arith,
+      room-again (now (turn .before .args .given)) (turn .before .args .empty) (turn .before .args .n) (turn .loop .i) (turn .loop .room)
+          (turn .loop .inv .1) (omega arith),
+    )
 
 returns-2 : tie.Need-returns-2 Inv-loop μ-loop
 returns-2 c = room-end _ _ _ _ _ (c .before .loop .inv .1) (omega arith)

@@ -8,7 +8,8 @@ use Rattle.dispatch.proofs.step_taken.Statement.{statement}
 use Rattle.dispatch.proofs.step_taken.Tie as tie
 
 -- What the lists are then, of any such table.
-moved : (c : tie.After-advance) (t : Table) → let s = c .before .before .before .before .args in Unpacked t (s .period .now) (s .cost .now) (s .slack .now) (s .rank .now) (s .n) → Unrefused t (s .d) → Advanced t (s .d) (s .done) (c .advance .result)
+moved : (c : tie.After-advance) (t : Table) → let s = c .before .before .before .before .args in Unpacked t (s .period .now) (s .cost .now)
+    (s .slack .now) (s .rank .now) (s .n) → Unrefused t (s .d) → Advanced t (s .d) (s .done) (c .advance .result)
 moved c t unpacked unrefused = let d = c .before .before .before .before .args .d in
     c .advance .ensures t (d .given) (d .empty) unpacked unrefused
 
@@ -35,7 +36,8 @@ returns : tie.Need-returns
 returns c t unpacked unrefused =
     let counted = c .before .before in
     let a = moved-from (counted .before) in
-    taken-is t (a .before .before .before .before .args .d) (a .before .before .before .before .args .done) unrefused (a .advance .result) (moved a t unpacked unrefused)
+    taken-is t (a .before .before .before .before .args .d) (a .before .before .before .before .args .done) unrefused (a .advance .result)
+    (moved a t unpacked unrefused)
     (counted .count-given .ensures) (c .before .turn-of .ensures) (c .count-empty .ensures)
 
 pub step-taken-spec : {M : Type 1} → statement M

@@ -32,7 +32,9 @@ returns-2 c =
     let g = other .before in
     let periodic = g .before in
     c .reduced .ensures
-    ∙ ap (λ (z : ℤ). reduced z (g .common-divisor .result)) (toZ-ofZ {w = w64} {z = d .difference .result} (sfits-of (d .difference .ok)) ∙ d .difference .ensures ∙ ap₂ (λ (a b : ℕ). pos a -ℤ pos b) (other .offset-of .ensures) (one .offset-of2 .ensures))
+    ∙ ap (λ (z : ℤ). reduced z (g .common-divisor .result))
+    (toZ-ofZ {w = w64} {z = d .difference .result} (sfits-of (d .difference .ok)) ∙ d .difference .ensures
+    ∙ ap₂ (λ (a b : ℕ). pos a -ℤ pos b) (other .offset-of .ensures) (one .offset-of2 .ensures))
     ∙ rw (g .common-divisor .ensures, ← periodic .before .is-button .ensures, periodic .if1 .left)
 
 pub distance-of-spec : {M : Type 1} → statement M

@@ -36,14 +36,19 @@ returns : tie.Need-returns Inv-loop μ-loop
 returns c =
     let p = c .before in
     let a = p .before in
-    one-fails (stands (table a)) (table a .count) (a .before .loop .i) (a .loop-test .taken) (subst T (sym (p .pattern-calm .ensures) ∙ not-true _ (c .if1 .taken)))
+    one-fails (stands (table a)) (table a .count) (a .before .loop .i) (a .loop-test .taken)
+    (subst T (sym (p .pattern-calm .ensures) ∙ not-true _ (c .if1 .taken)))
 
 loop-again : tie.Need-loop-again Inv-loop μ-loop
 loop-again c =
     let p = c .before in
     let a = p .before in
-    let v = a .before .loop .inv in
-    (v .0, omega arith, below-more (λ (k : ℕ). T (stands (table a) k)) (a .before .loop .i) (v .2) (subst T (sym (not-false _ (c .if1 .left)) ∙ p .pattern-calm .ensures) tt))
+    let v = a .before .loop .inv in (
+      v .0,
+      omega arith,
+      below-more (λ (k : ℕ). T (stands (table a) k)) (a .before .loop .i) (v .2)
+          (subst T (sym (not-false _ (c .if1 .left)) ∙ p .pattern-calm .ensures) tt),
+    )
 
 returns-2 : tie.Need-returns-2 Inv-loop μ-loop
 returns-2 c =

@@ -19,7 +19,8 @@ ranged c = well-mixed _ _ (c .pre .0) .ranged
 walked : (c : tie.After-starting) → let s = c .before .before .before .before .before in c .starting .result ≡ pattern (s .args .t1) (s .args .i)
 walked c =
     let s = c .before .before .before .before .before in
-    c .starting .ensures ∙ ap (λ (l : List ℕ). startingAt (s .args .t1) (at l)) (c .before .distances .ensures) ∙ pattern-is (s .args .t1) (s .pre .0) (s .args .i)
+    c .starting .ensures ∙ ap (λ (l : List ℕ). startingAt (s .args .t1) (at l)) (c .before .distances .ensures)
+    ∙ pattern-is (s .args .t1) (s .pre .0) (s .args .i)
 
 mul-is-button : tie.Need-mul-is-button
 mul-is-button c = omega (arith, c .pre .1 .1, ranged c .few)

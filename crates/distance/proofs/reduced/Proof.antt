@@ -20,16 +20,19 @@ told : (c : tie.After-remainder) → toZ w64 (ofZ w64 (c .remainder .result)) �
 told c = toZ-ofZ {w = w64} {z = c .remainder .result} (sfits-of (c .remainder .ok)) ∙ rw (toZ-ofZ (c .before .fits .z)) at (c .remainder .ensures)
 
 -- The sum that the first arm casts, and what the second one does.
-sum : (c : tie.After-signed) → let a = c .before .before in toZ w64 (ofZ w64 (a .remainder .result)) +ℤ toZ w64 (ofZ w64 (c .signed .result)) ≡ pos (reduced (a .before .args .z) (a .before .args .g))
+sum : (c : tie.After-signed) → let a = c .before .before in toZ w64 (ofZ w64 (a .remainder .result)) +ℤ toZ w64 (ofZ w64 (c .signed .result))
+    ≡ pos (reduced (a .before .args .z) (a .before .args .g))
 sum c =
     let a = c .before .before in
     let y = c .signed .ensures in
-    ap₂ (λ (u v : ℤ). u +ℤ v) (told a) (seen (c .signed .result) (a .before .args .g) (y .0) (y .1)) ∙ rem-lifted (a .before .args .z) (a .before .args .g) (a .before .pre) (ap (λ (z : ℤ). ltZ z (pos 0)) (sym (told a)) ∙ c .before .if1 .taken)
+    ap₂ (λ (u v : ℤ). u +ℤ v) (told a) (seen (c .signed .result) (a .before .args .g) (y .0) (y .1))
+    ∙ rem-lifted (a .before .args .z) (a .before .args .g) (a .before .pre) (ap (λ (z : ℤ). ltZ z (pos 0)) (sym (told a)) ∙ c .before .if1 .taken)
 
 kept : (c : tie.Else1) → let a = c .before in c .before .remainder .result ≡ pos (reduced (a .before .args .z) (a .before .args .g))
 kept c =
     let a = c .before in
-    sym (toZ-ofZ {w = w64} {z = a .remainder .result} (sfits-of (a .remainder .ok))) ∙ told a ∙ rem-kept (a .before .args .z) (a .before .args .g) (a .before .pre) (ap (λ (z : ℤ). ltZ z (pos 0)) (sym (told a)) ∙ c .if1 .left)
+    sym (toZ-ofZ {w = w64} {z = a .remainder .result} (sfits-of (a .remainder .ok))) ∙ told a
+    ∙ rem-kept (a .before .args .z) (a .before .args .g) (a .before .pre) (ap (λ (z : ℤ). ltZ z (pos 0)) (sym (told a)) ∙ c .if1 .left)
 
 small : (c : tie.Start) → reduced (c .args .z) (c .args .g) < 2 ^ 32
 small c = omega (arith, reduced-lt (c .args .z) (c .args .g) (c .pre))

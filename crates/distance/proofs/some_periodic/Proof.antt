@@ -32,14 +32,19 @@ returns c =
     let b = c .before in
     let a = b .before .before in
     let t = a .before .before .args .t1 in
-    one-passes (periodic t) (t .count) (a .before .loop .i) (omega (arith, a .before .loop .inv .0, a .loop-test .taken)) (rw (← b .is-button .ensures, c .if1 .taken) tt)
+    one-passes (periodic t) (t .count) (a .before .loop .i) (omega (arith, a .before .loop .inv .0, a .loop-test .taken))
+    (rw (← b .is-button .ensures, c .if1 .taken) tt)
 
 loop-again : tie.Need-loop-again Inv-loop μ-loop
 loop-again c =
     let b = c .before in
     let a = b .before .before in
-    let v = a .before .loop .inv in
-    (v .0, omega arith, below-more (λ (k : ℕ). T (periodic (a .before .before .args .t1) k) → ⊥) (a .before .loop .i) (v .2) (λ h. rw (← b .is-button .ensures, c .if1 .left) at h))
+    let v = a .before .loop .inv in (
+      v .0,
+      omega arith,
+      below-more (λ (k : ℕ). T (periodic (a .before .before .args .t1) k) → ⊥) (a .before .loop .i) (v .2)
+          (λ h. rw (← b .is-button .ensures, c .if1 .left) at h),
+    )
 
 returns-2 : tie.Need-returns-2 Inv-loop μ-loop
 returns-2 c =

@@ -18,7 +18,8 @@ shl-result c = omega (arith, c .shared-twos .ensures, zeros-lt 64 (c .before .be
 
 returns-3 : tie.Need-returns-3
 returns-3 c =
-    gcd-shifted (omega arith) (c .before .before .before .odd-part .ensures) (c .before .before .odd-part2 .ensures) (c .before .odd-divisor .ensures) (omega (arith, c .shared-twos .ensures))
+    gcd-shifted (omega arith) (c .before .before .before .odd-part .ensures) (c .before .before .odd-part2 .ensures) (c .before .odd-divisor .ensures)
+    (omega (arith, c .shared-twos .ensures))
 
 pub divisor-spec : {M : Type 1} → statement M
 divisor-spec =

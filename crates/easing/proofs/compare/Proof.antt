@@ -15,7 +15,8 @@ abbrev μ-loop : tie.MeasureT-loop
 μ-loop old new n m kept₀ from₀ i₀ kept from i = m - i
 
 -- What the call found is what task i is found to be.
-found : (c : tie.After-next-eased Inv-loop μ-loop) → let a = c .before .before .before in c .next-eased .result ≡ keptAs (a .before .args .old) (a .before .args .t2) (a .loop .i)
+found : (c : tie.After-next-eased Inv-loop μ-loop) → let a = c .before .before .before in c .next-eased .result
+    ≡ keptAs (a .before .args .old) (a .before .args .t2) (a .loop .i)
 found c = let a = c .before .before .before in next-is (a .before .args .old) (a .before .args .t2) (a .loop .inv .3) (c .next-eased .ensures)
 
 loop-holds : tie.Need-loop-holds Inv-loop μ-loop
@@ -33,7 +34,8 @@ cast-t15 c = omega (arith, c .before .before .before .before .before .pre)
 returns : tie.Need-returns Inv-loop μ-loop
 returns c =
     let a = c .before .before .before .before in
-    sym (ended-none (a .before .args .old) (a .before .args .t2) (a .loop .inv .3) (found (c .before)) (c .before .before .before .loop-test .taken) (omega (arith, c .if1 .taken)))
+    sym (ended-none (a .before .args .old) (a .before .args .t2) (a .loop .inv .3) (found (c .before)) (c .before .before .before .loop-test .taken)
+    (omega (arith, c .if1 .taken)))
 
 with-task-requires : tie.Need-with-task-requires Inv-loop μ-loop
 with-task-requires c κs =
@@ -45,8 +47,13 @@ add-from c = omega (arith, c .before .before .before .before .before .before .pr
 
 loop-again : tie.Need-loop-again Inv-loop μ-loop
 loop-again c =
-    let a = c .before .before .before .before .before in
-    (refl, refl, omega arith, turn (a .before .args .old) (a .before .args .t2) (a .loop .inv .3) (found (c .before .before)) (c .before .if1 .left) (c .with-task .ensures) (omega arith))
+    let a = c .before .before .before .before .before in (
+      refl,
+      refl,
+      omega arith,
+      turn (a .before .args .old) (a .before .args .t2) (a .loop .inv .3) (found (c .before .before)) (c .before .if1 .left)
+          (c .with-task .ensures) (omega arith),
+    )
 
 returns-2 : tie.Need-returns-2 Inv-loop μ-loop
 returns-2 c =

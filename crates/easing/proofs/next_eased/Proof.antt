@@ -33,19 +33,30 @@ returns c =
     let a = c .before .before .before .before in
     let s = a .before .args in
     let found = subst T (sym (c .if1 .taken) ∙ c .before .is-eased .ensures) tt in
-    sym (first-is (eased (s .t1) (s .k)) (s .from) (s .t1 .count - s .from) (a .loop .i) (a .loop .inv .1) (omega (arith, a .loop .inv .1)) found (a .loop .inv .3))
+    sym (first-is (eased (s .t1) (s .k)) (s .from) (s .t1 .count - s .from) (a .loop .i) (a .loop .inv .1) (omega (arith, a .loop .inv .1)) found
+    (a .loop .inv .3))
 
 loop-again : tie.Need-loop-again Inv-loop μ-loop
 loop-again c =
     let a = c .before .before .before .before in
-    let s = a .before .args in
-    (refl, omega (arith, a .loop .inv .1), omega arith, none-up (eased (s .t1) (s .k)) (s .from) (a .loop .i) (a .loop .inv .3) (subst T (sym (c .before .is-eased .ensures) ∙ c .if1 .left)))
+    let s = a .before .args in (
+      refl,
+      omega (arith, a .loop .inv .1),
+      omega arith,
+      none-up (eased (s .t1) (s .k)) (s .from) (a .loop .i) (a .loop .inv .3)
+          (subst T (sym (c .before .is-eased .ensures) ∙ c .if1 .left)),
+    )
 
 returns-2 : tie.Need-returns-2 Inv-loop μ-loop
 returns-2 c =
     let a = c .before in
     let s = a .before .args in
-    omega (arith, a .before .pre, first-none (eased (s .t1) (s .k)) (s .from) (s .t1 .count - s .from) (λ i p q. a .loop .inv .3 i p (omega (arith, a .before .pre))))
+    omega (
+      arith,
+      a .before .pre,
+      first-none (eased (s .t1) (s .k)) (s .from) (s .t1 .count - s .from)
+          (λ i p q. a .loop .inv .3 i p (omega (arith, a .before .pre))),
+    )
 
 pub next-eased-spec : {M : Type 1} → statement M
 next-eased-spec =

@@ -9,7 +9,8 @@ returns : tie.Need-returns
 returns c = let s = c .before .before .args in rw (lt-ltb 0 (s .asked) (omega arith)) (c .brief .ensures)
 
 returns-2 : tie.Need-returns-2
-returns-2 c = let s = c .before .before .before .before .args in rw (le-ltb 0 (s .asked) (omega arith), lt-ltb (s .at) (s .m .horizon) (omega arith)) (c .brief2 .ensures)
+returns-2 c =
+    let s = c .before .before .before .before .args in rw (le-ltb 0 (s .asked) (omega arith), lt-ltb (s .at) (s .m .horizon) (omega arith)) (c .brief2 .ensures)
 
 returns-3 : tie.Need-returns-3
 returns-3 c = let s = c .before .before .before .args in rw (le-ltb 0 (s .asked) (omega arith), le-ltb (s .at) (s .m .horizon) (omega arith))

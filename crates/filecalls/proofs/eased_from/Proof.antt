@@ -7,7 +7,8 @@ use Rattle.filecalls.proofs.eased_from.Statement.{statement}
 use Rattle.filecalls.proofs.eased_from.Tie as tie
 
 compare-requires : tie.Need-compare-requires
-compare-requires c κs = (c .before .before .before .before .before .pre, few-periodic _ (c .before .before .before .read-periodic .ensures) (c .before .enum-told .given .1))
+compare-requires c κs =
+    (c .before .before .before .before .before .pre, few-periodic _ (c .before .before .before .read-periodic .ensures) (c .before .enum-told .given .1))
 
 returns : tie.Need-returns
 returns c =

@@ -14,7 +14,8 @@ returns-2 : tie.Need-returns-2
 returns-2 c =
     let told = c .before .before .before in
     let form = told .before .before in
-    rw (fileNumber, ← form .form-of .ensures) (rw (told .enum-told .given .1) (rw (← form .form-of .ensures) (c .quick-number .ensures ∙ ap quickNumber (c .before .test .ensures))))
+    rw (fileNumber, ← form .form-of .ensures) (rw (told .enum-told .given .1) (rw (← form .form-of .ensures) (c .quick-number .ensures
+    ∙ ap quickNumber (c .before .test .ensures))))
 
 pub quick-file-spec : {M : Type 1} → statement M
 quick-file-spec =

@@ -16,11 +16,16 @@ Inv-loop from to t n asked₀ i₀ asked i = (i ≤ n) × (asked ≤ i * asksLim
 abbrev μ-loop : tie.MeasureT-loop
 μ-loop from to t n asked₀ i₀ asked i = n - i
 
-product : (c : tie.After-jobs-in Inv-loop μ-loop) → let a = c .before .before .before .before in let s = a .before .args in c .before .to-u64 .result * c .jobs-in .result ≡ asks (s .t1) (s .from) (s .to) (a .loop .i)
+product : (c : tie.After-jobs-in Inv-loop μ-loop)
+    → let a = c .before .before .before .before in let s = a .before .args in c .before .to-u64 .result * c .jobs-in .result
+    ≡ asks (s .t1) (s .from) (s .to) (a .loop .i)
 product c = cc
 
-fits : (c : tie.After-jobs-in Inv-loop μ-loop) → let a = c .before .before .before .before in let s = a .before .args in asks (s .t1) (s .from) (s .to) (a .loop .i) ≤ asksLimit
-fits c = let a = c .before .before .before .before in let s = a .before in asks-le (s .args .t1) (s .pre .0) (s .args .from) (s .args .to) (a .loop .i) (omega arith) (s .pre .1 .1)
+fits : (c : tie.After-jobs-in Inv-loop μ-loop) → let a = c .before .before .before .before in let s = a .before .args in asks (s .t1) (s .from)
+    (s .to) (a .loop .i) ≤ asksLimit
+fits c =
+    let a = c .before .before .before .before in
+    let s = a .before in asks-le (s .args .t1) (s .pre .0) (s .args .from) (s .args .to) (a .loop .i) (omega arith) (s .pre .1 .1)
 
 loop-holds : tie.Need-loop-holds Inv-loop μ-loop
 loop-holds c = (omega arith, omega arith, sum-none _)

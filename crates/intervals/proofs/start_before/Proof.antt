@@ -22,7 +22,13 @@ loop-holds : tie.Need-loop-holds Inv-loop μ-loop
 loop-holds c = (omega arith, λ h. h, λ k l. absurd (omega arith))
 
 mul-if1 : tie.Need-mul-if1 Inv-loop μ-loop
-mul-if1 c = let s = c .before .before .before .before in omega (arith, mul-le-mul {n₂ = taskLimit} {m₂ = 4294967296} (s .pre .few) (let h : c .to-u64 .result ≤ 4294967296 = omega (arith, c .to-u64 .ensures .0, c .to-u64 .ensures .1) in h))
+mul-if1 c =
+    let s = c .before .before .before .before in
+    omega (
+      arith,
+      mul-le-mul {n₂ = taskLimit} {m₂ = 4294967296} (s .pre .few)
+          (let h : c .to-u64 .result ≤ 4294967296 = omega (arith, c .to-u64 .ensures .0, c .to-u64 .ensures .1) in h),
+    )
 
 release-before-requires : tie.Need-release-before-requires Inv-loop μ-loop
 release-before-requires c κs = let a = c .before .before .before .before in a .before .pre .each (a .loop .i) (omega arith)
@@ -33,12 +39,15 @@ higher t k h (inl p) = inl p
 higher t k h (inr p) = inr (λ j l. omega (arith, p j l))
 
 -- Of task i: the start is no lower than before, lies before `from`, and passes over the task.
-turned : (c : tie.Joined1 Inv-loop μ-loop) → let a = c .before .before .before .before in let s = a .before .args in (a .loop .start ≤ c .if1 .start) × (0 < s .from → c .if1 .start < s .from) × PassedOver (s .t1) (s .spare) (c .if1 .start) (s .from) (a .loop .i)
+turned : (c : tie.Joined1 Inv-loop μ-loop) → let a = c .before .before .before .before in let s = a .before .args in (a .loop .start ≤ c .if1 .start)
+    × (0 < s .from → c .if1 .start < s .from) × PassedOver (s .t1) (s .spare) (c .if1 .start) (s .from) (a .loop .i)
 turned c =
     let a = c .before .before .before .before in
     elim (c .if1 .came) [
-      | inl (if1, release, if2, start) ↦ (omega (arith, start, if2 .taken), λ h. omega (arith, start, release .ensures .0 h), inr (λ j l. omega (arith, start, release .ensures .1 j l)))
-      | inr (inl (if1, release, if2, start)) ↦ (omega (arith, start), λ h. omega (arith, start, a .loop .inv .1 h), inr (λ j l. omega (arith, start, if2 .left, release .ensures .1 j l)))
+      | inl (if1, release, if2, start) ↦
+          (omega (arith, start, if2 .taken), λ h. omega (arith, start, release .ensures .0 h), inr (λ j l. omega (arith, start, release .ensures .1 j l)))
+      | inr (inl (if1, release, if2, start)) ↦
+          (omega (arith, start), λ h. omega (arith, start, a .loop .inv .1 h), inr (λ j l. omega (arith, start, if2 .left, release .ensures .1 j l)))
       | inr (inr (if1, start)) ↦ (omega (arith, start), λ h. omega (arith, start, a .loop .inv .1 h), inl (rw (← c .before .to-u64 .ensures .0) (if1 .left)))
     ]
 

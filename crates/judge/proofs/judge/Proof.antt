@@ -24,7 +24,8 @@ returns-2 c =
     let good = w .before .before .before in
     let form = good .before .before .form-of .ensures in
     let (piece, text, said) = w .judge-table .ensures in
-    let told = table-told refusalLine (λ report. report) _ piece (ap (λ (l : Contents). l .admission) (sym form) ∙ good .enum-told .given .1) (rw form at said) in
+    let told = table-told refusalLine (λ report. report) _ piece (ap (λ (l : Contents). l .admission) (sym form) ∙ good .enum-told .given .1)
+    (rw form at said) in
     (rw (front piece _ text) told, counted piece _ text)
 
 pub judge-spec : {M : Type 1} → statement M

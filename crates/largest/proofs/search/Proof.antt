@@ -57,7 +57,8 @@ loop-again : tie.Need-loop-again Inv-loop μ-loop
 loop-again c =
     let a = c .before .before .before in
     let s = a .before .before .before .args in
-    halving-up (s .t1) (s .i) (s .budget) (a .loop .passes) (a .loop .fails) (middle a) (a .loop .inv) (omega arith) (omega arith) (sym (c .before .passes-with .ensures) ∙ c .if1 .taken)
+    halving-up (s .t1) (s .i) (s .budget) (a .loop .passes) (a .loop .fails) (middle a) (a .loop .inv) (omega arith) (omega arith)
+    (sym (c .before .passes-with .ensures) ∙ c .if1 .taken)
 
 loop-less-2 : tie.Need-loop-less-2 Inv-loop μ-loop
 loop-less-2 c = omega arith
@@ -66,13 +67,18 @@ loop-again-2 : tie.Need-loop-again-2 Inv-loop μ-loop
 loop-again-2 c =
     let a = c .before .before .before in
     let s = a .before .before .before .args in
-    halving-down (s .t1) (s .i) (s .budget) (a .loop .passes) (a .loop .fails) (middle a) (a .loop .inv) (omega arith) (omega arith) (sym (c .before .passes-with .ensures) ∙ c .if1 .left)
+    halving-down (s .t1) (s .i) (s .budget) (a .loop .passes) (a .loop .fails) (middle a) (a .loop .inv) (omega arith) (omega arith)
+    (sym (c .before .passes-with .ensures) ∙ c .if1 .left)
 
 returns : tie.Need-returns Inv-loop μ-loop
 returns c =
     let a = c .before in
     let s = a .before .before .before in
-    omega (arith, halving-end (s .args .t1) (s .pre .0) (s .args .i) (s .args .budget) (s .pre .1 .0) (s .pre .1 .1) (a .loop .passes) (a .loop .fails) (a .loop .inv) (omega arith))
+    omega (
+      arith,
+      halving-end (s .args .t1) (s .pre .0) (s .args .i) (s .args .budget) (s .pre .1 .0) (s .pre .1 .1) (a .loop .passes)
+          (a .loop .fails) (a .loop .inv) (omega arith),
+    )
 
 pub search-spec : {M : Type 1} → statement M
 search-spec =

@@ -5,7 +5,8 @@ use Rattle.largest.proofs.told.Statement.{statement}
 use Rattle.largest.proofs.told.Tie as tie
 
 search-requires : tie.Need-search-requires
-search-requires c κs = (c .before .before .before .pre .0, (c .before .before .before .pre .1, sym (c .before .before .verdict-on .ensures) ∙ c .enum-told .given .1))
+search-requires c κs =
+    (c .before .before .before .pre .0, (c .before .before .before .pre .1, sym (c .before .before .verdict-on .ensures) ∙ c .enum-told .given .1))
 
 returns : tie.Need-returns
 returns c = rw (← c .before .before .before .verdict-on .ensures, c .before .enum-told .given .1, ← c .search .ensures)

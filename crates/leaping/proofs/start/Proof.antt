@@ -33,14 +33,20 @@ ranges : (c : tie.After-task-of Inv-loop μ-loop) → InRange (task (c .before .
 ranges c = c .before .before .before .before .pre .0 .each (c .task-of .result) (own c)
 
 -- Its cost, as the laws say it.
-cost-is : (c : tie.After-to-u64 Inv-loop μ-loop) → let a = c .before .before .before .before in c .to-u64 .result ≡ task (a .before .before .before .args .t1) (at (a .loop .queue) (a .loop .jobs - 1) % places) .cost
-cost-is c = let k = c .before .before .before in c .to-u64 .ensures .0 ∙ ap (λ (i : ℕ). task (k .before .before .before .before .args .t1) i .cost) (k .task-of .ensures)
+cost-is : (c : tie.After-to-u64 Inv-loop μ-loop) → let a = c .before .before .before .before in c .to-u64 .result
+    ≡ task (a .before .before .before .args .t1) (at (a .loop .queue) (a .loop .jobs - 1) % places) .cost
+cost-is c =
+    let k = c .before .before .before in
+    c .to-u64 .ensures .0 ∙ ap (λ (i : ℕ). task (k .before .before .before .before .args .t1) i .cost) (k .task-of .ensures)
 
 -- The interval from its release does not ask too much, and its length fits.
 length-le : (c : tie.Else1 Inv-loop μ-loop) → c .before .before .time-of .result ≤ c .before .before .before .before .before .before .before .before .args .to
-length-le c = let a = c .before .before .before .before .before in rw (c .before .before .time-of .ensures) (far _ (a .before .before .before .pre .0) _ (a .loop .inv) (busy a))
+length-le c =
+    let a = c .before .before .before .before .before in
+    rw (c .before .before .time-of .ensures) (far _ (a .before .before .before .pre .0) _ (a .loop .inv) (busy a))
 
-shrinks : (c : tie.Else1 Inv-loop μ-loop) → let b = c .before in let a = b .before .before .before .before in a .before .before .before .args .to - (a .loop .asked + b .to-u64 .result) < a .before .before .before .args .to - a .loop .asked
+shrinks : (c : tie.Else1 Inv-loop μ-loop) → let b = c .before in let a = b .before .before .before .before in a .before .before .before .args .to -
+    (a .loop .asked + b .to-u64 .result) < a .before .before .before .args .to - a .loop .asked
 shrinks c = let b = c .before in omega (arith, c .if1 .left, length-le c, b .to-u64 .ensures .0, ranges (b .before .before .before) .cost-pos)
 
 last-jobs-requires : tie.Need-last-jobs-requires Inv-loop μ-loop
@@ -65,13 +71,23 @@ element-copy-out-task : tie.Need-element-copy-out-task Inv-loop μ-loop
 element-copy-out-task c = omega (arith, own c, c .before .before .before .before .pre .0 .few)
 
 add-asked : tie.Need-add-asked Inv-loop μ-loop
-add-asked c = let k = c .before .before .before in let s = k .before .before .before .before in omega (arith, c .to-u64 .ensures, asked-le _ (s .pre .0) _ (k .before .loop .inv), s .pre .1 .1 .0)
+add-asked c =
+    let k = c .before .before .before in
+    let s = k .before .before .before .before in omega (arith, c .to-u64 .ensures, asked-le _ (s .pre .0) _ (k .before .loop .inv), s .pre .1 .1 .0)
 
 add-longer : tie.Need-add-longer Inv-loop μ-loop
-add-longer c = omega (arith, length-le (c .before), c .to-u642 .ensures, c .before .before .before .before .before .before .before .before .before .pre .1 .1 .0)
+add-longer c =
+    omega (arith, length-le (c .before), c .to-u642 .ensures, c .before .before .before .before .before .before .before .before .before .pre .1 .1 .0)
 
 add-if2 : tie.Need-add-if2 Inv-loop μ-loop
-add-if2 c = omega (arith, length-le (c .before .before), c .before .to-u642 .ensures, c .wide-offset-of .ensures, c .before .before .before .before .before .before .before .before .before .before .pre .1 .1 .0)
+add-if2 c =
+    omega (
+      arith,
+      length-le (c .before .before),
+      c .before .to-u642 .ensures,
+      c .wide-offset-of .ensures,
+      c .before .before .before .before .before .before .before .before .before .before .pre .1 .1 .0,
+    )
 
 sub-insert : tie.Need-sub-insert Inv-loop μ-loop
 sub-insert c = omega (arith, busy (c .before .before .before .before .before .before .before .before .before))
@@ -80,10 +96,17 @@ mul-entry : tie.Need-mul-entry Inv-loop μ-loop
 mul-entry c = let k = c .before .before .before .before .before .before .before .before in omega (arith, own k, k .before .before .before .before .pre .0 .few)
 
 element-copy-out-entry : tie.Need-element-copy-out-entry Inv-loop μ-loop
-element-copy-out-entry c = let k = c .before .before .before .before .before .before .before .before in omega (arith, own k, k .before .before .before .before .pre .0 .few)
+element-copy-out-entry c =
+    let k = c .before .before .before .before .before .before .before .before in omega (arith, own k, k .before .before .before .before .pre .0 .few)
 
 entry-requires : tie.Need-entry-requires Inv-loop μ-loop
-entry-requires c κs = let k = c .before .before .before .before .before .before .before .before .before in let s = k .before .before .before .before in (omega (arith, c .before .before .if2 .taken, s .pre .1 .1 .0), omega (arith, s .pre .1 .0 (k .task-of .result) (own k), mark-small (s .args .t1) (s .pre .0) (k .task-of .result) (own k)))
+entry-requires c κs =
+    let k = c .before .before .before .before .before .before .before .before .before in
+    let s = k .before .before .before .before in (
+      omega (arith, c .before .before .if2 .taken, s .pre .1 .1 .0),
+      omega
+          (arith, s .pre .1 .0 (k .task-of .result) (own k), mark-small (s .args .t1) (s .pre .0) (k .task-of .result) (own k)),
+    )
 
 insert-requires : tie.Need-insert-requires Inv-loop μ-loop
 insert-requires c κs = let a = c .before .before .before .before .before .before .before .before .before .before .before in omega (arith, few a, busy a)
@@ -99,9 +122,13 @@ loop-again c =
     let a = k .before in
     let s = a .before .before .before in
     let period = u .before .to-u642 .ensures .0 ∙ ap (λ (i : ℕ). task (s .args .t1) i .period) (k .task-of .ensures) in
-    let start : u .wide-offset-of .result ≡ offset (task (s .args .t1) (at (a .loop .queue) (a .loop .jobs - 1) % places)) = u .wide-offset-of .ensures .0 ∙ ap (λ (i : ℕ). offset (task (s .args .t1) i)) (k .task-of .ensures) in
-    let both = goes-on _ (s .pre .0) _ (a .loop .inv) (busy a) (b .before .time-of .result) (b .before .time-of .result + u .before .to-u642 .result) (b .before .time-of .ensures) (ap (λ (x : ℕ). b .before .time-of .result + x) period) (omega (arith, u .before .before .if1 .left, cost-is b)) in
-    rw (c .insert .ensures, c .before .entry .ensures, s .pre .1 .0 _ (own k), cost-is b, k .task-of .ensures) (both .0 (omega (arith, c .before .before .before .before .if2 .taken, start)) (few a))
+    let start : u .wide-offset-of .result ≡ offset
+    (task (s .args .t1) (at (a .loop .queue) (a .loop .jobs - 1) % places)) = u .wide-offset-of .ensures .0
+    ∙ ap (λ (i : ℕ). offset (task (s .args .t1) i)) (k .task-of .ensures) in
+    let both = goes-on _ (s .pre .0) _ (a .loop .inv) (busy a) (b .before .time-of .result) (b .before .time-of .result + u .before .to-u642 .result)
+    (b .before .time-of .ensures) (ap (λ (x : ℕ). b .before .time-of .result + x) period) (omega (arith, u .before .before .if1 .left, cost-is b)) in
+    rw (c .insert .ensures, c .before .entry .ensures, s .pre .1 .0 _ (own k), cost-is b, k .task-of .ensures)
+    (both .0 (omega (arith, c .before .before .before .before .if2 .taken, start)) (few a))
 
 sub-jobs : tie.Need-sub-jobs Inv-loop μ-loop
 sub-jobs c = omega (arith, busy (c .before .before .before .before .before .before .before .before))
@@ -117,18 +144,24 @@ loop-again-2 c =
     let a = k .before in
     let s = a .before .before .before in
     let period = u .before .to-u642 .ensures .0 ∙ ap (λ (i : ℕ). task (s .args .t1) i .period) (k .task-of .ensures) in
-    let start : u .wide-offset-of .result ≡ offset (task (s .args .t1) (at (a .loop .queue) (a .loop .jobs - 1) % places)) = u .wide-offset-of .ensures .0 ∙ ap (λ (i : ℕ). offset (task (s .args .t1) i)) (k .task-of .ensures) in
-    let both = goes-on _ (s .pre .0) _ (a .loop .inv) (busy a) (b .before .time-of .result) (b .before .time-of .result + u .before .to-u642 .result) (b .before .time-of .ensures) (ap (λ (x : ℕ). b .before .time-of .result + x) period) (omega (arith, u .before .before .if1 .left, cost-is b)) in
+    let start : u .wide-offset-of .result ≡ offset
+    (task (s .args .t1) (at (a .loop .queue) (a .loop .jobs - 1) % places)) = u .wide-offset-of .ensures .0
+    ∙ ap (λ (i : ℕ). offset (task (s .args .t1) i)) (k .task-of .ensures) in
+    let both = goes-on _ (s .pre .0) _ (a .loop .inv) (busy a) (b .before .time-of .result) (b .before .time-of .result + u .before .to-u642 .result)
+    (b .before .time-of .ensures) (ap (λ (x : ℕ). b .before .time-of .result + x) period) (omega (arith, u .before .before .if1 .left, cost-is b)) in
     rw (cost-is b) (both .1 (omega (arith, c .if2 .left, start)))
 
 sub-result : tie.Need-sub-result Inv-loop μ-loop
-sub-result c = let b = c .before in let a = b .before .before .before .before in rw (b .before .time-of .ensures) (far _ (a .before .before .before .pre .0) _ (a .loop .inv) (busy a))
+sub-result c =
+    let b = c .before in
+    let a = b .before .before .before .before in rw (b .before .time-of .ensures) (far _ (a .before .before .before .pre .0) _ (a .loop .inv) (busy a))
 
 returns : tie.Need-returns Inv-loop μ-loop
 returns c =
     let b = c .before in
     let a = b .before .before .before .before in
-    let (x, y, z, w) = found _ (a .before .before .before .pre .0) _ (a .loop .inv) (busy a) (b .before .time-of .result) (b .before .time-of .ensures) (omega (arith, c .if1 .taken, cost-is b)) in
+    let (x, y, z, w) = found _ (a .before .before .before .pre .0) _ (a .loop .inv) (busy a) (b .before .time-of .result)
+    (b .before .time-of .ensures) (omega (arith, c .if1 .taken, cost-is b)) in
     (x, z, w)
 
 pub start-spec : {M : Type 1} → statement M

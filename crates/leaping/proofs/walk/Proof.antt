@@ -29,8 +29,13 @@ sub-walk c = let f = well-formed _ _ (c .before .before .pre .0) in omega (arith
 walk-requires : tie.Need-walk-requires
 walk-requires c κs =
     let s = c .before .before in
-    let f = well-formed _ _ (s .pre .0) in
-    (f .ranged, (omega (arith, s .pre .1, f .load-is, f .round-is), (omega (arith, c .before .smaller .ensures, f .horizon-is, f .horizon-le), λ e i l. omega (arith, f .round-is, f .horizon-is, f .offset-le i l))))
+    let f = well-formed _ _ (s .pre .0) in (
+      f .ranged,
+      (
+        omega (arith, s .pre .1, f .load-is, f .round-is),
+        (omega (arith, c .before .smaller .ensures, f .horizon-is, f .horizon-le), λ e i l. omega (arith, f .round-is, f .horizon-is, f .offset-le i l)),
+      ),
+    )
 
 unpack-requires : tie.Need-unpack-requires
 unpack-requires c κs = facts (c .before .before .before) .ranged
@@ -53,7 +58,8 @@ returns c =
     let x = w .walk .ensures in
     let (less, much, none) = k .start .ensures in
     let asked = c .demand .ensures in
-    late-course (x .tally) _ _ (omega (arith, x .upto, w .before .before .smaller .ensures)) (x .clear) (x .late (l .if1 .taken)) less asked (omega (arith, much, asked)) none
+    late-course (x .tally) _ _ (omega (arith, x .upto, w .before .before .smaller .ensures)) (x .clear) (x .late (l .if1 .taken)) less asked
+    (omega (arith, much, asked)) none
 
 returns-2 : tie.Need-returns-2
 returns-2 c =

@@ -18,7 +18,9 @@ loop-holds : tie.Need-loop-holds Inv-loop μ-loop
 loop-holds c = (omega arith, refl)
 
 loop-again : tie.Need-loop-again Inv-loop μ-loop
-loop-again c = let v = c .before .before .before .loop .inv in (omega (arith, v .0), inserted-below _ _ _ (c .before .before .loop-test .taken) (omega (arith, c .if1 .left)) ∙ v .1)
+loop-again c =
+    let v = c .before .before .before .loop .inv in
+    (omega (arith, v .0), inserted-below _ _ _ (c .before .before .loop-test .taken) (omega (arith, c .if1 .left)) ∙ v .1)
 
 returns : tie.Need-returns Inv-loop μ-loop
 returns c =

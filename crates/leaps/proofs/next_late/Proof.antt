@@ -12,7 +12,13 @@ returns-2 : tie.Need-returns-2
 returns-2 c = rw (le-ltb _ _ (c .before .if1 .left), le-ltb 0 (c .before .before .args .jobs) (omega (arith, c .if2 .taken)))
 
 returns-3 : tie.Need-returns-3
-returns-3 c = rw (le-ltb _ _ (c .before .before .before .if1 .left), lt-ltb 0 (c .before .before .before .before .args .jobs) (omega (arith, c .before .before .if2 .left)), c .time-of .ensures)
+returns-3 c =
+    rw (
+      le-ltb _ _ (c .before .before .before .if1 .left),
+      lt-ltb 0 (c .before .before .before .before .args .jobs)
+          (omega (arith, c .before .before .if2 .left)),
+      c .time-of .ensures,
+    )
 
 pub next-late-spec : {M : Type 1} → statement M
 next-late-spec =

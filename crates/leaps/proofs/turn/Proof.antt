@@ -17,7 +17,9 @@ use Rattle.leaps.proofs.turn.Tie as tie
 
 -- The turn is one of this table.
 abbrev Of : tie.Start → Table → Type 0
-Of s t = let a = s .args in Ready t (a .deadline .now) (a .releases .now) (a .ready .now) (a .left .now) (a .worst .now) (a .last) (a .at) (a .end) (a .jobs) (a .idle)
+Of s t =
+    let a = s .args in
+    Ready t (a .deadline .now) (a .releases .now) (a .ready .now) (a .left .now) (a .worst .now) (a .last) (a .at) (a .end) (a .jobs) (a .idle)
 
 -- When the next release is.
 soon : (c : tie.After-time-of) (t : Table) → Of (c .before .before) t → c .time-of .result ≡ at (c .before .before .args .releases .now) (t .count - 1) / span
@@ -38,12 +40,18 @@ few c = let (t, y) = start c .pre in omega (arith, crowd t (y .ranged) (y .held)
 own : (c : tie.After-task-of) (t : Table) → Of (start (c .before .before)) t → c .task-of .result < t .count
 own c t y =
     let k = soon (c .before .before .before) t y in
-    omega (arith, c .task-of .ensures, owner-is t (y .ranged) (y .light) (y .clear) (y .held) (y .tally) k (y .before) (busy (c .before .before)), bound t (y .ranged) (y .light) (y .clear) (y .held) (y .tally) k (y .before) (busy (c .before .before)))
+    omega (
+      arith,
+      c .task-of .ensures,
+      owner-is t (y .ranged) (y .light) (y .clear) (y .held) (y .tally) k (y .before) (busy (c .before .before)),
+      bound t (y .ranged) (y .light) (y .clear) (y .held) (y .tally) k (y .before) (busy (c .before .before)),
+    )
 
 small : (c : tie.After-task-of) → at (start (c .before .before) .args .left .now) (c .task-of .result) ≤ slotLimit
 small c =
     let (t, y) = start (c .before .before) .pre in
-    rw (c .task-of .ensures) (left-small t (y .ranged) (y .light) (y .clear) (y .held) (y .tally) (soon (c .before .before .before) t y) (y .before) (busy (c .before .before)))
+    rw (c .task-of .ensures)
+    (left-small t (y .ranged) (y .light) (y .clear) (y .held) (y .tally) (soon (c .before .before .before) t y) (y .before) (busy (c .before .before)))
 
 -- It is within the arrays.
 low : (c : tie.After-task-of) → c .task-of .result < taskLimit
@@ -59,7 +67,8 @@ rest-requires : tie.Need-rest-requires
 rest-requires c κs = let y = c .before .before .before .pre .1 in omega (arith, y .before, y .limit)
 
 returns : tie.Need-returns
-returns c t y = rw (c .rest .ensures) (rests t (y .ranged) (y .light) (y .clear) (y .held) (y .tally) (soon (c .before .before) t y) (y .before) (c .before .if1 .taken))
+returns c t y =
+    rw (c .rest .ensures) (rests t (y .ranged) (y .light) (y .clear) (y .held) (y .tally) (soon (c .before .before) t y) (y .before) (c .before .if1 .taken))
 
 mul-key : tie.Need-mul-key
 mul-key c = omega (arith, few c)
@@ -77,13 +86,23 @@ returns-2 : tie.Need-returns-2
 returns-2 c t y =
     let a = c .before .before .before in
     let k = a .before .before in
-    rw (c .stop .ensures) (stops t (y .ranged) (y .light) (y .clear) (y .held) (y .tally) (soon (k .before .before .before) t y) (y .before) (busy (k .before .before)) (k .task-of .ensures) (a .before .time-of2 .ensures) refl (inl (omega (arith, c .before .if3 .taken, c .before .before .if2 .taken), omega (arith, c .before .if3 .taken))))
+    rw (c .stop .ensures)
+    (stops t (y .ranged) (y .light) (y .clear) (y .held) (y .tally) (soon (k .before .before .before) t y) (y .before) (busy (k .before .before))
+    (k .task-of .ensures) (a .before .time-of2 .ensures) refl
+    (inl (omega (arith, c .before .if3 .taken, c .before .before .if2 .taken), omega (arith, c .before .if3 .taken))))
 
 returns-3 : tie.Need-returns-3
 returns-3 c t y =
     let a = c .before .before .before .before in
     let k = a .before .before in
-    rw (c .stop2 .ensures) (stops t (y .ranged) (y .light) (y .clear) (y .held) (y .tally) (soon (k .before .before .before) t y) (y .before) (busy (k .before .before)) (k .task-of .ensures) (a .before .time-of2 .ensures) refl (inr (omega (arith, c .before .if4 .taken, c .before .before .before .if2 .taken), omega (arith, c .before .if4 .taken), omega (arith, c .before .if4 .taken, c .before .before .if3 .left))))
+    rw (c .stop2 .ensures)
+    (stops t (y .ranged) (y .light) (y .clear) (y .held) (y .tally) (soon (k .before .before .before) t y) (y .before) (busy (k .before .before))
+    (k .task-of .ensures) (a .before .time-of2 .ensures) refl
+    (inr (
+      omega (arith, c .before .if4 .taken, c .before .before .before .if2 .taken),
+      omega (arith, c .before .if4 .taken),
+      omega (arith, c .before .if4 .taken, c .before .before .if3 .left),
+    )))
 
 element-write-left : tie.Need-element-write-left
 element-write-left c = omega (arith, low (c .before .before .before .before .before))
@@ -92,25 +111,39 @@ returns-4 : tie.Need-returns-4
 returns-4 c t y =
     let a = c .before .before .before .before in
     let k = a .before .before in
-    rw (c .going .ensures) (preempt t (y .ranged) (y .light) (y .clear) (y .held) (y .tally) (soon (k .before .before .before) t y) (y .before) (busy (k .before .before)) (k .task-of .ensures) (a .before .time-of2 .ensures) refl (omega (arith, c .before .before .before .if2 .taken)) (omega (arith, c .before .before .if3 .left)) (omega (arith, c .before .if4 .left)))
+    rw (c .going .ensures)
+    (preempt t (y .ranged) (y .light) (y .clear) (y .held) (y .tally) (soon (k .before .before .before) t y) (y .before)
+    (busy (k .before .before)) (k .task-of .ensures) (a .before .time-of2 .ensures) refl
+    (omega (arith, c .before .before .before .if2 .taken)) (omega (arith, c .before .before .if3 .left)) (omega (arith, c .before .if4 .left)))
 
 returns-5 : tie.Need-returns-5
 returns-5 c t y =
     let a = c .before .before .before in
     let k = a .before .before in
-    rw (c .stop3 .ensures) (stops t (y .ranged) (y .light) (y .clear) (y .held) (y .tally) (soon (k .before .before .before) t y) (y .before) (busy (k .before .before)) (k .task-of .ensures) (a .before .time-of2 .ensures) refl (inl (omega (arith, c .before .if5 .taken), omega (arith, c .before .if5 .taken, c .before .before .if2 .left))))
+    rw (c .stop3 .ensures)
+    (stops t (y .ranged) (y .light) (y .clear) (y .held) (y .tally) (soon (k .before .before .before) t y) (y .before) (busy (k .before .before))
+    (k .task-of .ensures) (a .before .time-of2 .ensures) refl
+    (inl (omega (arith, c .before .if5 .taken), omega (arith, c .before .if5 .taken, c .before .before .if2 .left))))
 
 returns-6 : tie.Need-returns-6
 returns-6 c t y =
     let a = c .before .before .before .before in
     let k = a .before .before in
-    rw (c .stop4 .ensures) (stops t (y .ranged) (y .light) (y .clear) (y .held) (y .tally) (soon (k .before .before .before) t y) (y .before) (busy (k .before .before)) (k .task-of .ensures) (a .before .time-of2 .ensures) refl (inr (omega (arith, c .before .if6 .taken), omega (arith, c .before .if6 .taken, c .before .before .before .if2 .left), omega (arith, c .before .if6 .taken, c .before .before .if5 .left))))
+    rw (c .stop4 .ensures)
+    (stops t (y .ranged) (y .light) (y .clear) (y .held) (y .tally) (soon (k .before .before .before) t y) (y .before) (busy (k .before .before))
+    (k .task-of .ensures) (a .before .time-of2 .ensures) refl
+    (inr (
+      omega (arith, c .before .if6 .taken),
+      omega (arith, c .before .if6 .taken, c .before .before .before .if2 .left),
+      omega (arith, c .before .if6 .taken, c .before .before .if5 .left),
+    )))
 
 sub-finish : tie.Need-sub-finish
 sub-finish c = omega (arith, busy (c .before .before .before .before .before .before .before .before .before))
 
 -- The owner's deadline, read from its entry.
-deadline-is : (c : tie.After-task-of) (t : Table) → (y : Of (start (c .before .before)) t) → at (start (c .before .before) .args .deadline .now) (c .task-of .result) / span ≡ task t (c .task-of .result) .deadline
+deadline-is : (c : tie.After-task-of) (t : Table) → (y : Of (start (c .before .before)) t)
+    → at (start (c .before .before) .args .deadline .now) (c .task-of .result) / span ≡ task t (c .task-of .result) .deadline
 deadline-is c t y = ap (λ (x : ℕ). x / span) (y .deadlines _ (own c t y)) ∙ entry-time t (y .ranged) _ (c .task-of .result) (own c t y)
 
 finish-requires : tie.Need-finish-requires
@@ -119,14 +152,24 @@ finish-requires c κs =
     let k = a .before .before in
     let (t, y) = start (k .before .before) .pre in
     let d = deadline-is k t y in
-    let spare = spare-le t (y .ranged) (y .light) (y .clear) (y .held) (y .tally) (soon (k .before .before .before) t y) (y .before) (busy (k .before .before)) (k .task-of .ensures) (a .before .time-of2 .ensures) refl in
-    (low k, omega (arith, few (k .before .before)), omega (arith, c .before .before .before .if5 .left), omega (arith, spare, d), omega (arith, d, y .ranged .each _ (own k t y) .deadline-le, y .ranged .each _ (own k t y) .period-le))
+    let spare = spare-le t (y .ranged) (y .light) (y .clear) (y .held) (y .tally) (soon (k .before .before .before) t y) (y .before)
+    (busy (k .before .before)) (k .task-of .ensures) (a .before .time-of2 .ensures) refl in (
+      low k,
+      omega (arith, few (k .before .before)),
+      omega (arith, c .before .before .before .if5 .left),
+      omega (arith, spare, d),
+      omega (arith, d, y .ranged .each _ (own k t y) .deadline-le, y .ranged .each _ (own k t y) .period-le),
+    )
 
 returns-7 : tie.Need-returns-7
 returns-7 c t y =
     let a = c .before .before .before .before .before .before in
     let k = a .before .before in
-    rw (c .finish .ensures .0, c .finish .ensures .1, c .finish .ensures .2, deadline-is k t y) (finishes t (y .ranged) (y .light) (y .clear) (y .held) (y .tally) (soon (k .before .before .before) t y) (y .before) (busy (k .before .before)) (k .task-of .ensures) (a .before .time-of2 .ensures) (omega arith) (omega (arith, c .before .before .before .before .before .if2 .left)) (omega (arith, c .before .before .before .before .if5 .left)) (omega (arith, c .before .before .before .if6 .left)))
+    rw (c .finish .ensures .0, c .finish .ensures .1, c .finish .ensures .2, deadline-is k t y)
+    (finishes t (y .ranged) (y .light) (y .clear) (y .held) (y .tally) (soon (k .before .before .before) t y) (y .before)
+    (busy (k .before .before)) (k .task-of .ensures) (a .before .time-of2 .ensures) (omega arith)
+    (omega (arith, c .before .before .before .before .before .if2 .left)) (omega (arith, c .before .before .before .before .if5 .left))
+    (omega (arith, c .before .before .before .if6 .left)))
 
 pub turn-spec : {M : Type 1} → statement M
 turn-spec =

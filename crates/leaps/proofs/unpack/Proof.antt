@@ -13,17 +13,21 @@ use Rattle.leaps.proofs.unpack.Tie as tie
 
 abbrev Inv-loop : tie.InvT-loop
 Inv-loop t n period₀ cost₀ deadline₀ mark₀ i₀ period cost deadline mark i =
-    (i ≤ n) × (period ≡ column i (λ k. entry t (task t k .period) k)) × (cost ≡ column i (λ k. task t k .cost)) × (deadline ≡ column i (λ k. entry t (task t k .deadline) k)) × (mark ≡ column i (markOf t))
+    (i ≤ n) × (period ≡ column i (λ k. entry t (task t k .period) k)) × (cost ≡ column i (λ k. task t k .cost))
+    × (deadline ≡ column i (λ k. entry t (task t k .deadline) k)) × (mark ≡ column i (markOf t))
 
 abbrev μ-loop : tie.MeasureT-loop
 μ-loop t n period₀ cost₀ deadline₀ mark₀ i₀ period cost deadline mark i = n - i
 
 -- The task's mark.
-own : (c : tie.After-rank-of Inv-loop μ-loop) → let a = c .before .before .before in c .rank-of .result * places + a .loop .i ≡ markOf (a .before .args .t1) (a .loop .i)
+own : (c : tie.After-rank-of Inv-loop μ-loop) → let a = c .before .before .before in c .rank-of .result * places + a .loop .i
+    ≡ markOf (a .before .args .t1) (a .loop .i)
 own c = ap (λ (x : ℕ). x * places + c .before .before .before .loop .i) (c .rank-of .ensures)
 
 small : (c : tie.After-rank-of Inv-loop μ-loop) → c .rank-of .result * places + c .before .before .before .loop .i < span
-small c = let a = c .before .before .before in omega (arith, own c, mark-small (a .before .args .t1) (a .before .pre) (a .loop .i) (c .before .before .loop-test .taken))
+small c =
+    let a = c .before .before .before in
+    omega (arith, own c, mark-small (a .before .args .t1) (a .before .pre) (a .loop .i) (c .before .before .loop-test .taken))
 
 loop-holds : tie.Need-loop-holds Inv-loop μ-loop
 loop-holds c = (omega arith, fill-none _ _, fill-none _ _, fill-none _ _, fill-none _ _)

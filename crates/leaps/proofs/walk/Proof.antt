@@ -27,12 +27,14 @@ first : (c : tie.At-loop Inv-loop μ-loop)
     → let f = c .before .before in
     let u = f .before .before .before .before .before .before in
     let s = start c in
-    Here (s .args .t) (u .unpack .result .period) (u .unpack .result .cost) (u .unpack .result .deadline) (f .first-releases .result) (replicate taskLimit 0) (replicate taskLimit 0) (replicate taskLimit 0) (s .args .t .count - 1) (s .args .end) (c .before .going .result)
+    Here (s .args .t) (u .unpack .result .period) (u .unpack .result .cost) (u .unpack .result .deadline) (f .first-releases .result)
+    (replicate taskLimit 0) (replicate taskLimit 0) (replicate taskLimit 0) (s .args .t .count - 1) (s .args .end) (c .before .going .result)
 first c =
     let f = c .before .before in
     let u = f .before .before .before .before .before .before in
     let s = start c in
-    leaping-start _ (s .pre .0) (s .pre .1 .0) (columned _ (s .pre .0 .few) (u .unpack .ensures)) (s .pre .1 .1 .0) (f .first-releases .ensures) (c .before .going .ensures)
+    leaping-start _ (s .pre .0) (s .pre .1 .0) (columned _ (s .pre .0 .few) (u .unpack .ensures)) (s .pre .1 .1 .0) (f .first-releases .ensures)
+    (c .before .going .ensures)
 
 sub-last : tie.Need-sub-last Inv-loop μ-loop
 sub-last c = omega (arith, c .before .pre .0 .some)
@@ -75,7 +77,8 @@ returns c =
     let b = k .before .before in
     let a = home b in
     let s = start a in
-    skipped _ (s .pre .0) (s .pre .1 .0) (b .leap .ensures _ (a .loop .inv _ (first a))) (s .pre .1 .1 .1) (k .before .stops .ensures .1 (k .if1 .taken)) (c .skip .ensures)
+    skipped _ (s .pre .0) (s .pre .1 .0) (b .leap .ensures _ (a .loop .inv _ (first a))) (s .pre .1 .1 .1)
+    (k .before .stops .ensures .1 (k .if1 .taken)) (c .skip .ensures)
 
 pub walk-spec : {M : Type 1} → statement M
 walk-spec =

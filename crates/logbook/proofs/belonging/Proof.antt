@@ -22,8 +22,10 @@ counts c =
     let known = c .before .before in
     let called = known .before .before in
     let s = called .before .before in
-    let (admitted, room) = slots-tell (admittedBy (s .args .t) (s .args .log .state) (Judgement.WellFormed (measure (s .args .t)))) (slotCount (s .args .t) (s .args .log .state)) _ (sym (called .belonging .ensures) ∙ known .room .given .1) in
-    let counted : slotCountLimit - known .room .given .0 .0 ≡ slotCount (s .args .t) (s .args .log .state) = omega (arith, room, fitting (s .args .t) (s .args .log .state) (measure (s .args .t)) admitted .room) in
+    let (admitted, room) = slots-tell (admittedBy (s .args .t) (s .args .log .state) (Judgement.WellFormed (measure (s .args .t))))
+    (slotCount (s .args .t) (s .args .log .state)) _ (sym (called .belonging .ensures) ∙ known .room .given .1) in
+    let counted : slotCountLimit - known .room .given .0 .0 ≡ slotCount (s .args .t) (s .args .log .state) = omega
+    (arith, room, fitting (s .args .t) (s .args .log .state) (measure (s .args .t)) admitted .room) in
     (admitted, rw counted at (c .miscounted .ensures))
 
 returns : tie.Need-returns
@@ -33,7 +35,8 @@ returns-2 : tie.Need-returns-2
 returns-2 c =
     let called = c .before .before .before in
     let s = called .before .before .args in
-    rw (refused-tells (admittedBy (s .t) (s .log .state) (Judgement.WellFormed (measure (s .t)))) _ _ (sym (called .belonging .ensures) ∙ c .before .why .given .1)) refl
+    rw (refused-tells (admittedBy (s .t) (s .log .state) (Judgement.WellFormed (measure (s .t)))) _ _
+    (sym (called .belonging .ensures) ∙ c .before .why .given .1)) refl
 
 returns-3 : tie.Need-returns-3
 returns-3 c = rw (counts (c .before) .0, ← counts (c .before) .1, c .if1 .left) refl

@@ -18,7 +18,8 @@ abbrev unpack-from : tie.After-rank2 → tie.After-unpack
 unpack-from c = c .before .before .before .before .before .before .before .before
 
 unpacked : (c : tie.After-rank2) → let u = unpack-from c in
-    Unpacked (u .before .before .args .t) (u .unpack .result .period) (u .unpack .result .cost) (u .unpack .result .slack) (u .unpack .result .rank) (u .before .before .args .t .count)
+    Unpacked (u .before .before .args .t) (u .unpack .result .period) (u .unpack .result .cost) (u .unpack .result .slack) (u .unpack .result .rank)
+    (u .before .before .args .t .count)
 unpacked c = (refl, unpack-from c .unpack .ensures)
 
 read-blocks-requires : tie.Need-read-blocks-requires

@@ -13,7 +13,8 @@ use Rattle.logbook.proofs.read_blocks.Tie as tie
 
 abbrev Inv-loop : tie.InvT-loop
 Inv-loop period cost slack rank n piece next₀ at₀ next at =
-    (at ≤ length piece) × ((t : Table) → Unpacked t period cost slack rank n → Readable t (logStateOf next₀) → ReadTo t (logStateOf next₀) piece at (logStateOf next))
+    (at ≤ length piece) × ((t : Table) → Unpacked t period cost slack rank n → Readable t (logStateOf next₀)
+    → ReadTo t (logStateOf next₀) piece at (logStateOf next))
 
 abbrev μ-loop : tie.MeasureT-loop
 μ-loop period cost slack rank n piece next₀ at₀ next at = length piece - at
@@ -33,7 +34,8 @@ read-in-place-requires c κs =
     ((omega arith, omega arith), (t, _, u, turn .loop .inv .1 t u r))
 
 -- How far the block is read in place.
-run-in : (c : tie.After-read-in-place Inv-loop μ-loop) (t : Table) → let turn = c .before .before .before .before .before .before in let s = turn .before .before .args in
+run-in : (c : tie.After-read-in-place Inv-loop μ-loop) (t : Table)
+    → let turn = c .before .before .before .before .before .before in let s = turn .before .before .args in
     Unpacked t (s .period .now) (s .cost .now) (s .slack .now) (s .rank .now) (s .n) → Readable t (logStateOf (s .log))
     → ReadTo t (logStateOf (s .log)) (s .piece .now) (c .read-in-place .result .at) (logStateOf (c .read-in-place .result .log))
 run-in c t u r = let turn = c .before .before .before .before .before .before in c .read-in-place .ensures .1 t _ u (turn .loop .inv .1 t u r)

@@ -40,7 +40,8 @@ now c = let (t, start, u, r) = start-from c .pre .1 in c .loop .inv .2 t start u
 
 -- What a slot's rules make of it, of any such table.
 moved : (c : tie.After-advance Inv-loop μ-loop) (t : Table) → let turn = c .before .before .before .before .before in let s = start-from turn .args in
-    Unpacked t (s .period .now) (s .cost .now) (s .slack .now) (s .rank .now) (s .n) → Readable t (here turn) → Advanced t (here turn .state) (turn .loop .read .done) (c .advance .result)
+    Unpacked t (s .period .now) (s .cost .now) (s .slack .now) (s .rank .now) (s .n) → Readable t (here turn)
+    → Advanced t (here turn .state) (turn .loop .read .done) (c .advance .result)
 moved c t unpacked readable = let turn = c .before .before .before .before .before in
     c .advance .ensures t (turn .loop .given) (turn .loop .empty) unpacked (steps t (here turn) readable)
 
@@ -55,7 +56,8 @@ count-given-requires c κs =
     let went = c .before .before .before .before .before in
     let turn = went .before .before .before .before .before in
     let s = start-from turn in
-    owner-room (s .pre .1 .0) (here turn .state) (turn .loop .read .done) (steps _ (here turn) (now turn)) (went .advance .result) (moved went (s .pre .1 .0) (s .pre .1 .2) (now turn))
+    owner-room (s .pre .1 .0) (here turn .state) (turn .loop .read .done) (steps _ (here turn) (now turn)) (went .advance .result)
+    (moved went (s .pre .1 .0) (s .pre .1 .2) (now turn))
 
 count-empty-requires : tie.Need-count-empty-requires Inv-loop μ-loop
 unfolding slotCount
@@ -79,7 +81,8 @@ read-other-requires c κs = room (c .before .before .before .before) .1
 -- One byte more is read, whichever way.
 turned : (c : tie.Joined1 Inv-loop μ-loop) (t : Table) → let turn = c .before .before .before .before in let s = start-from turn .args in
     Unpacked t (s .period .now) (s .cost .now) (s .slack .now) (s .rank .now) (s .n) → Readable t (here turn)
-    → joined (stateWith (c .if1 .wait) (c .if1 .left) (c .if1 .last) (c .if1 .given) (c .if1 .empty)) (c .if1 .read) ≡ readByte t (here turn) (getD (s .piece .now) (turn .loop .i) 0)
+    → joined (stateWith (c .if1 .wait) (c .if1 .left) (c .if1 .last) (c .if1 .given) (c .if1 .empty)) (c .if1 .read)
+    ≡ readByte t (here turn) (getD (s .piece .now) (turn .loop .i) 0)
 turned c t unpacked readable =
     let turn = c .before .before .before .before in
     let d = here turn .state in
@@ -90,11 +93,13 @@ turned c t unpacked readable =
           let m = moved (record { before = record { before = c .before; if1 = if1 }; advance = went }) t unpacked readable in
           let next = state-is t d (read .done) (steps t (here turn) readable) (went .result) m (gave .ensures) (emptied .ensures) in
           rw (w, l, o, g, e, r)
-          (ap (joined _) (slot .ensures) ∙ slot-same t d read b (start-from turn .args .n) (unpacked .0) (m .owned) (due .ensures) next (if2 .taken) ∙ slot-byte t d read b (sym (c .before .ends-slot .ensures) ∙ if1 .taken))
+          (ap (joined _) (slot .ensures) ∙ slot-same t d read b (start-from turn .args .n) (unpacked .0) (m .owned) (due .ensures) next (if2 .taken)
+          ∙ slot-byte t d read b (sym (c .before .ends-slot .ensures) ∙ if1 .taken))
       | inr (inl (if1, went, due, if2, known, found, w, l, o, g, e, r)) ↦
           let m = moved (record { before = record { before = c .before; if1 = if1 }; advance = went }) t unpacked readable in
           rw (w, l, o, g, e, r)
-          (ap (joined d) (found .ensures) ∙ slot-other t d read b (start-from turn .args .n) (unpacked .0) (m .owned) (due .ensures) (if2 .left) ∙ slot-byte t d read b (sym (c .before .ends-slot .ensures) ∙ if1 .taken))
+          (ap (joined d) (found .ensures) ∙ slot-other t d read b (start-from turn .args .n) (unpacked .0) (m .owned) (due .ensures) (if2 .left)
+          ∙ slot-byte t d read b (sym (c .before .ends-slot .ensures) ∙ if1 .taken))
       | inr (inr (if1, other, w, l, o, g, e, r)) ↦
           rw (w, l, o, g, e, r) (ap (joined d) (other .ensures) ∙ other-byte t d read b (sym (c .before .ends-slot .ensures) ∙ if1 .left))
     ]

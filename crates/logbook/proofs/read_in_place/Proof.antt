@@ -20,7 +20,8 @@ use Rattle.logbook.proofs.read_in_place.Tie as tie
 
 abbrev Inv-loop : tie.InvT-loop
 Inv-loop log period cost slack rank n piece from to wait₀ left₀ last₀ given₀ empty₀ read₀ at₀ wait left last given empty read at =
-    (from ≤ at) × (at ≤ to) × ((t : Table) (start : Log) → Unpacked t period cost slack rank n → ReadTo t start piece from (logStateOf log) → ReadTo t start piece at (joined (stateWith wait left last given empty) read))
+    (from ≤ at) × (at ≤ to) × ((t : Table) (start : Log) → Unpacked t period cost slack rank n → ReadTo t start piece from (logStateOf log)
+    → ReadTo t start piece at (joined (stateWith wait left last given empty) read))
 
 abbrev μ-loop : tie.MeasureT-loop
 μ-loop log period cost slack rank n piece from to wait₀ left₀ last₀ given₀ empty₀ read₀ at₀ wait left last given empty read at = to - at
@@ -52,7 +53,9 @@ serve-requires c κs =
     omega (arith, start-from turn .pre .1 .2 .0, now turn .ranged .few)
 
 returns : tie.Need-returns Inv-loop μ-loop
-returns c = let turn = c .before .before .before .before .before .before .before .before .before .before .before .before in (start-from turn .pre .0 .0, λ t start u r. r)
+returns c =
+    let turn = c .before .before .before .before .before .before .before .before .before .before .before .before in
+    (start-from turn .pre .0 .0, λ t start u r. r)
 
 -- The loop's turn, from where the slot is the dispatcher's.
 abbrev turn-from : tie.Else3 Inv-loop μ-loop → tie.At-loop Inv-loop μ-loop
@@ -66,19 +69,23 @@ own c = c .before .is-met .ensures (not-false _ (c .if3 .left))
 -- What a slot's rules make of it, of any such table.
 moved : (c : tie.Else3 Inv-loop μ-loop) (t : Table) → let turn = turn-from c in let s = start-from turn .args in
     Unpacked t (s .period .now) (s .cost .now) (s .slack .now) (s .rank .now) (s .n) → Readable t (here turn)
-    → let went = c .before .before .serve in Advanced t (here turn .state) (turn .loop .read .done) (movedTo t (here turn .state) (turn .loop .read .done) (went .last .0) (went .last .1 .0) (went .result .owner))
+    → let went =
+    c .before .before .serve in Advanced t (here turn .state) (turn .loop .read .done)
+    (movedTo t (here turn .state) (turn .loop .read .done) (went .last .0) (went .last .1 .0) (went .result .owner))
 moved c t unpacked readable =
     let turn = turn-from c in
     let went = c .before .before in
     let heard = went .before .before .before in
-    moved-if t (here turn .state) (turn .loop .read .done) (steps t (here turn) readable) (whole readable) unpacked (heard .hear-report .ensures) (went .serve .ensures) (own c .0)
+    moved-if t (here turn .state) (turn .loop .read .done) (steps t (here turn) readable) (whole readable) unpacked (heard .hear-report .ensures)
+    (went .serve .ensures) (own c .0)
 
 count-given-requires : tie.Need-count-given-requires Inv-loop μ-loop
 count-given-requires c κs =
     let met = c .before in
     let turn = turn-from met in
     let s = start-from turn in
-    owner-room (s .pre .1 .0) (here turn .state) (turn .loop .read .done) (steps _ (here turn) (now turn)) _ (moved met (s .pre .1 .0) (s .pre .1 .2) (now turn))
+    owner-room (s .pre .1 .0) (here turn .state) (turn .loop .read .done) (steps _ (here turn) (now turn)) _
+    (moved met (s .pre .1 .0) (s .pre .1 .2) (now turn))
 
 count-empty-requires : tie.Need-count-empty-requires Inv-loop μ-loop
 unfolding slotCount
@@ -103,7 +110,8 @@ loop-less c = omega (arith, below (c .before .before .before))
 -- One byte more is read, whichever way.
 turned : (c : tie.Joined2 Inv-loop μ-loop) (t : Table) → let turn = c .before .before .before .before .before in let s = start-from turn .args in
     Unpacked t (s .period .now) (s .cost .now) (s .slack .now) (s .rank .now) (s .n) → Readable t (here turn)
-    → joined (stateWith (c .if2 .wait) (c .if2 .left) (c .if2 .last) (c .if2 .given) (c .if2 .empty)) (c .if2 .read) ≡ readByte t (here turn) (getD (s .piece .now) (turn .loop .at) 0)
+    → joined (stateWith (c .if2 .wait) (c .if2 .left) (c .if2 .last) (c .if2 .given) (c .if2 .empty)) (c .if2 .read)
+    ≡ readByte t (here turn) (getD (s .piece .now) (turn .loop .at) 0)
 turned c t unpacked readable =
     let turn = c .before .before .before .before .before in
     let d = here turn .state in
@@ -111,11 +119,30 @@ turned c t unpacked readable =
     let b = getD (start-from turn .args .piece .now) (turn .loop .at) 0 in
     elim (c .if2 .came) [
       | inl (if2, left2, heard, wait2, left3, went, due, if3, given2, gave, emptied, slot, w, l, o, g, e, r) ↦
-          let c3 : tie.Else3 Inv-loop μ-loop = record { before = record { before = record { before = record { before = record { before = record { before = record { before = record { before = c .before; if2 = if2 }; left2 = left2 }; hear-report = heard }; wait2 = wait2 }; left3 = left3 }; serve = went }; is-met = due }; if3 = if3 } in
+          let c3 : tie.Else3 Inv-loop μ-loop = record {
+            before = record {
+              before = record {
+                before = record {
+                  before = record {
+                    before = record {
+                      before = record { before = record { before = c .before; if2 = if2 }; left2 = left2 };
+                      hear-report = heard;
+                    };
+                    wait2 = wait2;
+                  };
+                  left3 = left3;
+                };
+                serve = went;
+              };
+              is-met = due;
+            };
+            if3 = if3;
+          } in
           let m = moved c3 t unpacked readable in
           let next = state-is t d (read .done) (steps t (here turn) readable) _ m (gave .ensures) (emptied .ensures) in
           rw (w, l, o, g, e, r)
-          (ap (joined _) (slot .ensures) ∙ slot-same t d read b (start-from turn .args .n) (unpacked .0) (m .owned) refl next (own c3 .1) ∙ slot-byte t d read b (sym (c .before .ends-slot .ensures) ∙ if2 .taken))
+          (ap (joined _) (slot .ensures) ∙ slot-same t d read b (start-from turn .args .n) (unpacked .0) (m .owned) refl next (own c3 .1)
+          ∙ slot-byte t d read b (sym (c .before .ends-slot .ensures) ∙ if2 .taken))
       | inr (if2, other, w, l, o, g, e, r) ↦
           rw (w, l, o, g, e, r) (ap (joined d) (other .ensures) ∙ other-byte t d read b (sym (c .before .ends-slot .ensures) ∙ if2 .left))
     ]

@@ -11,13 +11,28 @@ returns-2 : tie.Need-returns-2
 returns-2 c = let t = c .before in rw (ne-eqb _ _ (t .before .if1 .left), eq-eqb _ _ (t .if2 .taken)) (c .pass .ensures)
 
 returns-3 : tie.Need-returns-3
-returns-3 c = let t = c .before in rw (ne-eqb _ _ (t .before .before .if1 .left), ne-eqb _ _ (t .before .if2 .left), eq-eqb _ _ (t .if3 .taken)) (c .read-done .ensures)
+returns-3 c =
+    let t = c .before in rw (ne-eqb _ _ (t .before .before .if1 .left), ne-eqb _ _ (t .before .if2 .left), eq-eqb _ _ (t .if3 .taken)) (c .read-done .ensures)
 
 returns-4 : tie.Need-returns-4
-returns-4 c = let t = c .before in rw (ne-eqb _ _ (t .before .before .before .if1 .left), ne-eqb _ _ (t .before .before .if2 .left), ne-eqb _ _ (t .before .if3 .left), eq-eqb _ _ (t .if4 .taken)) (c .pass2 .ensures)
+returns-4 c =
+    let t = c .before in
+    rw (
+      ne-eqb _ _ (t .before .before .before .if1 .left),
+      ne-eqb _ _ (t .before .before .if2 .left),
+      ne-eqb _ _ (t .before .if3 .left),
+      eq-eqb _ _ (t .if4 .taken),
+    ) (c .pass2 .ensures)
 
 returns-5 : tie.Need-returns-5
-returns-5 c = let t = c .before in rw (ne-eqb _ _ (t .before .before .before .if1 .left), ne-eqb _ _ (t .before .before .if2 .left), ne-eqb _ _ (t .before .if3 .left), ne-eqb _ _ (t .if4 .left)) (c .stop2 .ensures)
+returns-5 c =
+    let t = c .before in
+    rw (
+      ne-eqb _ _ (t .before .before .before .if1 .left),
+      ne-eqb _ _ (t .before .before .if2 .left),
+      ne-eqb _ _ (t .before .if3 .left),
+      ne-eqb _ _ (t .if4 .left),
+    ) (c .stop2 .ensures)
 
 pub read-kind-spec : {M : Type 1} → statement M
 read-kind-spec =

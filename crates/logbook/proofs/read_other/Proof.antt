@@ -14,7 +14,8 @@ returns c = let s = c .before .before .before .args in
 returns-2 : tie.Need-returns-2
 returns-2 c = let told = c .before .before in
     let s = told .before .before .args in
-    c .stop .ensures ∙ ap (λ (n : ℕ). stoppedAt (s .reading) (Finding.Fault n (s .reading .bytes))) (c .before .behind-end .ensures) ∙ ap (otherRead (s .reading) (s .byte)) (sym (told .enum-told2 .given .1))
+    c .stop .ensures ∙ ap (λ (n : ℕ). stoppedAt (s .reading) (Finding.Fault n (s .reading .bytes))) (c .before .behind-end .ensures)
+    ∙ ap (otherRead (s .reading) (s .byte)) (sym (told .enum-told2 .given .1))
 
 returns-3 : tie.Need-returns-3
 returns-3 c = let s = c .before .before .args in ap (otherRead (s .reading) (s .byte)) (sym (c .enum-told3 .given .1))

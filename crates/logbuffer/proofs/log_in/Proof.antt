@@ -11,7 +11,8 @@ use Rattle.logbuffer.proofs.log_in.Tie as tie
 returns : tie.Need-returns
 unfolding logIn
 returns c = let state = c .before in
-    ap (λ (d : State). joined d (c .reading-in .result)) (state .state-in .ensures) ∙ ap (joined (stateIn (state .before .before .args .buffer .now))) (c .reading-in .ensures)
+    ap (λ (d : State). joined d (c .reading-in .result)) (state .state-in .ensures)
+    ∙ ap (joined (stateIn (state .before .before .args .buffer .now))) (c .reading-in .ensures)
 
 pub log-in-spec : {M : Type 1} → statement M
 log-in-spec = tie.close (tie.spec (λ c κs. search needs) (λ c κs. search needs) returns)

@@ -12,7 +12,8 @@ returns c =
     let second = third .before .before .before .before .before in
     let first = second .before .before .before .before .before in
     let start = first .before .before .before .before in (
-      words-put (start .args .reading) _ _ _ _ (first .before .word-of .ensures) (second .before .word-of2 .ensures) (third .before .number-of .ensures) (fourth .before .place-of .ensures)
+      words-put (start .args .reading) _ _ _ _ (first .before .word-of .ensures) (second .before .word-of2 .ensures)
+          (third .before .number-of .ensures) (fourth .before .place-of .ensures)
           (first .put-word .ensures .0) (second .put-word2 .ensures .0) (third .put-word3 .ensures .0) (fourth .put-word4 .ensures .0),
       omega (arith, first .put-word .ensures .1, second .put-word2 .ensures .1, third .put-word3 .ensures .1, fourth .put-word4 .ensures .1),
     )

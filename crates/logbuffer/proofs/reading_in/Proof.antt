@@ -10,7 +10,17 @@ returns c =
     let done = slots .before in
     let opened = done .before .before in
     let found = opened .before .before in
-    rw (opened .is-set .ensures, done .is-set2 .ensures, slots .long-at .ensures, c .long-at2 .ensures, found .finding-of .ensures, ← opened .before .word-at3 .ensures, ← done .before .word-at4 .ensures, ← found .before .word-at2 .ensures, ← found .before .before .word-at .ensures) refl
+    rw (
+      opened .is-set .ensures,
+      done .is-set2 .ensures,
+      slots .long-at .ensures,
+      c .long-at2 .ensures,
+      found .finding-of .ensures,
+      ← opened .before .word-at3 .ensures,
+      ← done .before .word-at4 .ensures,
+      ← found .before .word-at2 .ensures,
+      ← found .before .before .word-at .ensures,
+    ) refl
 
 pub reading-in-spec : {M : Type 1} → statement M
 reading-in-spec =

@@ -18,7 +18,8 @@ returns c =
     let state = words .before .before .before .before in
     let start = state .before .before .before .before .before .before in
     log-whole (logStateOf (start .args .log)) (start .pre) (sizes start)
-    (rw (state .before .quiet .ensures) at (state .put-state .ensures .0)) (words .put-words .ensures .0) (slots .put-long .ensures .0) (bytes .put-long2 .ensures .0)
+    (rw (state .before .quiet .ensures) at (state .put-state .ensures .0)) (words .put-words .ensures .0) (slots .put-long .ensures .0)
+    (bytes .put-long2 .ensures .0)
 
 pub write-log-spec : {M : Type 1} → statement M
 write-log-spec =

@@ -25,7 +25,12 @@ returns c =
     let known = c .before .before in
     let form = known .before .before in
     let s = form .before .before .before .before .args in
-    rw (on-form logBytes (s .file .now) (s .state .now) (form .form-for .ensures) (λ t. let f = fed t (logIn (s .state .now)) (s .piece .now) in logWritten (s .state .now) (f .log) (f .admission)), known .admission .given .1, c .refusal-number .ensures)
+    rw (
+      on-form logBytes (s .file .now) (s .state .now) (form .form-for .ensures)
+          (λ t. let f = fed t (logIn (s .state .now)) (s .piece .now) in logWritten (s .state .now) (f .log) (f .admission)),
+      known .admission .given .1,
+      c .refusal-number .ensures,
+    )
 
 returns-2 : tie.Need-returns-2
 returns-2 c =
@@ -34,7 +39,11 @@ returns-2 c =
     let told = did .before .before .before .before in
     let form = told .before .before in
     let s = form .before .before .before .before .args in
-    rw (on-form logBytes (s .file .now) (s .state .now) (form .form-for .ensures) (λ t. let f = fed t (logIn (s .state .now)) (s .piece .now) in logWritten (s .state .now) (f .log) (f .admission)), told .enum-told .given .1) (rw (← did .before .log-in .ensures, ← did .feed .ensures) (called .log-told .ensures))
+    rw (
+      on-form logBytes (s .file .now) (s .state .now) (form .form-for .ensures)
+          (λ t. let f = fed t (logIn (s .state .now)) (s .piece .now) in logWritten (s .state .now) (f .log) (f .admission)),
+      told .enum-told .given .1,
+    ) (rw (← did .before .log-in .ensures, ← did .feed .ensures) (called .log-told .ensures))
 
 pub log-feed-spec : {M : Type 1} → statement M
 log-feed-spec =

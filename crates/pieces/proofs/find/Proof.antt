@@ -26,8 +26,15 @@ returns c =
 loop-again : tie.Need-loop-again Inv-loop μ-loop
 loop-again c =
     let turn = c .before .before .before .before in
-    let a = turn .before .before .args in
-    (omega arith, omega arith, omega (arith, not-here (isMark (a .mark)) (a .s .now) (turn .loop .i) (omega arith) (sym (c .before .is .ensures) ∙ c .if1 .left)))
+    let a = turn .before .before .args in (
+      omega arith,
+      omega arith,
+      omega (
+        arith,
+        not-here (isMark (a .mark)) (a .s .now) (turn .loop .i) (omega arith)
+            (sym (c .before .is .ensures) ∙ c .if1 .left),
+      ),
+    )
 
 returns-2 : tie.Need-returns-2 Inv-loop μ-loop
 returns-2 c =

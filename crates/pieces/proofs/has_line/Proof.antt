@@ -30,7 +30,8 @@ compared : (c : tie.After-same Inv-loop μ-loop) (b : Bool) → c .same .result 
 compared c b e =
     let found = c .before .before in
     let left = found .before .loop .left .now in
-    ap (λ (w : List ℕ). same w (found .before .before .before .before .args .line .now)) (sym (from-front left (found .find .result))) ∙ sym (c .same .ensures) ∙ e
+    ap (λ (w : List ℕ). same w (found .before .before .before .before .args .line .now)) (sym (from-front left (found .find .result)))
+    ∙ sym (c .same .ensures) ∙ e
 
 returns : tie.Need-returns Inv-loop μ-loop
 returns c =

@@ -30,8 +30,13 @@ returns-2 c =
 loop-again : tie.Need-loop-again Inv-loop μ-loop
 loop-again c =
     let turn = c .before .before .before .before in
-    let a = turn .before .before .args in
-    (omega arith, omega arith, omega arith, turn .loop .inv .3 ∙ same-byte (a .word .now) (a .name .now) (turn .loop .i) (omega arith) (omega arith) (c .if2 .left))
+    let a = turn .before .before .args in (
+      omega arith,
+      omega arith,
+      omega arith,
+      turn .loop .inv .3 ∙ same-byte (a .word .now) (a .name .now) (turn .loop .i) (omega arith) (omega arith)
+          (c .if2 .left),
+    )
 
 returns-3 : tie.Need-returns-3 Inv-loop μ-loop
 returns-3 c =

@@ -50,7 +50,8 @@ is-late {b} = go b
     go false e = absurd (subst T e tt)
 
 -- What is known of the table wherever the search stands.
-facts : (c : tie.At-search Inv-loop μ-loop Inv-search μ-search) → let s = c .before .before .before .before .before .before .before .before in WellFormed (s .args .t) (s .args .m)
+facts : (c : tie.At-search Inv-loop μ-loop Inv-search μ-search)
+    → let s = c .before .before .before .before .before .before .before .before in WellFormed (s .args .t) (s .args .m)
 facts c = well-formed _ _ (c .before .before .before .before .before .before .before .before .pre .0)
 
 abbrev table : tie.At-search Inv-loop μ-loop Inv-search μ-search → Table
@@ -83,7 +84,9 @@ serve-requires : tie.Need-serve-requires Inv-loop μ-loop Inv-search μ-search
 serve-requires c κs = facts (c .before .before .before .before .before .before) .ranged .few
 
 add-at : tie.Need-add-at Inv-loop μ-loop Inv-search μ-search
-add-at c = let a = home (c .before .before .before .before .before .before .before) in let f = facts a in omega (arith, f .horizon-is, f .horizon-le, ending a .smaller .ensures)
+add-at c =
+    let a = home (c .before .before .before .before .before .before .before) in
+    let f = facts a in omega (arith, f .horizon-is, f .horizon-le, ending a .smaller .ensures)
 
 first-idle-requires : tie.Need-first-idle-requires Inv-loop μ-loop Inv-search μ-search
 first-idle-requires c κs = facts (home (c .before .before .before .before .before .before .before .before)) .ranged .few
@@ -95,7 +98,10 @@ search-again c =
       i .0,
       omega (arith, i .1, c .before .before .before .before .before .before .before .if2 .left),
       i .2,
-      walking-next (facts a .ranged) (light a) (i .0) (i .3) (c .before .before .before .before .before .before .before .before .before .before .serve .ensures) (not-late (c .before .before .before .before .before .before .before .before .if1 .taken)) (c .before .before .note .ensures) (c .first-idle .ensures),
+      walking-next (facts a .ranged) (light a) (i .0) (i .3)
+          (c .before .before .before .before .before .before .before .before .before .before .serve .ensures)
+          (not-late (c .before .before .before .before .before .before .before .before .if1 .taken)) (c .before .before .note .ensures)
+          (c .first-idle .ensures),
     )
 
 -- A late deadline has a start: the search for it does not come to its end.
@@ -110,7 +116,15 @@ found c =
     let y = too-much-iff _ from _ .0 x in
     elim (decLt (c .before .loop .from) from) [
       | yes p ↦ v .3 from p (y .0) x
-      | no p ↦ omega (arith, y .1, v .1, v .2, ap (λ (u : ℕ). demand (table a) u (a .search .at)) (let e : from ≡ c .before .loop .from = omega (arith, c .loop-test .left) in e))
+      | no p ↦
+          omega (
+            arith,
+            y .1,
+            v .1,
+            v .2,
+            ap (λ (u : ℕ). demand (table a) u (a .search .at))
+                (let e : from ≡ c .before .loop .from = omega (arith, c .loop-test .left) in e),
+          )
     ]
 
 loop-holds : tie.Need-loop-holds Inv-loop μ-loop Inv-search μ-search
@@ -141,8 +155,14 @@ down c = c .start-before .ensures .0 (c .before .loop-test .taken)
 demand-requires : tie.Need-demand-requires Inv-loop μ-loop Inv-search μ-search
 demand-requires c κs =
     let a = home (c .before .before .before .before) in
-    let f = facts a in
-    (f .ranged, (omega (arith, down c, c .before .before .loop .inv .0), omega (arith, f .horizon-is, f .horizon-le, ending a .smaller .ensures, a .search .inv .1)))
+    let f = facts a in (
+      f .ranged,
+      (
+        omega (arith, down c, c .before .before .loop .inv .0),
+        omega
+            (arith, f .horizon-is, f .horizon-le, ending a .smaller .ensures, a .search .inv .1),
+      ),
+    )
 
 sub-if3 : tie.Need-sub-if3 Inv-loop μ-loop Inv-search μ-search
 sub-if3 c = omega (arith, down (c .before), c .before .before .before .loop .inv .0)
@@ -180,8 +200,10 @@ returns-2 c =
     let i = a .search .inv in
     let f = facts a in
     let late = one-found (f .ranged) (i .0) (i .3 .walk) (if1 .before .before .serve .ensures) (is-late (if1 .if1 .left)) in
-    let last = none-between (table a) (f .ranged) (light a) (loop .loop .inv .0) (omega (arith, loop .loop .inv .1, loop .loop .inv .2)) (start .start-before .ensures .1) (loop .loop .inv .3) in
-    late-course (i .3 .tally) _ _ (omega (arith, ending a .smaller .ensures)) (i .3 .walk .clear) late (omega (arith, loop .loop .inv .0, down start)) (asks .demand .ensures) (c .if3 .taken) last
+    let last = none-between (table a) (f .ranged) (light a) (loop .loop .inv .0) (omega (arith, loop .loop .inv .1, loop .loop .inv .2))
+    (start .start-before .ensures .1) (loop .loop .inv .3) in
+    late-course (i .3 .tally) _ _ (omega (arith, ending a .smaller .ensures)) (i .3 .walk .clear) late (omega (arith, loop .loop .inv .0, down start))
+    (asks .demand .ensures) (c .if3 .taken) last
 
 pub walk-spec : {M : Type 1} → statement M
 walk-spec =

@@ -13,7 +13,9 @@ use Rattle.plaintext.proofs.content.Tie as tie
 returns : tie.Need-returns
 returns c =
     let cut = c .before .before in
-    before-comment (cut .before .before .args .line .now) (cut .without-return .result) _ (cut .without-return .ensures .0) (cut .without-return .ensures .1) (c .find .ensures .0 ∙ ap (λ (s : List ℕ). lengthTo isHash s) (from-front (cut .before .before .args .line .now) (cut .without-return .result)))
+    before-comment (cut .before .before .args .line .now) (cut .without-return .result) _ (cut .without-return .ensures .0)
+    (cut .without-return .ensures .1) (c .find .ensures .0 ∙ ap (λ (s : List ℕ). lengthTo isHash s)
+    (from-front (cut .before .before .args .line .now) (cut .without-return .result)))
 
 pub content-spec : {M : Type 1} → statement M
 content-spec =

@@ -30,19 +30,22 @@ next-line-requires c κs = let at = c .before .loop .inv .1 .at in omega arith
 -- What the line that was read leads to.
 said : (c : tie.After-read-line Inv-loop μ-loop) (l : Line) → c .read-line .result ≡ l
     → let turn = c .before .before .before .before in
-    Follows (turn .before .before .before .args .text .now) (turn .loop .given) (turn .loop .budget) (turn .loop .table) (c .before .before .next-line .result) (drop 1 (linesOf (turn .loop .left .now))) l
+    Follows (turn .before .before .before .args .text .now) (turn .loop .given) (turn .loop .budget) (turn .loop .table)
+    (c .before .before .next-line .result) (drop 1 (linesOf (turn .loop .left .now))) l
 said c l e =
     let turn = c .before .before .before .before in
     let left = turn .loop .left .now in
     let found = c .before .before .before in
-    let cut : take (found .find .result - 0) (drop 0 left) ≡ take (lengthTo isLineFeed left) left = from-front left (found .find .result) ∙ ap (λ (n : ℕ). take n left) (found .find .ensures .0) in
+    let cut : take (found .find .result - 0) (drop 0 left) ≡ take (lengthTo isLineFeed left) left = from-front left (found .find .result)
+    ∙ ap (λ (n : ℕ). take n left) (found .find .ensures .0) in
     follows left (turn .loop .inv .1) l (c .before .before .next-line .ensures)
     (sym (ap (λ (w : List ℕ). lineOf (turn .loop .given) (turn .loop .table .count) (wordsOf (contentOf w))) cut) ∙ sym (c .read-line .ensures) ∙ e)
 
 -- Whatever it said, the lines behind it are left.
 joined : (c : tie.At-match-came Inv-loop μ-loop)
     → let turn = c .before .before .before .before .before in
-    Reached (turn .before .before .before .args .text .now) (c .match .given) (c .match .budget) (c .match .table) (c .before .before .before .next-line .result) (drop 1 (linesOf (turn .loop .left .now)))
+    Reached (turn .before .before .before .args .text .now) (c .match .given) (c .match .budget) (c .match .table)
+    (c .before .before .before .next-line .result) (drop 1 (linesOf (turn .loop .left .now)))
 joined c = elim (c .match .came) [
   | inl (match, told, given, budget, table) ↦ rw (given, budget, table) (said (c .before) Line.Nothing (told .given .1))
   | inr (inl (match, slots, told, given, budget, table)) ↦ rw (given, budget, table) (said (c .before) (Line.Budget (slots .given .0 .0)) (slots .given .1))
@@ -54,14 +57,20 @@ with-task-requires : tie.Need-with-task-requires Inv-loop μ-loop
 with-task-requires c κs = said (c .before .before .before) (Line.OneTask (c .before .task .given .0 .0)) (c .before .task .given .1) .0
 
 returns : tie.Need-returns Inv-loop μ-loop
-returns c = c .refused-line .ensures ∙ said (c .before .before .before .before) (Line.Fault (c .before .before .number .given .0 .0)) (c .before .before .number .given .1)
+returns c =
+    c .refused-line .ensures ∙ said (c .before .before .before .before) (Line.Fault (c .before .before .number .given .0 .0))
+    (c .before .before .number .given .1)
 
 returns-2 : tie.Need-returns-2 Inv-loop μ-loop
 returns-2 c =
     let came = c .before .before in
     let found = came .before .before .before .before in
     let turn = found .before in
-    c .ended .ensures ∙ text-ends (rw (last-line (turn .loop .left .now) (turn .loop .inv .1) (omega (arith, found .find .ensures .0, c .before .if1 .taken))) at (joined came))
+    c .ended .ensures ∙ text-ends (rw (last-line (turn .loop .left .now) (turn .loop .inv .1) (omega (
+      arith,
+      found .find .ensures .0,
+      c .before .if1 .taken,
+    ))) at (joined came))
 
 add-left : tie.Need-add-left Inv-loop μ-loop
 add-left c =
@@ -80,7 +89,8 @@ loop-again c =
     let turn = found .before in
     let left = turn .loop .left .now in
     let inside : found .find .result < length left = omega (arith, found .find .ensures .1, c .before .if1 .left) in
-    let rest : drop 1 (linesOf left) ≡ linesOf (drop (found .find .result + 1) left) = later-line left (turn .loop .inv .1) (omega (arith, found .find .ensures .0)) ∙ ap (λ (n : ℕ). linesOf (drop (n + 1) left)) (sym (found .find .ensures .0)) in
+    let rest : drop 1 (linesOf left) ≡ linesOf (drop (found .find .result + 1) left) = later-line left (turn .loop .inv .1)
+    (omega (arith, found .find .ensures .0)) ∙ ap (λ (n : ℕ). linesOf (drop (n + 1) left)) (sym (found .find .ensures .0)) in
     rw part-to-end (simp length-drop (omega (arith, turn .loop .inv .0)), rw rest at (joined came))
 
 pub form-of-spec : {M : Type 1} → statement M

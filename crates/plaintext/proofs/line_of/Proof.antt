@@ -26,7 +26,12 @@ returns-3 c =
     let task = c .before .before in
     let named = task .before .before .before in
     let found = named .before .before .before .before .before in
-    rw (found .next-word .ensures .some (omega arith), sym (named .same .ensures) ∙ task .before .before .if2 .left, sym (task .same2 .ensures) ∙ c .before .if3 .taken) (simp part-to-end at (c .task-line .ensures))
+    rw (
+      found .next-word .ensures .some (omega arith),
+      sym (named .same .ensures) ∙ task .before .before .if2 .left,
+      sym (task .same2 .ensures)
+          ∙ c .before .if3 .taken,
+    ) (simp part-to-end at (c .task-line .ensures))
 
 returns-4 : tie.Need-returns-4
 unfolding lineOf text

@@ -29,7 +29,8 @@ returns-2 c =
     let read = c .before .before in
     let found = read .before .before .before in
     let turn = found .before .before in
-    faulty (turn .loop .inv) (drop (found .next-word .result .to) (turn .loop .left .now)) (omega arith) (found .next-word .ensures .some (omega arith)) (read .number-in .ensures) (c .if2 .taken)
+    faulty (turn .loop .inv) (drop (found .next-word .result .to) (turn .loop .left .now)) (omega arith)
+    (found .next-word .ensures .some (omega arith)) (read .number-in .ensures) (c .if2 .taken)
 
 loop-less : tie.Need-loop-less Inv-loop μ-loop
 loop-less c = omega arith
@@ -39,7 +40,8 @@ loop-again c =
     let read = c .before .before .before in
     let found = read .before .before .before in
     let turn = found .before .before in
-    rw part-to-end (one-more (turn .loop .inv) (drop (found .next-word .result .to) (turn .loop .left .now)) (omega arith) (found .next-word .ensures .some (omega arith)) (read .number-in .ensures) (c .before .if2 .left))
+    rw part-to-end (one-more (turn .loop .inv) (drop (found .next-word .result .to) (turn .loop .left .now)) (omega arith)
+    (found .next-word .ensures .some (omega arith)) (read .number-in .ensures) (c .before .if2 .left))
 
 returns-3 : tie.Need-returns-3 Inv-loop μ-loop
 returns-3 c =

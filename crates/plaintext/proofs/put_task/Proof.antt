@@ -12,7 +12,8 @@ returns c =
     let period = c .before .before in
     let deadline = period .before .before .before .before .before .before in
     let name = deadline .before .before .before .before .before .before in
-    task-put (name .before .before .before .args .task) (join (name .put-name .ensures .0) (join (deadline .put-number .ensures .0) (period .put-line .ensures .0)))
+    task-put (name .before .before .before .args .task)
+    (join (name .put-name .ensures .0) (join (deadline .put-number .ensures .0) (period .put-line .ensures .0)))
 
 pub put-task-spec : {M : Type 1} → statement M
 put-task-spec =

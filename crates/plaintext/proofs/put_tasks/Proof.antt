@@ -36,8 +36,12 @@ loop-again c =
     let turn = put .before .before .before .before in
     let start = turn .before .before in
     let ranged = start .pre .0 in
-    let inside : turn .loop .i < start .args .t3 .count = omega arith in
-    (omega arith, omega arith, omega (arith, put .put-task .ensures .place, task-short _ (ranged .each (turn .loop .i) inside)), one-more _ (turn .loop .i) (omega (arith, holds-all _ ranged)) (turn .loop .inv .3) (put .put-task .ensures))
+    let inside : turn .loop .i < start .args .t3 .count = omega arith in (
+      omega arith,
+      omega arith,
+      omega (arith, put .put-task .ensures .place, task-short _ (ranged .each (turn .loop .i) inside)),
+      one-more _ (turn .loop .i) (omega (arith, holds-all _ ranged)) (turn .loop .inv .3) (put .put-task .ensures),
+    )
 
 returns : tie.Need-returns Inv-loop μ-loop
 returns c =

@@ -13,7 +13,8 @@ unfolding textRead
 returns-2 c =
     let judged = c .before .before .before .before in
     let good = judged .before in
-    rw (← good .before .before .form-of .ensures, good .enum-told2 .given .1, ← judged .judge-mixed .ensures, c .before .before .why .given .1) (c .refused-file .ensures)
+    rw (← good .before .before .form-of .ensures, good .enum-told2 .given .1, ← judged .judge-mixed .ensures, c .before .before .why .given .1)
+    (c .refused-file .ensures)
 
 returns-3 : tie.Need-returns-3
 unfolding textRead

@@ -21,7 +21,8 @@ numbers-in-requires : tie.Need-numbers-in-requires
 numbers-in-requires c κs = (omega (arith, c .numbers-due .ensures, due-le (c .before .before .before .before .args .button)), omega arith)
 
 -- The numbers that were read are those of the line's sort.
-read : (c : tie.After-numbers-in) → let a = c .before .before .before .before .before .args in NumbersRead wordLimit (numbersDue (a .button)) (wordsOf (a .rest .now)) (c .numbers-in .result .fault) (c .numbers-in .result .values)
+read : (c : tie.After-numbers-in) → let a = c .before .before .before .before .before .args in NumbersRead wordLimit (numbersDue (a .button))
+    (wordsOf (a .rest .now)) (c .numbers-in .result .fault) (c .numbers-in .result .values)
 read c = rw (← c .before .numbers-due .ensures) (c .numbers-in .ensures)
 
 returns-3 : tie.Need-returns-3
@@ -40,7 +41,8 @@ returns-4 c =
     let numbers = tested .before .before in
     let room = numbers .before .before in
     let a = room .before .before .before .args in
-    rw (not-false (a .given) (room .before .if1 .left)) (task-good (a .button) (a .count) (omega arith) (read numbers) (tested .if3 .left) (c .task-of .ensures))
+    rw (not-false (a .given) (room .before .if1 .left))
+    (task-good (a .button) (a .count) (omega arith) (read numbers) (tested .if3 .left) (c .task-of .ensures))
 
 pub task-line-spec : {M : Type 1} → statement M
 task-line-spec = tie.close (tie.spec returns returns-2 (λ c κs. search needs) numbers-in-requires returns-3 task-of-requires returns-4)

@@ -45,7 +45,8 @@ unfolding valueAfter
 returns-2 c =
     let ended = c .before in
     let start = ended .before .before in
-    read-number (suc (start .args .largest)) (start .args .word .now) (ended .loop .value) (start .pre .1) (ended .loop .inv .3 ∙ rw (drop-of-length-le (start .args .word .now) {i = ended .loop .i} (omega arith))) (omega arith)
+    read-number (suc (start .args .largest)) (start .args .word .now) (ended .loop .value) (start .pre .1)
+    (ended .loop .inv .3 ∙ rw (drop-of-length-le (start .args .word .now) {i = ended .loop .i} (omega arith))) (omega arith)
 
 pub value-of-spec : {M : Type 1} → statement M
 value-of-spec =

@@ -23,7 +23,8 @@ returns-2 c =
     let made = copied .before .before .before .before .before in
     let some = made .before .before in
     let a = some .before .before .args in
-    let whole = from-front (made .put-text .last .0) (made .put-text .result) ∙ front (made .put-text .ensures .0) (omega (arith, made .put-text .ensures .1)) in
+    let whole = from-front (made .put-text .last .0) (made .put-text .result)
+    ∙ front (made .put-text .ensures .0) (omega (arith, made .put-text .ensures .1)) in
     something (a .budget) (textOf (a .budget) (tasksOf (a .table))) (a .buffer .now) (some .if1 .left)
     (copied .copy-text .ensures ∙ ap (λ (bytes : List ℕ). fitted bytes (a .buffer .now)) whole)
 

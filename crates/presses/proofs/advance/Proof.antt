@@ -42,7 +42,8 @@ returns c =
     let unpacked = unpack-from free in
     let s = unpacked .before .args in
     advanced-is (s .t) (s .d) (s .done) (s .pressed) (unpacked .before .pre) (belongs (unpacked .before)) (refl, unpacked .unpack .ensures)
-    (free .free-set .ensures) (report .before .before .only-in .ensures) (report .before .only-in2 .ensures) (report .after-report .ensures) (late .late-set .ensures) (closing .close-all .ensures) (held .put-all .ensures) (c .serve .ensures)
+    (free .free-set .ensures) (report .before .before .only-in .ensures) (report .before .only-in2 .ensures) (report .after-report .ensures)
+    (late .late-set .ensures) (closing .close-all .ensures) (held .put-all .ensures) (c .serve .ensures)
 
 pub advance-spec : {M : Type 1} → statement M
 advance-spec =

@@ -15,7 +15,8 @@ returns : tie.Need-returns
 returns c =
     let told = c .before .before .before .before in
     let s = told .before .args in
-    let e = refused-tells (admittedBy (s .t) (s .d) (Judgement.WellFormed (measure (s .t)))) _ _ (sym (told .belonging .ensures) ∙ c .before .before .why .given .1) in
+    let e = refused-tells (admittedBy (s .t) (s .d) (Judgement.WellFormed (measure (s .t)))) _ _
+    (sym (told .belonging .ensures) ∙ c .before .before .why .given .1) in
     rw e (c .handed-back .ensures)
 
 returns-2 : tie.Need-returns-2

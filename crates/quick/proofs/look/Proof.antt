@@ -17,18 +17,24 @@ Inv-loop u t n slots₀ next₀ i₀ slots next i = (i ≤ n) × (slots ≤ i * 
 abbrev μ-loop : tie.MeasureT-loop
 μ-loop u t n slots₀ next₀ i₀ slots next i = n - i
 
-product : (c : tie.After-to-u642 Inv-loop μ-loop) → let a = c .before .before .before .before in let s = a .before .before .args in c .to-u642 .result * c .before .due-by .result ≡ askedOf (s .t1) (s .u) (a .loop .i)
+product : (c : tie.After-to-u642 Inv-loop μ-loop)
+    → let a = c .before .before .before .before in let s = a .before .before .args in c .to-u642 .result * c .before .due-by .result
+    ≡ askedOf (s .t1) (s .u) (a .loop .i)
 product c = cc
 
-fits : (c : tie.After-to-u642 Inv-loop μ-loop) → let a = c .before .before .before .before in let s = a .before .before .args in askedOf (s .t1) (s .u) (a .loop .i) ≤ askedLimit
-fits c = let a = c .before .before .before .before in let s = a .before .before in asked-le (task (s .args .t1) (a .loop .i)) (s .pre .0 .each (a .loop .i) (omega arith)) (s .args .u) (s .pre .1)
+fits : (c : tie.After-to-u642 Inv-loop μ-loop) → let a = c .before .before .before .before in let s = a .before .before .args in askedOf (s .t1)
+    (s .u) (a .loop .i) ≤ askedLimit
+fits c =
+    let a = c .before .before .before .before in
+    let s = a .before .before in asked-le (task (s .args .t1) (a .loop .i)) (s .pre .0 .each (a .loop .i) (omega arith)) (s .args .u) (s .pre .1)
 
 -- The periods of the jobs that are due.
 periods : (c : tie.After-to-u644 Inv-loop μ-loop) → c .to-u644 .result * c .before .before .before .due-by .result ≤ askedLimit
 periods c =
     let a = c .before .before .before .before .before .before in
     let s = a .before .before in
-    let e : c .to-u644 .result * c .before .before .before .due-by .result ≡ task (s .args .t1) (a .loop .i) .period * dueBy (task (s .args .t1) (a .loop .i)) (s .args .u) = cc in
+    let e : c .to-u644 .result * c .before .before .before .due-by .result ≡ task (s .args .t1) (a .loop .i) .period * dueBy
+    (task (s .args .t1) (a .loop .i)) (s .args .u) = cc in
     omega (arith, due-le (task (s .args .t1) (a .loop .i)) (s .pre .0 .each (a .loop .i) (omega arith)) (s .args .u) (s .pre .1))
 
 add-next : tie.Need-add-next Inv-loop μ-loop

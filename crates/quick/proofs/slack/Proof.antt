@@ -20,7 +20,9 @@ part : (c : tie.After-slack-of Inv-loop μ-loop) → let a = c .before .before .
 part c = let s = c .before .before .before .before in let e = s .pre .1 .is in cc
 
 fits : (c : tie.After-slack-of Inv-loop μ-loop) → let a = c .before .before .before in slackAt (a .before .args .t1) (a .loop .i) ≤ slackLimit
-fits c = let a = c .before .before .before in let s = a .before in slack-le _ (s .pre .0 .each (a .loop .i) (omega arith)) _ (omega (arith, s .pre .1 .is, s .pre .1 .le))
+fits c =
+    let a = c .before .before .before in
+    let s = a .before in slack-le _ (s .pre .0 .each (a .loop .i) (omega arith)) _ (omega (arith, s .pre .1 .is, s .pre .1 .le))
 
 loop-holds : tie.Need-loop-holds Inv-loop μ-loop
 loop-holds c = (omega arith, omega arith, sum-none _)
@@ -32,7 +34,9 @@ add-total : tie.Need-add-total Inv-loop μ-loop
 add-total c = omega (arith, part c, fits c)
 
 loop-again : tie.Need-loop-again Inv-loop μ-loop
-loop-again c = let a = c .before .before .before in (omega arith, omega (arith, part c, fits c), sum-more (slackAt (a .before .args .t1)) (a .loop .i) (a .loop .inv .2) (rw (part c)))
+loop-again c =
+    let a = c .before .before .before in
+    (omega arith, omega (arith, part c, fits c), sum-more (slackAt (a .before .args .t1)) (a .loop .i) (a .loop .inv .2) (rw (part c)))
 
 returns : tie.Need-returns Inv-loop μ-loop
 unfolding slack

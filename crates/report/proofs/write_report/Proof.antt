@@ -40,7 +40,8 @@ returns c =
     let l = q .before .before .before .before in
     let t = l .before .before .before .before .before .before in
     let a = t .before .before .before .before .before .args in
-    let load : Put (line (text "load " ++ decimal (a .answer .measure .load) ++ text "/" ++ decimal (a .answer .measure .round))) _ _ _ _ = l .put-pair .ensures .0 in
+    let load : Put (line (text "load " ++ decimal (a .answer .measure .load) ++ text "/" ++ decimal
+    (a .answer .measure .round))) _ _ _ _ = l .put-pair .ensures .0 in
     let settled : Put (line (text "settled " ++ decimal (a .answer .settled))) _ _ _ _ = s .put-line3 .ensures .0 in
     let quick : Put (line (text "quick " ++ quickWord (a .quick))) _ _ _ _ = q .put-quick .ensures .0 in
     let size = join (join (join (t .put-line .ensures .0) load) quick) (h .put-line2 .ensures .0) in

@@ -28,7 +28,8 @@ returns c =
     let asked = c .before in
     let turn = asked .before .before in
     let words = turn .before .before .args .words .now in
-    sym (first-is (stranger words) 0 (rows words) (turn .loop .i) (omega arith) (omega arith) (rw (← asked .is-task .ensures, c .if1 .taken) tt) (turn .loop .inv .1))
+    sym (first-is (stranger words) 0 (rows words) (turn .loop .i) (omega arith) (omega arith) (rw (← asked .is-task .ensures, c .if1 .taken) tt)
+    (turn .loop .inv .1))
 
 loop-again : tie.Need-loop-again Inv-loop μ-loop
 loop-again c =

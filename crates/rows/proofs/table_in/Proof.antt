@@ -30,7 +30,8 @@ unfolding tableIn
 returns c =
     let ended = c .before in
     let words = ended .before .before .before .before .args .words .now in
-    let tasks : ended .loop .tasks ≡ fill (min (rows words) taskLimit) (rowTask words) (replicate taskLimit noTask) = fill-done _ _ (ended .loop .i) _ (omega arith) (omega arith) (ended .loop .inv .2) in
+    let tasks : ended .loop .tasks ≡ fill (min (rows words) taskLimit) (rowTask words) (replicate taskLimit noTask) = fill-done _ _ (ended .loop .i) _
+    (omega arith) (omega arith) (ended .loop .inv .2) in
     rw tasks
 
 pub table-in-spec : {M : Type 1} → statement M

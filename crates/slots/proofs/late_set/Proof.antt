@@ -28,14 +28,18 @@ joined-requires c κs = (omega arith, rw (c .before .before .before .before .bef
 
 loop-again : tie.Need-loop-again Inv-loop μ-loop
 loop-again c = let a = c .before .before .before .before .before .before in
-    let l = lt-ltb (a .loop .i) (a .before .args .n) (omega arith) in
-    (omega arith, bits-more (isLate (now (a .before .args .wait)) (now (a .before .args .left)) (now (a .before .args .slack)) (a .before .args .n)) _ (a .loop .inv .1) (rw (c .joined .ensures, c .before .at-deadline .ensures, l)))
+    let l = lt-ltb (a .loop .i) (a .before .args .n) (omega arith) in (
+      omega arith,
+      bits-more (isLate (now (a .before .args .wait)) (now (a .before .args .left)) (now (a .before .args .slack)) (a .before .args .n)) _
+          (a .loop .inv .1) (rw (c .joined .ensures, c .before .at-deadline .ensures, l)),
+    )
 
 returns : tie.Need-returns Inv-loop μ-loop
 returns c =
     let a = c .before in
     let s = a .before .args in
-    found-done (λ k. ltb 0 (at (now (s .left)) k) && eqb (at (now (s .wait)) k) (at (now (s .slack)) k)) _ _ (a .loop .inv .0) (omega arith) (omega arith) (a .loop .inv .1)
+    found-done (λ k. ltb 0 (at (now (s .left)) k) && eqb (at (now (s .wait)) k) (at (now (s .slack)) k)) _ _ (a .loop .inv .0) (omega arith)
+    (omega arith) (a .loop .inv .1)
 
 pub late-set-spec : {M : Type 1} → statement M
 late-set-spec =

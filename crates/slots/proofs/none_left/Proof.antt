@@ -20,13 +20,18 @@ loop-holds : tie.Need-loop-holds Inv-loop μ-loop
 loop-holds c = (omega arith, λ k l. absurd (omega arith))
 
 returns : tie.Need-returns Inv-loop μ-loop
-returns c = let a = c .before .before .before in sym (one-left (now (a .before .args .left)) (a .before .args .n) (a .loop .i) (c .before .before .loop-test .taken) (c .if1 .taken))
+returns c =
+    let a = c .before .before .before in
+    sym (one-left (now (a .before .args .left)) (a .before .args .n) (a .loop .i) (c .before .before .loop-test .taken) (c .if1 .taken))
 
 loop-again : tie.Need-loop-again Inv-loop μ-loop
-loop-again c = let a = c .before .before .before in (omega arith, below-more (λ (k : ℕ). at (now (a .before .args .left)) k ≡ 0) (a .loop .i) (a .loop .inv .1) (omega (arith, c .if1 .left)))
+loop-again c =
+    let a = c .before .before .before in
+    (omega arith, below-more (λ (k : ℕ). at (now (a .before .args .left)) k ≡ 0) (a .loop .i) (a .loop .inv .1) (omega (arith, c .if1 .left)))
 
 returns-2 : tie.Need-returns-2 Inv-loop μ-loop
-returns-2 c = let a = c .before in sym (all-given (now (a .before .args .left)) (a .before .args .n) (λ i l. a .loop .inv .1 i (omega (arith, c .loop-test .left))))
+returns-2 c =
+    let a = c .before in sym (all-given (now (a .before .args .left)) (a .before .args .n) (λ i l. a .loop .inv .1 i (omega (arith, c .loop-test .left))))
 
 pub none-left-spec : {M : Type 1} → statement M
 none-left-spec =

@@ -24,12 +24,16 @@ joined-requires : tie.Need-joined-requires Inv-loop μ-loop
 joined-requires c κs = (omega arith, rw (c .before .before .loop .inv .1) (bits-lt _ _))
 
 loop-again : tie.Need-loop-again Inv-loop μ-loop
-loop-again c = let a = c .before .before .before in
-    (omega arith, bits-more (λ k. inSet (a .before .args .tasks) k && not (inSet (a .before .args .others) k)) _ (a .loop .inv .1) (rw (c .joined .ensures, c .before .is-only-in .ensures)))
+loop-again c = let a = c .before .before .before in (
+  omega arith,
+  bits-more (λ k. inSet (a .before .args .tasks) k && not (inSet (a .before .args .others) k)) _ (a .loop .inv .1)
+      (rw (c .joined .ensures, c .before .is-only-in .ensures)),
+)
 
 returns : tie.Need-returns Inv-loop μ-loop
 returns c = let a = c .before in
-    at-end (bits (λ k. inSet (a .before .args .tasks) k && not (inSet (a .before .args .others) k))) _ taskLimit (a .loop .inv .0) (omega arith) (a .loop .inv .1)
+    at-end (bits (λ k. inSet (a .before .args .tasks) k && not (inSet (a .before .args .others) k))) _ taskLimit (a .loop .inv .0) (omega arith)
+    (a .loop .inv .1)
 
 pub only-in-spec : {M : Type 1} → statement M
 only-in-spec =

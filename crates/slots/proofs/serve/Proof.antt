@@ -27,7 +27,9 @@ returns c =
     let a = c .before .before .before .before .before .before in
     let v = a .loop .inv .1 in
     let s = a .before .args in
-    served-late _ _ _ _ _ _ _ (a .loop .i) (omega arith) (late-here (s .wait .now) (s .left .now) (s .period .now) (s .cost .now) (s .slack .now) (s .rank .now) (s .n) (a .loop .i) (omega arith) (rw (fill-read _ _ _ 0 (v .lefts)) at (c .before .before .before .if1 .taken)) (sym (fill-read _ _ _ 0 (v .waits)) ∙ c .if2 .taken))
+    served-late _ _ _ _ _ _ _ (a .loop .i) (omega arith)
+    (late-here (s .wait .now) (s .left .now) (s .period .now) (s .cost .now) (s .slack .now) (s .rank .now) (s .n) (a .loop .i) (omega arith)
+    (rw (fill-read _ _ _ 0 (v .lefts)) at (c .before .before .before .if1 .taken)) (sym (fill-read _ _ _ 0 (v .waits)) ∙ c .if2 .taken))
 
 loop-again : tie.Need-loop-again Inv-loop μ-loop
 loop-again c =
@@ -40,14 +42,22 @@ loop-again c =
     let i = a .loop .i in
     let w : r .renew .result .wait ≡ waitReleased (s .wait .now) (s .period .now) i = rw ew at (r .renew .ensures .0) in
     let l : r .renew .result .left ≡ leftReleased (s .wait .now) (s .left .now) (s .cost .now) i = rw (ew, el) at (r .renew .ensures .1) in
-    let calm : 0 < at (s .left .now) i → at (s .wait .now) i ≡ at (s .slack .now) i → ⊥ = elim (r .before .before .before .if1 .came) [ inl (if1, x, y, if2) ↦ (λ p q. if2 .left (ew ∙ q)) | inr if1 ↦ (λ p q. absurd (omega (arith, if1 .left, el))) ] in
+    let calm : 0 < at (s .left .now) i → at (s .wait .now) i ≡ at (s .slack .now) i
+    → ⊥ = elim (r .before .before .before .if1 .came) [
+      | inl (if1, x, y, if2) ↦ (λ p q. if2 .left (ew ∙ q))
+      | inr if1 ↦ (λ p q. absurd (omega (arith, if1 .left, el)))
+    ] in
     let few : i < taskLimit = omega (arith, a .before .pre) in
     let tw = r .renew .ensures .2 in
     let tl = r .renew .ensures .3 in (
       omega arith,
       elim (c .if3 .came) [
-        | inl (if3, x, less, y, key, if4, owner, least, rest) ↦ rw (owner, least, rest, tw, tl) (serve-first _ _ _ _ _ _ _ v w l calm few (rw (less .ensures) at (key .ensures .0)) (rw (less .ensures) at (key .ensures .1)) (key .ensures .2) (if4 .taken))
-        | inr (inl (if3, x, less, y, key, if4, owner, least, rest)) ↦ rw (owner, least, rest, tw, tl) (serve-later _ _ _ _ _ _ _ v w l calm few (rw (less .ensures) at (key .ensures .0)) (rw (less .ensures) at (key .ensures .1)) (key .ensures .2) (if4 .left))
+        | inl (if3, x, less, y, key, if4, owner, least, rest) ↦
+            rw (owner, least, rest, tw, tl) (serve-first _ _ _ _ _ _ _ v w l calm few (rw (less .ensures) at (key .ensures .0))
+            (rw (less .ensures) at (key .ensures .1)) (key .ensures .2) (if4 .taken))
+        | inr (inl (if3, x, less, y, key, if4, owner, least, rest)) ↦
+            rw (owner, least, rest, tw, tl) (serve-later _ _ _ _ _ _ _ v w l calm few (rw (less .ensures) at (key .ensures .0))
+            (rw (less .ensures) at (key .ensures .1)) (key .ensures .2) (if4 .left))
         | inr (inr (if3, owner, least, rest)) ↦ rw (owner, least, rest, tw, tl) (serve-closed _ _ _ _ _ _ _ v w l calm (if3 .left))
       ],
     )

@@ -11,7 +11,9 @@ use Rattle.slots.proofs.unpack.Statement.{statement}
 use Rattle.slots.proofs.unpack.Tie as tie
 
 abbrev Inv-loop : tie.InvT-loop
-Inv-loop t n period₀ cost₀ slack₀ rank₀ i₀ period cost slack rank i = (i ≤ n) × (period ≡ column i (λ k. task t k .period)) × (cost ≡ column i (λ k. task t k .cost)) × (slack ≡ column i (λ k. task t k .period - task t k .deadline)) × (rank ≡ column i (tieOrder t))
+Inv-loop t n period₀ cost₀ slack₀ rank₀ i₀ period cost slack rank i =
+    (i ≤ n) × (period ≡ column i (λ k. task t k .period)) × (cost ≡ column i (λ k. task t k .cost))
+    × (slack ≡ column i (λ k. task t k .period - task t k .deadline)) × (rank ≡ column i (tieOrder t))
 
 abbrev μ-loop : tie.MeasureT-loop
 μ-loop t n period₀ cost₀ slack₀ rank₀ i₀ period cost slack rank i = n - i
@@ -25,8 +27,13 @@ rank-of-requires c κs = let a = c .before .before .before in
 
 loop-again : tie.Need-loop-again Inv-loop μ-loop
 loop-again c = let a = c .before .before .before .before in
-    let v = a .loop .inv in
-    (omega arith, fill-put _ _ _ (v .1) refl, fill-put _ _ _ (v .2) refl, fill-put _ _ _ (v .3) (c .before .less .ensures), fill-put _ _ _ (v .4) (c .rank-of .ensures))
+    let v = a .loop .inv in (
+      omega arith,
+      fill-put _ _ _ (v .1) refl,
+      fill-put _ _ _ (v .2) refl,
+      fill-put _ _ _ (v .3) (c .before .less .ensures),
+      fill-put _ _ _ (v .4) (c .rank-of .ensures),
+    )
 
 returns : tie.Need-returns Inv-loop μ-loop
 unfolding columnsOf

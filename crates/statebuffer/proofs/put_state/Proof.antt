@@ -40,7 +40,17 @@ put-long-requires c κs =
     let last = last-from late in
     let left = left-from last in
     let wait = wait-from left in
-    omega (arith, given .put-counts .ensures .1, lowest .put-word4 .ensures .1, closed .put-word3 .ensures .1, late .put-word2 .ensures .1, last .put-word .ensures .1, left .put-words2 .ensures .1, wait .put-words .ensures .1, wait .before .before .before .before .before .before .pre)
+    omega (
+      arith,
+      given .put-counts .ensures .1,
+      lowest .put-word4 .ensures .1,
+      closed .put-word3 .ensures .1,
+      late .put-word2 .ensures .1,
+      last .put-word .ensures .1,
+      left .put-words2 .ensures .1,
+      wait .put-words .ensures .1,
+      wait .before .before .before .before .before .before .pre,
+    )
 
 returns : tie.Need-returns
 returns c =

@@ -15,7 +15,8 @@ returns : tie.Need-returns
 returns c =
     let put = c .before .before in
     let start = put .before .before .before in
-    whole (put .put-state .ensures .0) (start .pre ∙ sym (buffer-length (start .args .d) (start .args .turn) (sizes start .0) (sizes start .1) (sizes start .2)))
+    whole (put .put-state .ensures .0) (start .pre ∙ sym
+    (buffer-length (start .args .d) (start .args .turn) (sizes start .0) (sizes start .1) (sizes start .2)))
 
 pub write-state-spec : {M : Type 1} → statement M
 write-state-spec = tie.close (tie.spec (λ c κs. search needs) (λ c. search needs) returns)

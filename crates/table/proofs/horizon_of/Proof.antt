@@ -35,7 +35,8 @@ loop-again c =
     let o = c .before in
     let a = o .before .before .before in
     let f = start (a .before .args .t1) in
-    let later : c .if1 .latest ≡ max (a .loop .latest) (f (a .loop .i)) = ⊎-elim (λ w. omega (arith, o .offset-of .ensures)) (λ w. omega (arith, o .offset-of .ensures)) (c .if1 .came) in
+    let later : c .if1 .latest ≡ max (a .loop .latest) (f (a .loop .i)) = ⊎-elim (λ w. omega (arith, o .offset-of .ensures))
+    (λ w. omega (arith, o .offset-of .ensures)) (c .if1 .came) in
     (omega arith, omega (arith, offset-le (o .before .before)), largest-more f (a .loop .i) (a .loop .inv .2) later)
 
 returns : tie.Need-returns Inv-loop μ-loop

@@ -30,7 +30,13 @@ unfolding judgedMixed
 returns-3 c =
     let a = c .before .before .before in
     let b = a .before in
-    rw (ne-eqb _ _ (b .before .before .if1 .left), le-ltb _ _ (b .before .if2 .left), ← b .first-faulty .ensures, lt-ltb _ _ (a .if3 .taken), ← c .before .task-fault .ensures) (c .refuse3 .ensures)
+    rw (
+      ne-eqb _ _ (b .before .before .if1 .left),
+      le-ltb _ _ (b .before .if2 .left),
+      ← b .first-faulty .ensures,
+      lt-ltb _ _ (a .if3 .taken),
+      ← c .before .task-fault .ensures,
+    ) (c .refuse3 .ensures)
 
 round-of-requires : tie.Need-round-of-requires
 round-of-requires c κs = in-ranges c
@@ -38,7 +44,8 @@ round-of-requires c κs = in-ranges c
 returns-4 : tie.Need-returns-4
 returns-4 c =
     let a = c .before .before in
-    c .refuse4 .ensures ∙ sym (mixed-long (a .before .before .before .before .before .args .t1) (in-ranges (a .before)) (a .round-of .ensures .above (omega arith)))
+    c .refuse4 .ensures ∙ sym
+    (mixed-long (a .before .before .before .before .before .args .t1) (in-ranges (a .before)) (a .round-of .ensures .above (omega arith)))
 
 load-of-requires : tie.Need-load-of-requires
 load-of-requires c κs = (in-ranges (c .before .before), round-kept c)
@@ -50,7 +57,8 @@ returns-5 : tie.Need-returns-5
 returns-5 c =
     let a = c .before .before in
     let kept = round-kept a in
-    rw (kept .is, c .before .load-of .ensures, c .horizon-of .ensures) (sym (mixed-of (a .before .before .before .before .before .before .args .t1) (in-ranges (a .before .before)) (omega arith)))
+    rw (kept .is, c .before .load-of .ensures, c .horizon-of .ensures)
+    (sym (mixed-of (a .before .before .before .before .before .before .args .t1) (in-ranges (a .before .before)) (omega arith)))
 
 pub judge-mixed-spec : {M : Type 1} → statement M
 judge-mixed-spec =

@@ -20,7 +20,9 @@ abbrev μ-loop : tie.MeasureT-loop
 in-range : (c : tie.In-loop Inv-loop μ-loop) → InRange (task (c .before .before .args .t1) (c .before .loop .i))
 in-range c = c .before .before .pre .each (c .before .loop .i) (omega arith)
 
-next-multiple : (c : tie.After-divisor Inv-loop μ-loop) → let a = c .before .before in let t = a .before .args .t1 in a .loop .multiple / c .divisor .result * period t (a .loop .i) ≡ lcmAll (a .loop .i + 1) (period t)
+next-multiple : (c : tie.After-divisor Inv-loop μ-loop)
+    → let a = c .before .before in let t = a .before .args .t1 in a .loop .multiple / c .divisor .result * period t (a .loop .i)
+    ≡ lcmAll (a .loop .i + 1) (period t)
 next-multiple c = let a = c .before .before in lcmAll-more (period (a .before .args .t1)) (a .loop .i) (a .loop .inv .2) (c .divisor .ensures) refl
 
 loop-holds : tie.Need-loop-holds Inv-loop μ-loop
@@ -35,7 +37,11 @@ div-multiple c = gcd-pos (c .divisor .ensures) (in-range (c .before) .period-pos
 mul-multiple : tie.Need-mul-multiple Inv-loop μ-loop
 mul-multiple c =
     let a = c .before .before in
-    omega (arith, multiple-le (a .loop .multiple) (c .divisor .result) (period (a .before .args .t1) (a .loop .i)) (a .loop .inv .1) (in-range (c .before) .period-le))
+    omega (
+      arith,
+      multiple-le (a .loop .multiple) (c .divisor .result) (period (a .before .args .t1) (a .loop .i)) (a .loop .inv .1)
+          (in-range (c .before) .period-le),
+    )
 
 returns : tie.Need-returns Inv-loop μ-loop
 returns c =

@@ -19,7 +19,11 @@ unfolding taskFault
 returns-3 c =
     let b = c .before .before in
     let a = b .before .before in
-    rw (rw (a .before .within .ensures) at (a .if1 .left), rw (b .before .within2 .ensures) at (b .if2 .left), rw (c .before .within3 .ensures) at (c .if3 .taken))
+    rw (
+      rw (a .before .within .ensures) at (a .if1 .left),
+      rw (b .before .within2 .ensures) at (b .if2 .left),
+      rw (c .before .within3 .ensures) at (c .if3 .taken),
+    )
 
 returns-4 : tie.Need-returns-4
 unfolding taskFault

@@ -68,7 +68,8 @@ task-has-room c = has-room (c .before .before .before .before .before .before .b
 
 task-read : (c : tie.After-known-told4 Inv-loop μ-loop)
     → let t = c .before .before .before .before .before .before .before in
-    ReadSoFar (file-of t) (t .loop .budget) (withTask (t .loop .table) (c .before .record3 .given .0 .0)) (t .loop .at + recordBytes (c .before .record3 .given .0 .0))
+    ReadSoFar (file-of t) (t .loop .budget) (withTask (t .loop .table) (c .before .record3 .given .0 .0))
+    (t .loop .at + recordBytes (c .before .record3 .given .0 .0))
 task-read c = after-task (c .before .before .before .before .before .before .before .loop .inv) (task-found c)
 
 mul-task : tie.Need-mul-task Inv-loop μ-loop

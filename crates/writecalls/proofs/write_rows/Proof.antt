@@ -15,7 +15,13 @@ returns-2 c =
     let tested = c .before in
     let counted = tested .before in
     let whole = counted .before .before in
-    rw (sym (whole .before .broken .ensures) ∙ whole .if1 .left, ← counted .before .first-stranger .ensures, ← counted .count .ensures, lt-ltb _ _ (tested .if2 .taken), c .refused-at2 .ensures)
+    rw (
+      sym (whole .before .broken .ensures) ∙ whole .if1 .left,
+      ← counted .before .first-stranger .ensures,
+      ← counted .count .ensures,
+      lt-ltb _ _ (tested .if2 .taken),
+      c .refused-at2 .ensures,
+    )
 
 returns-3 : tie.Need-returns-3
 returns-3 c =
@@ -24,7 +30,14 @@ returns-3 c =
     let tested = held .before in
     let counted = tested .before in
     let whole = counted .before .before in
-    rw (sym (whole .before .broken .ensures) ∙ whole .if1 .left, ← counted .before .first-stranger .ensures, ← counted .count .ensures, le-ltb _ _ (tested .if2 .left), ← held .table-in .ensures, ← wrote .write .ensures) (c .told .ensures _)
+    rw (
+      sym (whole .before .broken .ensures) ∙ whole .if1 .left,
+      ← counted .before .first-stranger .ensures,
+      ← counted .count .ensures,
+      le-ltb _ _ (tested .if2 .left),
+      ← held .table-in .ensures,
+      ← wrote .write .ensures,
+    ) (c .told .ensures _)
 
 pub write-rows-spec : {M : Type 1} → statement M
 write-rows-spec =

@@ -15,7 +15,9 @@ returns c = rw (← c .before .before .before .admission .ensures, c .before .wh
 
 returns-2 : tie.Need-returns-2
 unfolding fed
-returns-2 c = rw (← c .before .before .before .admission .ensures, c .before .enum-told .given .1) (ap (λ (l : Log). record { admission = Admission.Admitted; log = l }) (c .read-all .ensures))
+returns-2 c =
+    rw (← c .before .before .before .admission .ensures, c .before .enum-told .given .1)
+    (ap (λ (l : Log). record { admission = Admission.Admitted; log = l }) (c .read-all .ensures))
 
 pub feed-spec : {M : Type 1} → statement M
 feed-spec = tie.close (tie.spec (λ c κs. search needs) (λ c. search needs) (λ c. search needs) read-all-requires returns returns-2)

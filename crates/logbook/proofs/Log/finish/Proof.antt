@@ -16,7 +16,8 @@ sizes c = record { waits = search needs; lefts = search needs; gives = search ne
 close-requires : tie.Need-close-requires
 close-requires c κs =
     let a = c .before .before in
-    readable (a .before .args .t) (logStateOf (a .before .args .self)) (sizes (a .before)) (sym (a .admission .ensures) ∙ c .enum-told .given .1) .fits .bytes-le
+    readable (a .before .args .t) (logStateOf (a .before .args .self)) (sizes (a .before))
+    (sym (a .admission .ensures) ∙ c .enum-told .given .1) .fits .bytes-le
 
 returns : tie.Need-returns
 unfolding logFinished
@@ -24,7 +25,9 @@ returns c = rw (← c .before .before .before .admission .ensures, c .before .wh
 
 returns-2 : tie.Need-returns-2
 unfolding logFinished
-returns-2 c = rw (← c .before .before .before .admission .ensures, c .before .enum-told .given .1) (ap (λ (l : Log). record { admission = Admission.Admitted; log = l }) (c .close .ensures))
+returns-2 c =
+    rw (← c .before .before .before .admission .ensures, c .before .enum-told .given .1)
+    (ap (λ (l : Log). record { admission = Admission.Admitted; log = l }) (c .close .ensures))
 
 pub finish-spec : {M : Type 1} → statement M
 finish-spec = tie.close (tie.spec (λ c κs. search needs) (λ c. search needs) (λ c. search needs) close-requires returns returns-2)
