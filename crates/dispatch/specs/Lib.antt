@@ -1,5 +1,4 @@
 -- The dispatcher's values as the model's, and the laws of a step.
 pub mod State
-pub mod Strange
 pub mod Accounts
 pub mod Step

@@ -12,9 +12,9 @@ ghost use Rattle.model.specs.LogMeaning.{Final};
 ghost use Rattle.dispatch.specs.Step.{Unpacked, stateWith};
 ghost use Rattle.logbook.specs.State.{joined, logStateOf, fedOf};
 ghost use Rattle.logbook.specs.Bytes.{Readable, ReadTo, endsSlot, isDue, slotOn, stoppedAt, passedOn, doneHeard, kindHeard, otherRead, logBelonging};
-use dispatch::Counts;
+use belonging::Counts;
+use belonging::Room;
 use dispatch::Dispatcher;
-use dispatch::Room;
 use slots::NO_TASK;
 use slots::Numbers;
 use slots::Ranks;
@@ -126,7 +126,7 @@ fn belonging(log: Log, t: Table) -> Admission
     ensures { λ r. ⌜ r ≡ logBelonging t (logStateOf log) ⌝ }
 {
     let state = log.state;
-    match dispatch::belonging(state, t) {
+    match belonging::belonging(state, t) {
         Room::Refused(why) => Admission::Refused(why),
         Room::Slots(room) => {
             if miscounted(

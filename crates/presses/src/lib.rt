@@ -2,10 +2,10 @@
 ghost use mathlib.Core.Path.{_≡_};
 ghost use Rattle.model.specs.Presses.{startedMixed, refusePressed, pressTaken, steppedPressed};
 ghost use Rattle.wellformed.specs.Ranges.{Ranged};
-ghost use Rattle.dispatch.specs.Accounts.{belonging};
+ghost use Rattle.belonging.specs.Room.{belonging};
 ghost use Rattle.presses.specs.State.{startedOf, pressedOf};
 ghost use Rattle.presses.specs.Step.{Pressable, pressWellFormed, Advanced};
-use dispatch::Room;
+use belonging::Room;
 use slots::NO_TASK;
 use slots::Numbers;
 use values::Admission;
@@ -93,7 +93,7 @@ fn step_well_formed(d: State, t: Table, done: bool, pressed: u32) -> Pressed
     requires { ⌜ Ranged t ⌝ }
     ensures { λ r. ⌜ pressedOf r ≡ pressWellFormed t d done pressed ⌝ }
 {
-    match dispatch::belonging(d, t) {
+    match belonging::belonging(d, t) {
         Room::Refused(why) => handed_back(d, why, pressed),
         Room::Slots(room) => step_admitted(d, t, room, done, pressed),
     }

@@ -6,7 +6,7 @@ ghost use Rattle.model.specs.Limits.{taskLimit};
 ghost use Rattle.model.specs.TableFile.{bytesOf};
 ghost use Rattle.model.specs.StateBuffer.{stateBytes, halves, bufferOf, wordsIn, countsIn, stateIn};
 ghost use Rattle.counting.specs.Put.{Put};
-use dispatch::Counts;
+use belonging::Counts;
 use slots::Numbers;
 use values::State;
 use values::TASK_LIMIT;

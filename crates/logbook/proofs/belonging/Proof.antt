@@ -9,7 +9,7 @@ use Rattle.model.specs.Tasks.{measure}
 use Rattle.model.specs.Dispatcher.{slotCount, admittedBy}
 use Rattle.model.specs.Log.{miscounted}
 use Rattle.wellformed.specs.Admitted.{fitting}
-use Rattle.dispatch.specs.Accounts.{refused-tells, slots-tell}
+use Rattle.belonging.specs.Room.{refused-tells, slots-tell}
 use Rattle.logbook.specs.State.{logStateOf}
 use borrow.Author.Needs.{needs}
 use Rattle.logbook.proofs.belonging.Statement.{statement}

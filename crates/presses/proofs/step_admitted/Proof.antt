@@ -10,7 +10,7 @@ use Rattle.model.specs.Limits.{slotCountLimit}
 use Rattle.model.specs.Tasks.{measure}
 use Rattle.model.specs.Dispatcher.{slotCount, admittedBy}
 use Rattle.wellformed.specs.Admitted.{fitting}
-use Rattle.dispatch.specs.Accounts.{slots-tell}
+use Rattle.belonging.specs.Room.{slots-tell}
 use Rattle.presses.specs.Step.{pressable}
 use Rattle.presses.proofs.step_admitted.Statement.{statement}
 use Rattle.presses.proofs.step_admitted.Tie as tie

@@ -4,7 +4,7 @@ use borrow.Author.Needs.{needs}
 use Rattle.values.specs.declared.Judgement.{Judgement}
 use Rattle.model.specs.Tasks.{measure}
 use Rattle.model.specs.Dispatcher.{admittedBy}
-use Rattle.dispatch.specs.Accounts.{refused-tells}
+use Rattle.belonging.specs.Room.{refused-tells}
 use Rattle.presses.proofs.step_well_formed.Statement.{statement}
 use Rattle.presses.proofs.step_well_formed.Tie as tie
 

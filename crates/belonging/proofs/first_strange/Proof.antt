@@ -6,8 +6,8 @@ use native.Mathlib.Omega.{arith}
 use borrow.Author.Needs.{needs}
 use Rattle.model.specs.Dispatcher.{strange, firstStrange}
 use Rattle.counting.specs.Search.{NoneFrom, none-up, first-is, first-none}
-use Rattle.dispatch.proofs.first_strange.Statement.{statement}
-use Rattle.dispatch.proofs.first_strange.Tie as tie
+use Rattle.belonging.proofs.first_strange.Statement.{statement}
+use Rattle.belonging.proofs.first_strange.Tie as tie
 
 abbrev Inv-loop : tie.InvT-loop
 Inv-loop d t n i₀ i = (i ≤ n) × NoneFrom (strange t d) 0 i

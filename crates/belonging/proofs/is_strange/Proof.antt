@@ -1,8 +1,8 @@
 -- The four ways out of the tests.
 use borrow.Author.Tests.{lt-ltb, le-ltb}
 use borrow.Author.Needs.{needs}
-use Rattle.dispatch.proofs.is_strange.Statement.{statement}
-use Rattle.dispatch.proofs.is_strange.Tie as tie
+use Rattle.belonging.proofs.is_strange.Statement.{statement}
+use Rattle.belonging.proofs.is_strange.Tie as tie
 
 returns : tie.Need-returns
 returns c = rw (← c .before .waits-too-long .ensures, c .if1 .taken)

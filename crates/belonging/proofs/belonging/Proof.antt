@@ -1,10 +1,10 @@
 -- The three ways out of the tests.
 use borrow.Author.Tests.{lt-ltb, le-ltb}
 use Rattle.model.specs.Dispatcher.{slotCount}
-use Rattle.dispatch.specs.Accounts.{roomFor}
+use Rattle.belonging.specs.Room.{roomFor}
 use borrow.Author.Needs.{needs}
-use Rattle.dispatch.proofs.belonging.Statement.{statement}
-use Rattle.dispatch.proofs.belonging.Tie as tie
+use Rattle.belonging.proofs.belonging.Statement.{statement}
+use Rattle.belonging.proofs.belonging.Tie as tie
 
 returns : tie.Need-returns
 returns c = let s = c .before .before .before in

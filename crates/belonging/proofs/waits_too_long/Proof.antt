@@ -1,9 +1,9 @@
 -- Above the larger of two is above both.
 use borrow.Author.Needs.{needs}
 use borrow.Author.Tests.{lt-ltb, le-ltb}
-use Rattle.dispatch.specs.Strange.{above-both}
-use Rattle.dispatch.proofs.waits_too_long.Statement.{statement}
-use Rattle.dispatch.proofs.waits_too_long.Tie as tie
+use Rattle.belonging.specs.Strange.{above-both}
+use Rattle.belonging.proofs.waits_too_long.Statement.{statement}
+use Rattle.belonging.proofs.waits_too_long.Tie as tie
 
 returns : tie.Need-returns
 returns c = let o = c .before .before in simp (above-both, ← o .offset-of .ensures, lt-ltb _ _ (c .before .if1 .taken))

@@ -4,9 +4,9 @@ use Prim.Native.Nat.{_≤_, _-_}
 use native.Mathlib.Omega.{arith}
 use denote.Ref.{now}
 use borrow.Author.Needs.{needs}
-use Rattle.dispatch.specs.Accounts.{Left, room-start, room-again, room-beyond, room-end}
-use Rattle.dispatch.proofs.room_for.Statement.{statement}
-use Rattle.dispatch.proofs.room_for.Tie as tie
+use Rattle.belonging.specs.Room.{Left, room-start, room-again, room-beyond, room-end}
+use Rattle.belonging.proofs.room_for.Statement.{statement}
+use Rattle.belonging.proofs.room_for.Tie as tie
 
 abbrev Inv-loop : tie.InvT-loop
 Inv-loop given empty n room₀ i₀ room i = (i ≤ n) × Left given empty i room

@@ -1,8 +1,8 @@
 -- The two ways out of the test.
 use borrow.Author.Tests.{eq-eqb, ne-eqb}
-use Rattle.dispatch.specs.Strange.{at-least}
-use Rattle.dispatch.proofs.last_strange.Statement.{statement}
-use Rattle.dispatch.proofs.last_strange.Tie as tie
+use Rattle.belonging.specs.Strange.{at-least}
+use Rattle.belonging.proofs.last_strange.Statement.{statement}
+use Rattle.belonging.proofs.last_strange.Tie as tie
 
 returns : tie.Need-returns
 returns c = rw (ne-eqb _ _ (c .if1 .taken), at-least)

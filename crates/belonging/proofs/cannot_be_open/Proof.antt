@@ -1,8 +1,8 @@
 -- The two ways out of the test.
 use borrow.Author.Tests.{lt-ltb, le-ltb}
 use borrow.Author.Needs.{needs}
-use Rattle.dispatch.proofs.cannot_be_open.Statement.{statement}
-use Rattle.dispatch.proofs.cannot_be_open.Tie as tie
+use Rattle.belonging.proofs.cannot_be_open.Statement.{statement}
+use Rattle.belonging.proofs.cannot_be_open.Tie as tie
 
 returns : tie.Need-returns
 returns c = rw (← c .before .less .ensures, lt-ltb _ _ (c .if1 .taken))

@@ -1,0 +1,3 @@
+-- When a state belongs to a table.
+pub mod Strange
+pub mod Room
