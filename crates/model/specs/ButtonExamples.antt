@@ -18,7 +18,7 @@ use Rattle.model.specs.Patterns.{calmPatterns, distancePass, distanceAns
 use Rattle.model.specs.TableFile.{tableOf, bytesOf, taskRecords, fileOf, readFrom, formOf, fileRead, periodicFrom}
 use Rattle.model.specs.Dispatcher.{State, slotCount, firstStrange, startOf, admitted, started, stepped, steppedBy}
 use Rattle.model.specs.Presses.{Pressed, startedMixed, admittedMixed, notTaken, comes, ownerCome, afterCome}
-use Rattle.model.specs.Presses.{steppedPressed}
+use Rattle.model.specs.Presses.{steppedPressed, stateUnder, arrivals, ownerUnder}
 use Rattle.model.specs.Writer.{tableIn, firstStranger}
 use Rattle.model.specs.PlainText.{split, filled, allDigits, valueAfter, numbersFault, same, budgetLine, taskLine}
 use Rattle.model.specs.PlainText.{lineOf, readLines, textForm, textRead, taskTexts, textOf}
@@ -230,3 +230,10 @@ press-at-deadline :
 unfolding steppedPressed admittedMixed slotCount firstStrange ownerCome choose
     judgedMixed firstFaulty taskFault first round load horizon largest sum count bits
 press-at-deadline = refl
+
+-- Pressed in every slot, and never told of an end, the shutter is released in every second one. Slot 5 is empty.
+pressed-history :
+    (map (arrivals table-shutter (λ n. false) (λ n. 4) 2) (0 ∷ 1 ∷ 2 ∷ 3 ∷ []) ≡ true ∷ false ∷ true ∷ false ∷ [])
+    × (ownerUnder table-shutter (λ n. false) (λ n. 4) 5 ≡ taskLimit)
+unfolding stateUnder afterCome ownerCome startOf fill choose
+pressed-history = (refl, refl)
