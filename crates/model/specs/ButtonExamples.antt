@@ -17,13 +17,15 @@ use Rattle.model.specs.Patterns.{startingAt, light, calm, quickAnswer, c
 use Rattle.model.specs.Patterns.{calmPatterns, distancePass, distanceAnswer}
 use Rattle.model.specs.TableFile.{tableOf, bytesOf, taskRecords, fileOf, readFrom, formOf, fileRead, periodicFrom}
 use Rattle.model.specs.Dispatcher.{State, slotCount, firstStrange, startOf, admitted, started, stepped, steppedBy}
-use Rattle.model.specs.Presses.{Pressed, startedMixed, admittedMixed, notTaken, comes, ownerCome, afterCome, steppedPressed}
+use Rattle.model.specs.Presses.{Pressed, startedMixed, admittedMixed, notTaken, comes, ownerCome, afterCome}
+use Rattle.model.specs.Presses.{steppedPressed, stateUnder, arrivals, ownerUnder}
 use Rattle.model.specs.Writer.{tableIn, firstStranger}
 use Rattle.model.specs.PlainText.{split, filled, allDigits, valueAfter, numbersFault, same, budgetLine, taskLine}
 use Rattle.model.specs.PlainText.{lineOf, readLines, textForm, textRead, taskTexts, textOf}
 use Rattle.model.specs.Easing.{easedExported}
 use Rattle.model.specs.Largest.{costAnswer}
-use Rattle.model.specs.Examples.{of, padded, uncounted, budgetOf, refusalOf, at, rowOf, file-b}
+use Rattle.model.specs.Examples.{of, padded, uncounted, at, budgetOf, rowOf, file-b}
+use Rattle.model.specs.FileExamples.{refusalOf}
 
 -- A button: C, D and its spacing; its record.
 abbrev pub button : ℕ → ℕ → ℕ → Task
@@ -152,8 +154,8 @@ only-periodic :
     ≡ SlotAnswer.Refused (refusal 11 2))
     × (easedExported file-b file-shutter ≡ 4 * (65536 * 11 + 2) + 3)
     × (easedExported file-shutter [] ≡ 4 * (65536 * 11 + 2) + 2)
-unfolding quickAnswer costAnswer started steppedBy admitted fileRead periodicFrom formOf readFrom judged judgedMixed
-    firstButton firstFaulty taskFault first round load horizon largest sum count bytesOf
+unfolding quickAnswer costAnswer started steppedBy admitted slotCount fileRead periodicFrom formOf readFrom judged
+    judgedMixed firstButton firstFaulty taskFault first round load horizon largest sum count bytesOf
 only-periodic = (refl, refl, refl, refl, refl, refl)
 
 -- Demand counts the jobs that come, of either sort: of presses at 1, 4 and 8, each due three slots later,
@@ -195,8 +197,8 @@ unfolding startedMixed steppedPressed admittedMixed startOf slotCount firstStran
     judgedMixed firstFaulty taskFault first round load horizon largest sum count bits fill
 press-taken = (refl, refl, refl, refl)
 
--- A button's wait above its spacing does not belong, nor does an open job of it that waits less than 30 or more than 39.
--- A refused step takes no press.
+-- A button's wait above its spacing does not belong, nor does an open job of it that waits less than 30 or more
+-- than 39. A refused step takes no press.
 press-refused :
     (map (λ d. admittedMixed camera d) (
     once (9 ∷ 4 ∷ 19 ∷ 40 ∷ []) [] ∷ once (9 ∷ 4 ∷ 19 ∷ 41 ∷ []) [] ∷ once (9 ∷ 4 ∷ 19 ∷ 39 ∷ []) (0 ∷ 0 ∷ 0 ∷ 3 ∷ [])
@@ -222,8 +224,16 @@ press-ties = refl
 -- A button's job at its deadline is closed as late, and then a press of it is taken, in one step.
 press-at-deadline :
     let t = tableOf (button 2 3 3 ∷ []) in
-    map (λ pressed. steppedPressed t (uncounted (padded 0 []) (padded 0 (1 ∷ [])) taskLimit) false pressed .answer) (0 ∷ 1 ∷ [])
+    let d = uncounted (padded 0 []) (padded 0 (1 ∷ [])) taskLimit in
+    map (λ pressed. steppedPressed t d false pressed .answer) (0 ∷ 1 ∷ [])
     ≡ map (λ owner. SlotAnswer.Slot (record { owner = owner; late = 1; closed = 1; lowest = 0 })) (taskLimit ∷ 0 ∷ [])
 unfolding steppedPressed admittedMixed slotCount firstStrange ownerCome choose
     judgedMixed firstFaulty taskFault first round load horizon largest sum count bits
 press-at-deadline = refl
+
+-- Pressed in every slot, and never told of an end, the shutter is released in every second one. Slot 5 is empty.
+pressed-history :
+    (map (arrivals table-shutter (λ n. false) (λ n. 4) 2) (0 ∷ 1 ∷ 2 ∷ 3 ∷ []) ≡ true ∷ false ∷ true ∷ false ∷ [])
+    × (ownerUnder table-shutter (λ n. false) (λ n. 4) 5 ≡ taskLimit)
+unfolding stateUnder afterCome ownerCome startOf fill choose
+pressed-history = (refl, refl)

@@ -25,5 +25,9 @@ pub mod Log
 pub mod LogMeaning
 pub mod LogBuffer
 pub mod Examples
+pub mod TestExamples
+pub mod StepExamples
+pub mod FileExamples
+pub mod CallExamples
 pub mod ButtonExamples
 pub mod LogExamples

@@ -115,12 +115,12 @@ written-log : logOf table-g (λ n. eqb n 1) 5 ≡ 16 ∷ 0 ∷ 18 ∷ 16 ∷ 1 �
 unfolding logOf stateAtBy startOf afterBy ownerNowBy choose fill count
 written-log = refl
 
--- In a buffer: good is 2^32, a difference at slot 1 is 2 · 2^32 + 1, and 43 at 2; nothing found yet is 0;
--- one of another length is 50.
+-- In a buffer: good, cut inside a record, is 2^32, a difference at slot 1 is 2 · 2^32 + 1,
+-- and 42 at 1 is 42 · 2^32 + 1; nothing found yet is 0; a buffer of another length is 50.
 exported-logs :
     (map (λ pieces. judgedIn file-g (replicate logBytes 9) pieces .number)
-    (((16 ∷ 0 ∷ 18 ∷ 16 ∷ []) ∷ (1 ∷ 19 ∷ []) ∷ []) ∷ ((16 ∷ 0 ∷ 16 ∷ []) ∷ (1 ∷ []) ∷ []) ∷ ((16 ∷ 0 ∷ []) ∷ []) ∷ [])
-    ≡ 2 ^ 32 ∷ (2 * 2 ^ 32 + 1) ∷ (43 * 2 ^ 32 + 2) ∷ [])
+    (((16 ∷ []) ∷ (0 ∷ 19 ∷ []) ∷ []) ∷ ((16 ∷ 0 ∷ 16 ∷ 1 ∷ []) ∷ []) ∷ ((19 ∷ 19 ∷ []) ∷ []) ∷ [])
+    ≡ 2 ^ 32 ∷ (2 * 2 ^ 32 + 1) ∷ (42 * 2 ^ 32 + 1) ∷ [])
     × (logFeedExported file-g (logStartExported file-g (replicate logBytes 9) .buffer) (16 ∷ []) .number ≡ 0)
     × (logFeedExported file-g (replicate stateBytes 9) []
     ≡ record { number = 3277336; buffer = replicate stateBytes 9 })
