@@ -265,7 +265,8 @@ module _ (t : Table) where
                 (omega (
                   arith,
                   sum-by (t .count) (givenOf (slotGiven t d wait left owner)) (givenOf d) owner 1 l
-                      (rw (eq-eqb owner owner refl) at (given-given owner l)) (λ i m x. rw (ne-eqb owner i (λ y. x (sym y))) at (given-given i m) ∙ omega arith),
+                      (rw (eq-eqb owner owner refl) at (given-given owner l))
+                      (λ i m x. rw (ne-eqb owner i (λ y. x (sym y))) at (given-given i m) ∙ omega arith),
                 ))
 
         -- If rule 3 leaves numbers that fit the table, the successor belongs to it.

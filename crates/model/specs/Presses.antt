@@ -67,7 +67,7 @@ pressAdmitted t d done pressed Admission.Admitted =
 unfoldable pub steppedPressed : Table → State → Bool → ℕ → Pressed
 steppedPressed t d done pressed = pressAdmitted t d done pressed (admittedMixed t d)
 
--- What the dispatcher does from a start, under any done reports and presses: `pressed n` is the set that step n is given.
+-- What the dispatcher does from a start, under any done reports and presses; step n is given the set `pressed n`.
 module _ (t : Table) (done : ℕ → Bool) (pressed : ℕ → ℕ) where
   -- The state before slot n.
   unfoldable pub stateUnder : ℕ → State

@@ -24,7 +24,8 @@ use Rattle.model.specs.TableFile.{tableOf, readFrom, formOf, fileRead, p
 use Rattle.model.specs.Largest.{largestCost, costAnswer, largestExported}
 use Rattle.model.specs.Easing.{Lowered, searchedFrom, easing, easedExported}
 use Rattle.model.specs.Examples.{of, measured, tables, table-a, table-b, table-c, table-d, table-e, table-f}
-use Rattle.model.specs.Examples.{table-g, table-h, table-i, table-j, table-lamp, two-due, budgetOf, file-b, file-e, file-g}
+use Rattle.model.specs.Examples.{table-g, table-h, table-i, table-j, table-lamp, two-due}
+use Rattle.model.specs.Examples.{budgetOf, file-b, file-e, file-g}
 
 -- ---- the exact test
 
