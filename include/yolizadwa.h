@@ -193,11 +193,14 @@ uint64_t yolizadwa_to_text(const uint8_t *file, size_t file_len, uint8_t *text, 
  * The time needed grows with the releases and finishes up to `settled`, which is at most the budget and at most 2,000,000,060,000; for a
  * table that passes, only with those up to about the largest offset and one round. It also grows with the instants that the quick test
  * looks at (see yolizadwa_quick), which the budget does not bound. No call can stop a check.
- * The time of start and step does not depend on the budget. Measured (docs/PERFORMANCE.md): compiled for an Arm machine
- * (Neoverse V1), a release or finish took 3 to 12 ns with up to 16 tasks and 16 to 18 with 32, the search for a late table's interval at most three quarters of the time up
- * to its deadline, and a step 0.5 microseconds with 16 tasks and 0.8 with 32; two tasks with periods of 60,000 and 59,996 were
- * checked in 0.4 ms, and tables/slow.txt, with a release every fourth slot of 1,799,880,002, with a large budget in 2.9 seconds;
- * with 32 tasks and a round near the limit it took 64 seconds (periods from 20,000 on) and 219 (from 4,000 on).
+ * The time of start and step does not depend on the budget.
+ *
+ * Measured (docs/PERFORMANCE.md) on an Arm machine (Neoverse V1): a release or finish took 3 to 12 ns with up to 16 tasks and 16 to 18
+ * with 32; the search for a late table's interval took at most three quarters of the time up to its deadline; a step took 0.5
+ * microseconds with 16 tasks and 0.8 with 32. Before a check ended early, two tasks with periods of 60,000 and 59,996 were checked in
+ * 0.4 ms, tables/slow.txt, with a release every fourth slot of 1,799,880,002, with a large budget in 2.9 seconds, and tables of 32 tasks
+ * with a round near the limit in 64 seconds (periods from 20,000 on) and 219 (from 4,000 on); since then an x86-64 machine
+ * takes about half of what it took.
  *
  * Refusals: 30; 20 to 27; 1 and 3 to 7; 11.
  */
