@@ -49,10 +49,8 @@ static int read_all(FILE *in, struct input *input)
     }
     errno = 0;
     input->len = fread(bytes, 1, (size_t)MOST_INPUT + 1, in);
-    input->bytes = realloc(bytes, input->len + 1);
-    if (input->bytes == NULL) {
-        input->bytes = bytes;
-    }
+    uint8_t *shorter = realloc(bytes, input->len + 1);
+    input->bytes = shorter != NULL ? shorter : bytes;
     if (ferror(in)) {
         return cannot("read", input->name);
     }

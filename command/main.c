@@ -55,6 +55,7 @@ static int obey(char **arguments)
 static void outlive_readers(void)
 {
     struct sigaction ignore = {.sa_handler = SIG_IGN};
+    sigemptyset(&ignore.sa_mask);
     sigaction(SIGPIPE, &ignore, NULL);
 }
 

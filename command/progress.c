@@ -117,6 +117,7 @@ static void estimate(const struct table *table, unsigned checks, unsigned walks,
 void begin_progress(const struct table *table, unsigned checks, unsigned walks, int plainly)
 {
     struct sigaction telling = {.sa_handler = tell, .sa_flags = SA_RESTART};
+    sigemptyset(&telling.sa_mask);
     if (isatty(STDERR_FILENO)) {
         estimate(table, checks, walks, plainly);
         seconds = 0;

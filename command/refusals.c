@@ -25,7 +25,7 @@ static const struct meaning meanings[] = {
     {YOLIZADWA_FILE_AFTER_END, "the file goes on at byte ", ", after its end"},
     {YOLIZADWA_FILE_TOO_MANY_TASKS, "a thirty-third task or button begins at byte ", ""},
     {YOLIZADWA_FILE_NO_END, "the file stops at byte ", " without an end"},
-    {YOLIZADWA_FILE_ZERO_BUDGET, "a budget of 0 tests nothing; the least is 1", NULL},
+    {YOLIZADWA_ZERO_BUDGET, "a budget of 0 tests nothing; the least is 1", NULL},
     {YOLIZADWA_TEXT_UNKNOWN_WORD, "line ", " begins with a word that is none of budget, task and button"},
     {YOLIZADWA_TEXT_NOT_A_NUMBER, "line ", " has a word that is no decimal number"},
     {YOLIZADWA_TEXT_LARGE_NUMBER, "line ", " has a number that is too large to be read"},
@@ -121,7 +121,7 @@ static int has_a_line(uint64_t result)
     if (number == YOLIZADWA_TEXT_NO_BUDGET && yolizadwa_place(result) == LAST_LINE_TOLD) {
         return 0;
     }
-    return (number >= YOLIZADWA_BAD_PERIOD && number <= YOLIZADWA_BAD_OFFSET) || number == YOLIZADWA_FILE_ZERO_BUDGET ||
+    return (number >= YOLIZADWA_BAD_PERIOD && number <= YOLIZADWA_BAD_OFFSET) || number == YOLIZADWA_ZERO_BUDGET ||
            number >= YOLIZADWA_TEXT_UNKNOWN_WORD;
 }
 

@@ -79,7 +79,7 @@ enum yolizadwa_kind {
  */
 enum yolizadwa_refusal {
     YOLIZADWA_NO_TASK = 1,              /* the table has no task; place 0 */
-    YOLIZADWA_TOO_MANY_TASKS = 2,       /* more than 32 tasks and buttons; place 32. A file with so many is refused with 25, a text with 66 */
+    YOLIZADWA_TOO_MANY_TASKS = 2,       /* more than 32 tasks and buttons; place 32. A file with that many is refused with 25, a text with 66 */
     YOLIZADWA_BAD_PERIOD = 3,           /* a period, or a button's spacing, outside 1 to 60,000; place: the task */
     YOLIZADWA_BAD_DEADLINE = 4,         /* a deadline outside 1 to the period or spacing; place: the task */
     YOLIZADWA_BAD_COST = 5,             /* a cost outside 1 to the deadline; place: the task */
@@ -98,7 +98,7 @@ enum yolizadwa_refusal {
     YOLIZADWA_FILE_AFTER_END = 24,      /* bytes after the end record; place: the first of them */
     YOLIZADWA_FILE_TOO_MANY_TASKS = 25, /* a thirty-third task or button; place: where it begins */
     YOLIZADWA_FILE_NO_END = 26,         /* the file ends after a whole record, without an end record; place: its length */
-    YOLIZADWA_FILE_ZERO_BUDGET = 27,    /* the budget is 0; place 0, in a text its line */
+    YOLIZADWA_ZERO_BUDGET = 27,         /* the budget is 0; place 0, in a text its line */
     YOLIZADWA_SHORT_REPORT = 30,        /* the report buffer has fewer than 1,024 bytes; place: its length */
     YOLIZADWA_SHORT_BUFFER = 31,        /* the buffer is shorter than what is to be written; place: its length */
     YOLIZADWA_STATE_LENGTH = 50,        /* the state buffer is not 536 bytes long, or a log's not 568; place: its length, at most 65,535 */
@@ -152,7 +152,7 @@ uint64_t yolizadwa_write(const uint32_t *words, size_t count, uint64_t budget, u
  *   task 0 2 2 5
  *   button 1 9 30     # cost, deadline, least spacing
  *
- * Line feeds part lines: what follows the last one is a line too, be it empty. A carriage return at a line's end is ignored.
+ * Line feeds part lines: what follows the last one is a line too, even if it is empty. A carriage return at a line's end is ignored.
  * `#` begins a comment up to the line's end. Words are parted by blanks and tabs. A line without a word says nothing. Numbers
  * are decimal. Any bytes of any length may be handed over: (const uint8_t *)text, strlen(text) for a string of C.
  *
@@ -226,7 +226,7 @@ uint64_t yolizadwa_check_plainly(const uint8_t *file, size_t file_len, uint8_t *
  *       run(file, file_len);
  *   }
  *
- * A check that is refused leaves in the buffer what it finds there, be it the report on another table. A refusal that is handed
+ * A check that is refused leaves in the buffer what it finds there, even the report on another table. A refusal that is handed
  * over for the length all the same is longer than any report: the length is looked at first, and the result is 0 (which is
  * tested, and not proved: no buffer is so long).
  *

@@ -11,7 +11,7 @@
 
 _Static_assert(YOLIZADWA_LONGEST_FILE == 554 && YOLIZADWA_LONGEST_TEXT == 956 && YOLIZADWA_ROW_WORDS == 5, "as the tests have it");
 _Static_assert(YOLIZADWA_KIND_BUTTON == 4 && YOLIZADWA_HAS_BUTTON == 11 && YOLIZADWA_NO_SUCH_TASK == 12, "as the tests have it");
-_Static_assert(YOLIZADWA_FILE_CUT_SHORT == 20 && YOLIZADWA_FILE_ZERO_BUDGET == 27, "as the tests have it");
+_Static_assert(YOLIZADWA_FILE_CUT_SHORT == 20 && YOLIZADWA_ZERO_BUDGET == 27, "as the tests have it");
 _Static_assert(YOLIZADWA_TEXT_UNKNOWN_WORD == 60 && YOLIZADWA_TEXT_TOO_MANY_TASKS == 66, "as the tests have it");
 _Static_assert(YOLIZADWA_QUICK_NONE == 0 && YOLIZADWA_QUICK_PASS == 1, "as the tests have it");
 _Static_assert(YOLIZADWA_DISTANCE_NONE == 0 && YOLIZADWA_DISTANCE_PASS == 1 && YOLIZADWA_DISTANCE_OVERLOAD == 2, "as the tests have it");

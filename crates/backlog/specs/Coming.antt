@@ -59,8 +59,8 @@ module _ (t : Table) (r : Ranged t) (d : State) (done : Bool) (come : ℕ → Bo
             let w : waitCome t d done come i ≡ waitOf d i = rw e in
             let x : leftCome t d done come i ≡ leftLate t d done i = rw e in
             let o = known t d b i l in
-            let was : 0 < leftCome t d done come i → (0 < leftOf d i) ×
-            (waitOf d i ≢ task t i .period - task t i .deadline) = λ p. still-open t d done i l (omega (arith, x)) in
+            let was : 0 < leftCome t d done come i → (0 < leftOf d i)
+            × (waitOf d i ≢ task t i .period - task t i .deadline) = λ p. still-open t d done i l (omega (arith, x)) in
             record {
               wait-le = omega (arith, w, o .wait-le);
               left-le = omega (arith, x, o .left-le, late-le t d done i);

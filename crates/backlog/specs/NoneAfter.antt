@@ -60,8 +60,8 @@ module _ (t : Table) (r : Ranged t) (rank : Order) (done : ℕ → Bool) where
       one : gave t rank done n i ≡ 1
       one = rw (eq-eqb (ownerAtBy t rank done n) i e)
 
-      go : (hadBy t rank done i (release (task t i) j) n ≡ task t i .cost) ⊎
-          ((u : ℕ) × (release (task t i) j < u) × (u ≤ n) × T (saidDoneBy t rank done i u)) → ⊥
+      go : (hadBy t rank done i (release (task t i) j) n ≡ task t i .cost)
+          ⊎ ((u : ℕ) × (release (task t i) j < u) × (u ≤ n) × T (saidDoneBy t rank done i u)) → ⊥
       go (inl h) = omega (arith, h, one, had-next t rank done i (release (task t i) j) n a, never-more t r rank done i j (suc n) l (omega arith))
       go (inr (u, x, y, h)) =
           let d : u + (n - u) ≡ n = omega arith in

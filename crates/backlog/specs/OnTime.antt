@@ -33,16 +33,16 @@ module _ (J : Jobs) (D : Dues J) (told : ℕ → ℕ → Type 0) (open' ready ga
 
       go : ((u : ℕ) × (0 < u) × (u ≤ d) × told (J .rel i j + u) i) ⊎ (givenTo gave i (J .rel i j) (suc d) + open' (J .rel i j + suc d) i ≡ J .cost i)
           → Keeps J D told open' ready (J .rel i j + suc d) i
-          → ((u : ℕ) × (0 < u) × (u ≤ suc d) × told (J .rel i j + u) i) ⊎
-          (givenTo gave i (J .rel i j) (suc (suc d)) + open' (J .rel i j + suc (suc d)) i ≡ J .cost i)
+          → ((u : ℕ) × (0 < u) × (u ≤ suc d) × told (J .rel i j + u) i)
+          ⊎ (givenTo gave i (J .rel i j) (suc (suc d)) + open' (J .rel i j + suc (suc d)) i ≡ J .cost i)
       go (inl (u, a, b, c)) y = inl (u, a, le-step b, c)
       go (inr q) (inl e) = inr (more e q)
       go (inr q) (inr (e, inl c)) = inl (suc d, omega arith, le-refl _, c)
       go (inr q) (inr (e, inr (k, f))) =
           inr (more (omega (arith, none-late J D told open' ready gave P constrained s R met i k l, ap (λ (y : ℕ). open' y i) f)) q)
 
-  pub on-time : (i w : ℕ) → i < J .n → ((j f : ℕ) → DoneFirst J s i j f → f - J .rel i j ≤ w) → (j : ℕ) → J .rel i j + w ≤ J .rel i (suc j) →
-      ((u : ℕ) × (0 < u) × (u < w) × told (J .rel i j + u) i) ⊎ (givenTo gave i (J .rel i j) w ≡ J .cost i)
+  pub on-time : (i w : ℕ) → i < J .n → ((j f : ℕ) → DoneFirst J s i j f → f - J .rel i j ≤ w) → (j : ℕ) → J .rel i j + w ≤ J .rel i (suc j)
+      → ((u : ℕ) × (0 < u) × (u < w) × told (J .rel i j + u) i) ⊎ (givenTo gave i (J .rel i j) w ≡ J .cost i)
   on-time i w l worst j h = go w refl
     where
       go : (v : ℕ) → v ≡ w → ((u : ℕ) × (0 < u) × (u < v) × told (J .rel i j + u) i) ⊎ (givenTo gave i (J .rel i j) v ≡ J .cost i)
@@ -57,8 +57,8 @@ module _ (J : Jobs) (D : Dues J) (told : ℕ → ℕ → Type 0) (open' ready ga
               (omega (arith, q .0, served-mono J s R i l g t (omega (arith, worst j g q))))
               (below-is (J .rel i) (J .rel-grows i l) t j (omega arith) (omega arith))
 
-          at : ((u : ℕ) × (0 < u) × (u ≤ d) × told (J .rel i j + u) i) ⊎
-              (givenTo gave i (J .rel i j) (suc d) + open' (J .rel i j + suc d) i ≡ J .cost i)
+          at : ((u : ℕ) × (0 < u) × (u ≤ d) × told (J .rel i j + u) i)
+              ⊎ (givenTo gave i (J .rel i j) (suc d) + open' (J .rel i j + suc d) i ≡ J .cost i)
               → ((u : ℕ) × (0 < u) × (u < suc d) × told (J .rel i j + u) i) ⊎ (givenTo gave i (J .rel i j) (suc d) ≡ J .cost i)
           at (inl (u, a, b, c)) = inl (u, a, omega arith, c)
           at (inr q) = inr (omega (arith, nothing))

@@ -20,8 +20,8 @@ module _ (S : System) where
   abbrev pub Waiting : ℕ → ℕ → ℕ → Type 0
   Waiting u i j = (i < size S) × (releaseOf S i j ≤ u) × (given (run (S .table) (S .rank)) i j 0 u < costOf S i)
 
-  pub run-rule : (u : ℕ) →
-      ((runAt S u ≡ none) × ((i j : ℕ) → Waiting u i j → ⊥))
+  pub run-rule : (u : ℕ)
+      → ((runAt S u ≡ none) × ((i j : ℕ) → Waiting u i j → ⊥))
       ⊎ ((i : ℕ) × (j : ℕ) × (runAt S u ≡ job i j) × Waiting u i j × ((k m : ℕ) → Waiting u k m → JobNoLater S i j k m))
   run-rule u = go (owned S u)
     where
@@ -44,8 +44,8 @@ module _ (S : System) where
       ]
 
       go : Owned S u
-          → ((runAt S u ≡ none) × ((i j : ℕ) → Waiting u i j → ⊥)) ⊎
-          ((i : ℕ) × (j : ℕ) × (runAt S u ≡ job i j) × Waiting u i j × ((k m : ℕ) → Waiting u k m → JobNoLater S i j k m))
+          → ((runAt S u ≡ none) × ((i j : ℕ) → Waiting u i j → ⊥))
+          ⊎ ((i : ℕ) × (j : ℕ) × (runAt S u ≡ job i j) × Waiting u i j × ((k m : ℕ) → Waiting u k m → JobNoLater S i j k m))
       go (inl c) = inl (run-none S u (omega (arith, c .none, S .size-le)), λ i j w. c .shut i (w .0) (ready i j w))
       go (inr c) = inr (
         runOwner S u,

@@ -112,8 +112,8 @@ module _ (S : System) (Y : Cycle S) where
         Y .starts i l,
       ))) (rel-later-from i u l (omega (arith, Y .starts i l))))
 
-  arr-across : Light S Y → (κ t u : ℕ) → u ≤ t → arrivals J (κ + spread S * Y .round) (t + Y .round) + arrivals J κ u ≤
-      (arrivals J κ t + arrivals J (κ + spread S * Y .round) u) + Y .round
+  arr-across : Light S Y → (κ t u : ℕ) → u ≤ t → arrivals J (κ + spread S * Y .round) (t + Y .round) + arrivals J κ u
+      ≤ (arrivals J κ t + arrivals J (κ + spread S * Y .round) u) + Y .round
   unfolding loadOf
   arr-across light κ t u h =
       omega (

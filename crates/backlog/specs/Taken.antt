@@ -252,8 +252,8 @@ module _ (t : Table) where
         unfolding slotCount
         slots-given = go one
           where
-            go : (owner ≡ taskLimit) ⊎ (owner < t .count) → sum (t .count) (givenOf (slotGiven t d wait left owner)) +
-                (d .empty + bit (eqb owner taskLimit)) ≡ sum (t .count) (givenOf d) + d .empty + 1
+            go : (owner ≡ taskLimit) ⊎ (owner < t .count) → sum (t .count) (givenOf (slotGiven t d wait left owner))
+                + (d .empty + bit (eqb owner taskLimit)) ≡ sum (t .count) (givenOf d) + d .empty + 1
             go (inl e) =
                 rw (eq-eqb owner taskLimit e) (omega (
                   arith,

@@ -159,8 +159,8 @@ module _ (t : Table) (r : Ranged t) (rank : Order) where
   -- What the walk has noted of task i before slot n: no response seen is larger, and it is one of them, or none was seen.
   record Noted (n i : ℕ) : Type 0 where
     bound : (j f : ℕ) → DoneFirst (jobs S) (servedOf S) i j f → f ≤ n → f - releaseOf S i j ≤ getD (worstSeen t rank n) i 0
-    attained : (getD (worstSeen t rank n) i 0 ≡ 0) ⊎
-        ((j : ℕ) × (f : ℕ) × DoneFirst (jobs S) (servedOf S) i j f × (f - releaseOf S i j ≡ getD (worstSeen t rank n) i 0))
+    attained : (getD (worstSeen t rank n) i 0 ≡ 0)
+        ⊎ ((j : ℕ) × (f : ℕ) × DoneFirst (jobs S) (servedOf S) i j f × (f - releaseOf S i j ≡ getD (worstSeen t rank n) i 0))
 
   -- Slot n notes a response of task i, or leaves what was noted of it.
   pub data Noting (n i : ℕ) : Type 0 where
@@ -226,8 +226,8 @@ module _ (t : Table) (r : Ranged t) (rank : Order) where
         noted-then : Noted (horizon t) i
         noted-then = seen (horizon t) clear i l
 
-        go : (getD (worstSeen t rank (horizon t)) i 0 ≡ 0) ⊎
-            ((j : ℕ) × (f : ℕ) × DoneFirst (jobs S) (servedOf S) i j f × (f - releaseOf S i j ≡ getD (worstSeen t rank (horizon t)) i 0))
+        go : (getD (worstSeen t rank (horizon t)) i 0 ≡ 0)
+            ⊎ ((j : ℕ) × (f : ℕ) × DoneFirst (jobs S) (servedOf S) i j f × (f - releaseOf S i j ≡ getD (worstSeen t rank (horizon t)) i 0))
             → Worst t rank i (getD (worstSeen t rank (horizon t)) i 0)
         go (inr (j, f, d, e)) =
             worst-is S met i l (cycleOf t r rank) _ j f (finishes-iff S i j f l .1 d) e

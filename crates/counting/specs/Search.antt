@@ -91,10 +91,6 @@ first-eq p q n m e = go (is-first q n m)
         (λ k a b t. f .before k a b (rw (e k a (omega arith)) at t))
         (λ h. rw (e (first q n m) (f .from) h) (f .passes h))
 
--- What a search has found, a longer one finds.
-pub first-longer : (p : ℕ → Bool) (n m l : ℕ) → m ≤ l → first p n m < n + m → first p n l ≡ first p n m
-first-longer p n m l a b = first-is p n l (first p n m) (first-from p n m) (omega arith) (first-passes p n m b) (first-before p n m)
-
 -- A search that begins one later is the same search with the numbers one lower.
 pub first-shift : (p : ℕ → Bool) (n m : ℕ) → first p (suc n) m ≡ suc (first (λ k. p (suc k)) n m)
 unfolding first

@@ -82,12 +82,12 @@ module _ (t : Table) (r : Ranged t) (light : load t ≤ round t) {start from to 
       ]
 
   module _ (later : ℕ) (a : start < later) (b : later < from) where
-    asks-more : (i : ℕ) → i < t .count → task t i .cost * jobsIn (task t i) later to ≤ task t i .cost * jobsIn (task t i) from to +
-        (once i + share t (from - later - 1) i)
+    asks-more : (i : ℕ) → i < t .count → task t i .cost * jobsIn (task t i) later to ≤ task t i .cost * jobsIn (task t i) from to
+        + (once i + share t (from - later - 1) i)
     asks-more i l = go (passed i l)
       where
-        go : PassedOver t spare start from i → task t i .cost * jobsIn (task t i) later to ≤ task t i .cost * jobsIn (task t i) from to +
-            (once i + share t (from - later - 1) i)
+        go : PassedOver t spare start from i → task t i .cost * jobsIn (task t i) later to ≤ task t i .cost * jobsIn (task t i) from to
+            + (once i + share t (from - later - 1) i)
         go (inl q) =
             rw (le-leb (t .count * task t i .cost) spare q)
             (omega (

@@ -48,8 +48,8 @@ but-other f i x k h = rw (ne-eqb i k h)
 
 module _ (t : Table) (r : Ranged t) {n : ℕ} {W L : ℕ → ℕ} {releases ready left : List ℕ} {jobs : ℕ} (h : Held t n W L releases ready left jobs) where
   -- The task of the next release, and of the first deadline.
-  pub next-of : (at releases (t .count - 1) % places < t .count) ×
-      (at releases (t .count - 1) ≡ entry t (n + W (at releases (t .count - 1) % places)) (at releases (t .count - 1) % places))
+  pub next-of : (at releases (t .count - 1) % places < t .count)
+      × (at releases (t .count - 1) ≡ entry t (n + W (at releases (t .count - 1) % places)) (at releases (t .count - 1) % places))
   next-of =
       let (i, l, e) = h .coming .sound (t .count - 1) (omega (arith, r .some)) in
       let f : at releases (t .count - 1) % places ≡ i = ap (λ (x : ℕ). x % places) e ∙ entry-task t r (n + W i) i l in

@@ -38,8 +38,8 @@ use Rattle.leaps.specs.Landed.{goingAt, overAt, doneAt, restedAt, nextLa
 use Rattle.leaps.specs.declared.Landed.{Landed}
 
 -- Where no open job is at its deadline at n, n is not late.
-pub calm-clear : (t : Table) → Ranged t → {n : ℕ} → Clear t n →
-    ((i : ℕ) → i < t .count → 0 < leftOf (walked t n) i → slack t i < waitOf (walked t n) i) → Clear t (suc n)
+pub calm-clear : (t : Table) → Ranged t → {n : ℕ} → Clear t n
+    → ((i : ℕ) → i < t .count → 0 < leftOf (walked t n) i → slack t i < waitOf (walked t n) i) → Clear t (suc n)
 calm-clear t r {n} c ahead = below-suc (λ u. T (lateAt t u) → ⊥) n c never
   where
     never : T (lateAt t n) → ⊥

@@ -1,8 +1,6 @@
 // A log's judge in a lent buffer: a dispatcher's state, then words of four bytes and counts of eight, the lowest byte first.
 ghost use mathlib.Core.Path.{_≡_};
-ghost use mathlib.Core.Bool.{not};
 ghost use Prim.Native.Nat.{_+_, _≤_};
-ghost use lib.Dec.{eqb};
 ghost use lib.ListN.{length};
 ghost use Rattle.model.specs.Notation.{bit};
 ghost use Rattle.model.specs.TableFile.{bytesOf};
@@ -49,19 +47,12 @@ fn reading_in(buffer: &[u8]) -> Reading
         words::word_at(buffer, PLACE_AT),
     );
     Reading {
-        opened: is_set(words::word_at(buffer, STATE_BYTES)),
-        done: is_set(words::word_at(buffer, DONE_AT)),
+        opened: words::is_set(words::word_at(buffer, STATE_BYTES)),
+        done: words::is_set(words::word_at(buffer, DONE_AT)),
         slots: words::long_at(buffer, SLOTS_AT),
         bytes: words::long_at(buffer, BYTES_AT),
         found,
     }
-}
-
-// Any word but 0 is yes.
-fn is_set(word: u32) -> bool
-    ensures { λ r. ⌜ r ≡ not (eqb word 0) ⌝ }
-{
-    word != 0
 }
 
 fn finding_of(number: u32, place: u32) -> Finding

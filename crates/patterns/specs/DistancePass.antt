@@ -77,8 +77,8 @@ module _ (t : Table) (r : Ranged t) where
     next-from from k l = below-next (rel k) (coming (tieSystem t r) rel apart .rel-grows k l) from
 
     -- The pattern of the periodic task that comes next is near.
-    pattern-near : (from i : ℕ) → i < t .count → isButton (task t i) ≡ false →
-        ((k : ℕ) → k < t .count → T (not (isButton (task t k))) → next from i ≤ next from k) → (k : ℕ) → k < t .count
+    pattern-near : (from i : ℕ) → i < t .count → isButton (task t i) ≡ false
+        → ((k : ℕ) → k < t .count → T (not (isButton (task t k))) → next from i ≤ next from k) → (k : ℕ) → k < t .count
         → from + distance (task t i) (task t k) ≤ next from k
     pattern-near from i l e least k m = go (isButton (task t k)) refl
       where

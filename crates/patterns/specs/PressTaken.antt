@@ -37,8 +37,8 @@ module _ (t : Table) (r : Ranged t) (done : ℕ → Bool) (pressed : ℕ → ℕ
       go false q w (inr (u, a, b, c)) =
           elim (eq-zero-or-pos (wait t r done pressed i l n)) [ inl z ↦ inl (omega arith) | inr z ↦ inr (u, le-step a, b, omega arith) ]
 
-  pub taken-iff : (n : ℕ) → T (arrivals t done pressed i n) ↔
-      (T (inSet (pressed n) i) × ((u : ℕ) → u < n → T (arrivals t done pressed i u) → u + task t i .period ≤ n))
+  pub taken-iff : (n : ℕ) → T (arrivals t done pressed i n)
+      ↔ (T (inSet (pressed n) i) × ((u : ℕ) → u < n → T (arrivals t done pressed i u) → u + task t i .period ≤ n))
   taken-iff n = (
     λ h. (and-iff (inSet (pressed n) i) _ .0 (rw e at h) .0, λ u a b. taken-respects t r done pressed .spaced i u n l e b h a),
     λ (h, far). rw (e, lt-ltb i (t .count) l) (and-iff (inSet (pressed n) i) _ .1 (h, eq→eqb (wait t r done pressed i l n) 0 (free far (waits n)))),

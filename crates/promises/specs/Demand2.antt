@@ -174,8 +174,8 @@ longer-same-answer t budget more a b l u p = permitted-unique t more a b (still-
 abbrev Waits : Table → ℕ → ℕ → ℕ → Type 0
 Waits t u i j = (i < t .count) × (release (task t i) j ≤ u) × (given (run t (tieOrder t)) i j 0 u < task t i .cost)
 
-pub run-is-the-rule : (t : Table) (m : Measure) → judged t ≡ Judgement.WellFormed m → (u : ℕ) →
-    ((run t (tieOrder t) u ≡ none) × ((i j : ℕ) → Waits t u i j → ⊥))
+pub run-is-the-rule : (t : Table) (m : Measure) → judged t ≡ Judgement.WellFormed m → (u : ℕ)
+    → ((run t (tieOrder t) u ≡ none) × ((i j : ℕ) → Waits t u i j → ⊥))
     ⊎ ((i : ℕ) × (j : ℕ) × (run t (tieOrder t) u ≡ job i j) × Waits t u i j
     × ((k n : ℕ) → Waits t u k n → (due (task t i) j < due (task t k) n)
     ⊎ ((due (task t i) j ≡ due (task t k) n)

@@ -1,6 +1,6 @@
 -- TWO ENGINES, ONE ANSWER (section 3.6): `leaping::walk` goes from one release or finish to the next, `plain::walk` slot
--- by slot, and `exact::test` makes the answer of either. With either engine its contract is `Permitted`,
--- and so has each of the two exported checks the contract `Checked`; each permits one result.
+-- by slot, and `exact::test` makes the answer of either. Its contract is `Permitted` with either engine,
+-- and the contract of both exported checks is `Checked`; each permits one result.
 use mathlib.Core.Path.{_≡_, refl}
 use mathlib.Core.List.{List}
 use Prim.Native.Nat.{ℕ}

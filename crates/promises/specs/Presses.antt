@@ -54,8 +54,8 @@ pub one-press-start : (t : Table) (a b : StartedCall) → startedOf a ≡ starte
 one-press-start t a b e f = one-started a b (e ∙ sym f)
 
 pub one-press-step : (t : Table) (d : Presses) (done : Bool) (pressed : ℕ) (a b : PressedCall)
-    → pressedOf a ≡ steppedPressed t ((d .state)) done pressed
-    → pressedOf b ≡ steppedPressed t ((d .state)) done pressed → a ≡ b
+    → pressedOf a ≡ steppedPressed t (d .state) done pressed
+    → pressedOf b ≡ steppedPressed t (d .state) done pressed → a ≡ b
 one-press-step t d done pressed a b e f = one-pressed a b (e ∙ sym f)
 
 -- A start is refused as its table is. A refused step hands the state back as it came, and takes no press.

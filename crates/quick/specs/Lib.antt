@@ -1,3 +1,2 @@
 pub mod Fits
 pub mod Passing
-pub mod Answers

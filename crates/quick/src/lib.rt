@@ -1,6 +1,6 @@
 // The quick test: no overload, and with all tasks started at 0 no instant by which the jobs due ask for more slots than there are.
 ghost use mathlib.Core.Path.{_≡_};
-ghost use Prim.Native.Nat.{suc, _≤_, _<_, min};
+ghost use Prim.Native.Nat.{suc, _≤_, _<_};
 ghost use Rattle.values.specs.declared.Judgement.{Judgement};
 ghost use Rattle.model.specs.Limits.{roundLimit};
 ghost use Rattle.model.specs.Notation.{every};
@@ -11,7 +11,6 @@ ghost use Rattle.wellformed.specs.Round.{RoundKept};
 ghost use Rattle.patterns.specs.Asked.{dueBy, asked};
 ghost use Rattle.patterns.specs.Decided.{enough, EnoughBeyond};
 ghost use Rattle.patterns.specs.Slack.{slack as slackTotal, slackOf};
-ghost use Rattle.quick.specs.Answers.{isPass};
 use values::Judgement;
 use values::Measure;
 use values::QuickAnswer;
@@ -147,15 +146,5 @@ pub fn test(t: Table) -> QuickAnswer
                 QuickAnswer::NoAnswer
             }
         }
-    }
-}
-
-pub fn is_pass(answer: QuickAnswer) -> bool
-    ensures { λ r. ⌜ r ≡ isPass answer ⌝ }
-{
-    match answer {
-        QuickAnswer::Refused(_) => false,
-        QuickAnswer::Pass => true,
-        QuickAnswer::NoAnswer => false,
     }
 }

@@ -36,8 +36,8 @@ pub well-periodic : (file : List ℕ) → periodicFrom file .admission ≡ Admis
 well-periodic file h = let (same, well) = periodic-admitted file h in rw same well
 
 pub periodic-refused : (file : List ℕ) (r : Refusal) → periodicFrom file .admission ≡ Admission.Refused r
-    → (fileRead file .admission ≡ Admission.Refused r) ⊎
-    ((fileRead file .admission ≡ Admission.Admitted) × (judged (fileRead file .table) ≡ Judgement.Refused r))
+    → (fileRead file .admission ≡ Admission.Refused r)
+    ⊎ ((fileRead file .admission ≡ Admission.Admitted) × (judged (fileRead file .table) ≡ Judgement.Refused r))
 unfolding fileRead
 periodic-refused file r h =
     elim (periodic-for file r h) [
@@ -47,8 +47,8 @@ periodic-refused file r h =
   where
     table : (k : Judgement) → judgedMixed (formOf file .table) ≡ k → formOf file .admission ≡ Admission.Admitted
         → judged (formOf file .table) ≡ Judgement.Refused r
-        → (fileRead file .admission ≡ Admission.Refused r) ⊎
-        ((fileRead file .admission ≡ Admission.Admitted) × (judged (fileRead file .table) ≡ Judgement.Refused r))
+        → (fileRead file .admission ≡ Admission.Refused r)
+        ⊎ ((fileRead file .admission ≡ Admission.Admitted) × (judged (fileRead file .table) ≡ Judgement.Refused r))
     table (Judgement.Refused w) e good j =
         let both = sym (refused-both (formOf file .table) w e) ∙ j in
         let same : w ≡ r = cc in

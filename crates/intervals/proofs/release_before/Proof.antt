@@ -10,13 +10,13 @@ use Rattle.intervals.proofs.release_before.Tie as tie
 
 -- What is computed, in the task's own numbers.
 is : (c : tie.After-to-u64)
-    → let s = c .before .before .before in let o = c .before .before .wide-offset-of .result in let p = c .to-u64 .result in o +
-    (s .args .from - o - 1) / p * p ≡ offset (s .args .k) + (s .args .from - offset (s .args .k) - 1) / s .args .k .period * s .args .k .period
+    → let s = c .before .before .before in let o = c .before .before .wide-offset-of .result in let p = c .to-u64 .result in
+    o + (s .args .from - o - 1) / p * p ≡ offset (s .args .k) + (s .args .from - offset (s .args .k) - 1) / s .args .k .period * s .args .k .period
 is c = rw (c .before .before .wide-offset-of .ensures .0, c .to-u64 .ensures .0)
 
 room : (c : tie.After-to-u64)
-    → let s = c .before .before .before in let o = c .before .before .wide-offset-of .result in let p = c .to-u64 .result in o +
-    (s .args .from - o - 1) / p * p < s .args .from
+    → let s = c .before .before .before in let o = c .before .before .wide-offset-of .result in let p = c .to-u64 .result in
+    o + (s .args .from - o - 1) / p * p < s .args .from
 room c =
     let s = c .before .before .before in
     omega (arith, is c, before-from (s .args .k) (s .pre) (s .args .from) (omega (arith, c .before .if1 .left, c .before .before .wide-offset-of .ensures .0)))

@@ -21,8 +21,8 @@ many : (c : tie.After-jobs-in Inv-loop μ-loop) → let a = c .before .before .b
     ≡ dueBy (a .before .args .t1) (a .before .args .to) (a .loop .i)
 many c = let a = c .before .before .before in c .jobs-in .ensures ∙ jobs-due _ (a .before .pre .0) _ (a .loop .i) (c .before .before .loop-test .taken)
 
-last-lt : (c : tie.After-to-u64 Inv-loop μ-loop) → c .before .wide-offset-of .result +
-    (c .before .before .before .jobs-in .result - 1) * c .to-u64 .result < c .before .before .before .before .before .before .before .args .to
+last-lt : (c : tie.After-to-u64 Inv-loop μ-loop) → c .before .wide-offset-of .result
+    + (c .before .before .before .jobs-in .result - 1) * c .to-u64 .result < c .before .before .before .before .before .before .before .args .to
 last-lt c =
     let b = c .before .before .before in
     let a = b .before .before .before in

@@ -45,8 +45,8 @@ length-le c =
     let a = c .before .before .before .before .before in
     rw (c .before .before .time-of .ensures) (far _ (a .before .before .before .pre .0) _ (a .loop .inv) (busy a))
 
-shrinks : (c : tie.Else1 Inv-loop μ-loop) → let b = c .before in let a = b .before .before .before .before in a .before .before .before .args .to -
-    (a .loop .asked + b .to-u64 .result) < a .before .before .before .args .to - a .loop .asked
+shrinks : (c : tie.Else1 Inv-loop μ-loop) → let b = c .before in let a = b .before .before .before .before in a .before .before .before .args .to
+    - (a .loop .asked + b .to-u64 .result) < a .before .before .before .args .to - a .loop .asked
 shrinks c = let b = c .before in omega (arith, c .if1 .left, length-le c, b .to-u64 .ensures .0, ranges (b .before .before .before) .cost-pos)
 
 last-jobs-requires : tie.Need-last-jobs-requires Inv-loop μ-loop

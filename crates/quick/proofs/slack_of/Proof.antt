@@ -9,12 +9,12 @@ use Rattle.quick.proofs.slack_of.Statement.{statement}
 use Rattle.quick.proofs.slack_of.Tie as tie
 
 -- The product by the task's own numbers, before the cost and with it.
-spared : (c : tie.After-to-u643) → let p = c .before .before in let s = p .before .args in (p .to-u64 .result - c .to-u643 .result) *
-    (s .round / p .to-u64 .result) ≡ (s .k .period - s .k .deadline) * (s .round / s .k .period)
+spared : (c : tie.After-to-u643) → let p = c .before .before in let s = p .before .args in (p .to-u64 .result - c .to-u643 .result)
+    * (s .round / p .to-u64 .result) ≡ (s .k .period - s .k .deadline) * (s .round / s .k .period)
 spared c = cc
 
-product : (c : tie.After-to-u643) → let p = c .before .before in let s = p .before .args in c .before .to-u642 .result *
-    ((p .to-u64 .result - c .to-u643 .result) * (s .round / p .to-u64 .result)) ≡ slackOf (s .k) (s .round)
+product : (c : tie.After-to-u643) → let p = c .before .before in let s = p .before .args in c .before .to-u642 .result
+    * ((p .to-u64 .result - c .to-u643 .result) * (s .round / p .to-u64 .result)) ≡ slackOf (s .k) (s .round)
 product c = cc
 
 mul-result : tie.Need-mul-result
