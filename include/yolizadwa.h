@@ -24,13 +24,13 @@
  *   - They keep nothing between calls, allocate nothing, and may run in several threads at once on different buffers.
  *   - Of the C library they need memcpy and memset alone. The host tests hold the stack of each call to 16 KiB.
  *   - A result below 65,536 is an answer. Any other is a refusal: 65,536 x number + place. A refusal changes no byte.
- *     (yolizadwa_eased tells of two files, and has results of its own: yolizadwa_refused does not fit them. Of a log's calls
- *     only a result below 2^32 goes to yolizadwa_refused: what is found stands from there on.)
+ *     (yolizadwa_eased takes two files, and its results have another form: yolizadwa_refused does not fit them. For a log's calls
+ *     yolizadwa_refused takes only a result below 2^32: a result from there on tells what is found.)
  *   - No pointer may be NULL, not even with length 0.
  *   - What a call only reads (the const pointer: file, report, text or words) is read where it lies and never written, and must not
  *     overlap what the call writes. Words lie aligned, as a uint32_t does; nothing else needs to.
- *   - Any bytes may be handed over as a file, a state or a report. What is no good file is refused. Of a state only what
- *     refusals 8 and 9 list is refused: a state of another table may be taken. Of a report nothing is: see yolizadwa_passes.
+ *   - Any bytes may be handed over as a file, a state or a report. What is no good file is refused. A state is refused only for
+ *     what refusals 8 and 9 list: a state of another table may be taken. No report is refused: see yolizadwa_passes.
  */
 #ifndef YOLIZADWA_H
 #define YOLIZADWA_H
@@ -62,7 +62,7 @@ extern "C" {
  * its spacing, and as a task it is counted and named by its number.
  *
  * Files and texts with buttons are read and written by yolizadwa_write, yolizadwa_from_text and yolizadwa_to_text, and judged by
- * yolizadwa_distance. Every other call that reads a file needs a table without buttons and refuses one by 11.
+ * yolizadwa_distance. Every other call that reads a file needs a table without buttons, and refuses any other with number 11.
  */
 enum yolizadwa_kind {
     YOLIZADWA_KIND_BUDGET = 1,
@@ -117,8 +117,8 @@ enum yolizadwa_refusal {
 };
 
 /*
- * Whether a result is a refusal, and then its number and its place. Of every call but yolizadwa_eased, whose result goes
- * through yolizadwa_eased_case and yolizadwa_eased_value first, and a log's, of which yolizadwa_log_answered is asked first.
+ * Whether a result is a refusal, and then its number and its place. They are for every call but two kinds: a result of yolizadwa_eased
+ * goes through yolizadwa_eased_case and yolizadwa_eased_value first, and for a log's call yolizadwa_log_answered is asked first.
  */
 static inline int yolizadwa_refused(uint64_t result) { return result >= 65536; }
 static inline uint32_t yolizadwa_number(uint64_t result) { return (uint32_t)(result / 65536); }
@@ -197,10 +197,11 @@ uint64_t yolizadwa_to_text(const uint8_t *file, size_t file_len, uint8_t *text, 
  *
  * Measured (docs/PERFORMANCE.md) on an Arm machine (Neoverse V1): a release or finish took 3 to 12 ns with up to 16 tasks and 16 to 18
  * with 32; the search for a late table's interval took at most three quarters of the time up to its deadline; a step took 0.5
- * microseconds with 16 tasks and 0.8 with 32. Before a check ended early, two tasks with periods of 60,000 and 59,996 were checked in
- * 0.4 ms, tables/slow.txt, with a release every fourth slot of 1,799,880,002, with a large budget in 2.9 seconds, and tables of 32 tasks
- * with a round near the limit in 64 seconds (periods from 20,000 on) and 219 (from 4,000 on); since then an x86-64 machine
- * takes about half of what it took.
+ * microseconds with 16 tasks and 0.8 with 32. On an x86-64 machine (AMD EPYC) a whole check took 0.3 microseconds with one task of period
+ * 1, 10 with 16 tasks and 28 with 32 (periods 9,600 to 60,000), and 145 with two tasks of periods 60,000 and 59,996. Before a check ended
+ * early, the Arm machine took 2.9 seconds for tables/slow.txt, with a release every fourth slot of 1,799,880,002 and a large budget, and
+ * for tables of 32 tasks with a round near the limit 64 seconds (periods from 20,000 on) and 219 (from 4,000 on); such tables now take
+ * about half.
  *
  * Refusals: 30; 20 to 27; 1 and 3 to 7; 11.
  */
@@ -209,7 +210,8 @@ uint64_t yolizadwa_check(const uint8_t *file, size_t file_len, uint8_t *report, 
 /*
  * The same check by the plain engine, which walks slot by slot where yolizadwa_check leaps from one release or finish to the
  * next. For every file and report buffer the two return the same number and leave the same bytes: that is proved, so this call
- * is there for comparison alone. A slot took about 2 ns with 1 task and 19 to 43 ns with 16.
+ * is there for comparison alone. The quick test in it is the same. On the Arm machine a slot took 2 to 3 ns with 1 task and 19 to 42 ns
+ * with 16.
  */
 uint64_t yolizadwa_check_plainly(const uint8_t *file, size_t file_len, uint8_t *report, size_t report_len);
 
@@ -244,8 +246,8 @@ uint64_t yolizadwa_passes(const uint8_t *report, size_t length);
  *
  * No slot is walked. What the jobs due by an instant ask for is one sum over the tasks. Mostly some ten instants are looked at, and none
  * where every deadline is the period. But with a load of 1, or very nearly so, and shorter deadlines they may be many, here and in a
- * check whatever its budget: with a round of 450,838,288,810 slots and 14 tasks with periods from 70 to 1,582 they took 51 s, the longest
- * that was measured (docs/PERFORMANCE.md). No call can stop it.
+ * check whatever its budget: with a round of 450,838,288,810 slots and 14 tasks with periods from 70 to 1,582 they took 51.5 s, the
+ * longest that was measured (docs/PERFORMANCE.md). No call can stop it.
  *
  * Refusals: 20 to 27; 1 and 3 to 7; 11.
  */
@@ -260,8 +262,8 @@ uint64_t yolizadwa_quick(const uint8_t *file, size_t file_len);
  * its distance from it, and looks at the slots of each such pattern up to its first instant after 0 by which every job released before
  * it is finished. The distance of task k from task i is the least time from a release of i to one of k at the same instant or later:
  * offset of k - offset of i, reduced upward into 0 to g - 1, with g the greatest common divisor of their periods. In every pattern each
- * button starts at 0 and comes as early as it may again; no button is the one that the others start from. Of buttons alone there is one
- * pattern, with all of them at 0.
+ * button starts at 0 and comes as early as it may again; no button is the one that the others start from. For buttons alone there is
+ * one pattern, with all of them at 0.
  *
  * The result is YOLIZADWA_DISTANCE_OVERLOAD; else YOLIZADWA_DISTANCE_PASS, if no pattern misses a deadline, and YOLIZADWA_DISTANCE_NONE
  * for no answer. Late is never said.
@@ -293,13 +295,12 @@ uint64_t yolizadwa_distance(const uint8_t *file, size_t file_len);
  *
  *   YOLIZADWA_EASED        an easing; value: the old table's tasks that are kept, as a set, bit i for task i. The kept ones, in
  *                          their order, are the tasks 0, 1, .. of the new table.
- *   YOLIZADWA_NOT_EASED    none; value: the first task of the new table that is no old task made easier; only old tasks behind
- *                          those that the new tasks before it were found to be count
+ *   YOLIZADWA_NOT_EASED    no easing; value: the first task of the new table for which the search below finds no old task
  *   YOLIZADWA_OLD_REFUSED  value: the refusal of the old file, as the other calls return it
  *   YOLIZADWA_NEW_REFUSED  value: the refusal of the new file; the old one has none
  *
- * If several sets of kept tasks would do, the first in order is told: each new task is taken for the first old one behind the
- * last, of which it is the eased one; if there is any set at all, this finds one.
+ * If several sets of kept tasks fit, the first in order is told. The search goes through the new tasks in order. For each it takes the
+ * first old task that the new one eases and that stands behind the old task taken before. If there is any set at all, this finds one.
  *
  * An easing of a table that passes passes: a check of the new file, with any budget that reaches its horizon, says `verdict passes`.
  * Whether the old table does is not looked at, and the budgets in the files play no part. With costs alone lowered no worst

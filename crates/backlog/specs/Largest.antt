@@ -3,7 +3,8 @@
 use mathlib.Core.Path.{_≡_, refl, ap, _∙_}
 use mathlib.Core.Logic.{_↔_, _≢_}
 use mathlib.Core.Bool.{Bool}
-use Prim.Native.Nat.{ℕ, suc, _≤_, _<_}
+use Prim.Native.Nat.{ℕ, suc, _+_, _-_, _*_, _/_, _≤_, _<_}
+use native.Mathlib.Nat.{add-mul}
 use native.Mathlib.Decide.{ℕ-discrete, decLt, decLe}
 use native.Mathlib.Omega.{arith}
 use lib.Dec.{T}
@@ -13,10 +14,11 @@ use Rattle.values.specs.declared.Task.{Task}
 use Rattle.values.specs.declared.Table.{Table}
 use Rattle.values.specs.declared.Verdict.{Verdict}
 use Rattle.model.specs.Notation.{last}
-use Rattle.model.specs.Tasks.{noTask, task, offset, round, horizon}
+use Rattle.model.specs.Tasks.{noTask, task, offset, round, load, horizon}
 use Rattle.model.specs.Verdict.{verdict}
 use Rattle.model.specs.Easing.{EasedTask, Lowered}
 use Rattle.model.specs.Largest.{costing, withCost, isPass, passesWith, largestCost}
+use Rattle.counting.specs.Sum.{sum-by}
 use Rattle.counting.specs.Search.{last-lt, last-is, last-passes, last-behind}
 use Rattle.wellformed.specs.Ranges.{InRange, Ranged}
 use Rattle.wellformed.specs.Round.{round-same}
@@ -79,8 +81,24 @@ module _ (t : Table) (r : Ranged t) (i : ℕ) (l : i < t .count) where
   pub round-with : (c : ℕ) → 1 ≤ c → c ≤ task t i .deadline → round (withCost t i c) ≡ round t
   round-with c a b = round-same t (withCost t i c) r (ranged-with c a b) refl (λ k m. released-with c k .1)
 
-  horizon-with : (c : ℕ) → 1 ≤ c → c ≤ task t i .deadline → horizon (withCost t i c) ≡ horizon t
+  pub horizon-with : (c : ℕ) → 1 ≤ c → c ≤ task t i .deadline → horizon (withCost t i c) ≡ horizon t
   horizon-with c a b = horizon-same t (withCost t i c) r (ranged-with c a b) refl (λ k m. released-with c k)
+
+  -- A higher cost adds what each job has more to the load.
+  pub load-with : (c : ℕ) → task t i .cost ≤ c → c ≤ task t i .deadline
+      → load (withCost t i c) ≡ load t + (c - task t i .cost) * (round t / task t i .period)
+  unfolding load
+  load-with c a b = rw (round-with c (omega (arith, r .each i l .cost-pos)) b) (sum-by (t .count) _ _ i _ l own other)
+    where
+      share : ℕ
+      share = round t / task t i .period
+
+      own : task (withCost t i c) i .cost * (round t / task (withCost t i c) i .period) ≡ task t i .cost * share + (c - task t i .cost) * share
+      own = rw (with-own c) (let e : task t i .cost + (c - task t i .cost) ≡ c = omega arith in rw (← add-mul (task t i .cost) (c - task t i .cost) share, e))
+
+      other : (k : ℕ) → k < t .count → k ≢ i
+          → task (withCost t i c) k .cost * (round t / task (withCost t i c) k .period) ≡ task t k .cost * (round t / task t k .period)
+      other k m h = rw (with-other c k h)
 
   -- With less of that cost, costs alone are lowered.
   pub lowered-with : (less more : ℕ) → less ≤ more → Lowered (withCost t i more) (withCost t i less)

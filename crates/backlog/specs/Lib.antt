@@ -5,7 +5,6 @@ pub mod Left
 pub mod StreamRun
 pub mod StreamSchedule
 pub mod Agree
-pub mod RunUnique
 pub mod Finish
 pub mod Ever
 pub mod Criterion

@@ -12,6 +12,7 @@ ghost use Rattle.belonging.specs.Room.{roomFor, belonging};
 use slots::NO_TASK;
 use values::Refusal;
 use values::SLOT_COUNT_LIMIT;
+use values::STRANGE_STATE;
 use values::State;
 use values::TASK_LIMIT;
 use values::Table;
@@ -49,7 +50,10 @@ pub fn belonging(d: State, t: Table) -> Room
 fn strange_state(place: u32) -> Room
     ensures { λ r. ⌜ r ≡ Room.Refused (refusal 8 place) ⌝ }
 {
-    Room::Refused(Refusal { number: 8, place })
+    Room::Refused(Refusal {
+        number: STRANGE_STATE,
+        place,
+    })
 }
 
 // The sum is never made: each count is taken from what can be counted, for as long as it can.

@@ -14,9 +14,8 @@ use values::Answer;
 use values::Judgement;
 use values::Outcome;
 use values::REPORT_BYTES;
+use values::SHORT_REPORT;
 use values::Table;
-
-const SHORT_BUFFER: u32 = 30;
 
 fn export_answer(answer: Answer, tasks: usize, quick: bool, buffer: &mut [u8]) -> u64
     requires { ⌜ tasks ≤ taskLimit ⌝ }
@@ -67,7 +66,7 @@ pub fn check(file: &[u8], report: &mut [u8], plainly: bool) -> u64
     ensures { λ r. ⌜ Checked (now (file .entry)) (now (report .entry)) (exported r (now (report .exit))) ⌝ }
 {
     if report.len() < REPORT_BYTES {
-        return numbers::refused_at(SHORT_BUFFER, report.len());
+        return numbers::refused_at(SHORT_REPORT, report.len());
     }
     check_file(file, report, plainly)
 }

@@ -21,6 +21,7 @@ use slots::NO_TASK;
 use slots::Numbers;
 use slots::Ranks;
 use values::Admission;
+use values::FULL_STATE;
 use values::Judgement;
 use values::Refusal;
 use values::SlotAnswer;
@@ -118,7 +119,7 @@ fn step_admitted(d: State, t: Table, room: u64, done: bool) -> Stepped
         return handed_back(
             d,
             Refusal {
-                number: 9,
+                number: FULL_STATE,
                 place: 0,
             },
         );

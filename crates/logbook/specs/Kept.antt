@@ -6,7 +6,7 @@ use Prim.Native.Nat.{ℕ, _+_, _≤_}
 use native.Mathlib.Numerals.{add-one}
 use native.Mathlib.Omega.{arith}
 use borrow.Author.Tests.{eq-eqb, ne-eqb}
-use lib.Dec.{eqb, lit≤}
+use lib.Dec.{eqb}
 use Rattle.values.specs.declared.Table.{Table}
 use Rattle.values.specs.declared.Measure.{Measure}
 use Rattle.values.specs.declared.Judgement.{Judgement}
@@ -15,7 +15,7 @@ use Rattle.model.specs.Limits.{logLimit}
 use Rattle.model.specs.Tasks.{judged}
 use Rattle.model.specs.Dispatcher.{State, startOf, after}
 use Rattle.model.specs.History.{stateAt, stateAtBy}
-use Rattle.model.specs.Log.{Log, readByte, readAll, atEnd, closed, unread}
+use Rattle.model.specs.Log.{Log, readByte, readAll, unread}
 use Rattle.wellformed.specs.Ranges.{Ranged}
 use Rattle.wellformed.specs.WellFormed.{well-formed}
 use Rattle.logbook.specs.Fits.{Fits, after-byte, fits-byte}
@@ -65,22 +65,6 @@ module _ (t : Table) (r : Ranged t) where
   unfolding readAll
   kept-all l [] k = k
   kept-all l (b ∷ s) k = kept-all (readByte t l b) s (kept-byte l b k)
-
-  -- The finish too.
-  pub kept-closed : (l : Log) → Kept t l → Kept t (closed l)
-  kept-closed l k =
-      record {
-        done = k .done;
-        state = k .state;
-        told = go (l .found) (k .told);
-        fits = record { belongs = k .fits .belongs; counted = k .fits .counted; slots-le = k .fits .slots-le; bytes-le = k .fits .bytes-le };
-      }
-    where
-      go : (x : Finding) → Told x → Told (atEnd (l .bytes) x)
-      go Finding.Nothing h = (lit≤ tt, lit≤ tt, k .fits .bytes-le)
-      go Finding.Good h = tt
-      go (Finding.Differs slot) h = h
-      go (Finding.Fault n p) h = h
 
 pub kept : (t : Table) (m : Measure) → judged t ≡ Judgement.WellFormed m → (s : List ℕ) → Kept t (readAll t (unread (startOf t)) s)
 unfolding stateAtBy

@@ -22,9 +22,15 @@ use slots::Seen;
 use values::Admission;
 use values::Finding;
 use values::Judgement;
+use values::LOG_AFTER_END;
+use values::LOG_BAD_DONE;
 use values::LOG_LIMIT;
+use values::LOG_NO_END;
+use values::LOG_TOO_LONG;
+use values::LOG_UNKNOWN_KIND;
 use values::Refusal;
 use values::SLOT_COUNT_LIMIT;
+use values::STRANGE_STATE;
 use values::State;
 use values::Table;
 
@@ -135,7 +141,7 @@ fn belonging(log: Log, t: Table) -> Admission
                 SLOT_COUNT_LIMIT - room,
             ) {
                 return Admission::Refused(Refusal {
-                    number: 8,
+                    number: STRANGE_STATE,
                     place: COUNT_PLACE,
                 });
             }
@@ -176,7 +182,7 @@ fn at_end(bytes: u64, found: Finding) -> Finding
 {
     match found {
         Finding::Nothing => Finding::Fault {
-            number: 43,
+            number: LOG_NO_END,
             place: bytes as u32,
         },
         Finding::Good => Finding::Good,
@@ -525,7 +531,11 @@ fn read_other(reading: Reading, byte: u8) -> Reading
 fn behind_end(bytes: u64) -> u32
     ensures { λ r. ⌜ r ≡ cond (eqb bytes logLimit) 44 42 ⌝ }
 {
-    if bytes == LOG_LIMIT { 44 } else { 42 }
+    if bytes == LOG_LIMIT {
+        LOG_TOO_LONG
+    } else {
+        LOG_AFTER_END
+    }
 }
 
 fn read_kind(reading: Reading, kind: u8) -> Reading
@@ -533,7 +543,7 @@ fn read_kind(reading: Reading, kind: u8) -> Reading
     ensures { λ r. ⌜ r ≡ kindHeard reading kind ⌝ }
 {
     if reading.bytes == LOG_LIMIT {
-        return stop(reading, 44);
+        return stop(reading, LOG_TOO_LONG);
     }
     if kind == 16 {
         return pass(reading, true, reading.done, Finding::Nothing);
@@ -544,7 +554,7 @@ fn read_kind(reading: Reading, kind: u8) -> Reading
     if kind == 19 {
         return pass(reading, false, reading.done, Finding::Good);
     }
-    stop(reading, 40)
+    stop(reading, LOG_UNKNOWN_KIND)
 }
 
 // A done report is about the slot just before: one, and not a second.
@@ -553,10 +563,10 @@ fn read_done(reading: Reading) -> Reading
     ensures { λ r. ⌜ r ≡ doneHeard reading ⌝ }
 {
     if reading.slots == 0 {
-        return stop(reading, 41);
+        return stop(reading, LOG_BAD_DONE);
     }
     if reading.done {
-        return stop(reading, 41);
+        return stop(reading, LOG_BAD_DONE);
     }
     pass(reading, false, true, Finding::Nothing)
 }

@@ -5,8 +5,7 @@ ghost use Rattle.model.specs.Report.{refusalNumber};
 ghost use Rattle.numbers.specs.Form.{formFor};
 use values::Contents;
 use values::Refusal;
-
-const STRANGE_BUFFER: u32 = 50;
+use values::STATE_LENGTH;
 
 const LARGEST_PLACE: usize = 65535;
 
@@ -41,7 +40,7 @@ pub fn form_for(file: &[u8], wanted: usize, bytes: usize) -> Contents
 {
     if bytes != wanted {
         return tablefile::refused_file(Refusal {
-            number: STRANGE_BUFFER,
+            number: STATE_LENGTH,
             place: place_of(bytes),
         });
     }

@@ -1,4 +1,4 @@
--- OTHER OFFSETS (`starting-well-formed`): a well-formed table with all its tasks periodic, from offsets on that keep their range, is well-formed,
+-- OTHER OFFSETS (`starting-mixed`): a well-formed table with all its tasks periodic, from offsets on that keep their range, is well-formed,
 -- with the same H and load.
 use mathlib.Core.Path.{_≡_, refl, ap, ap₂, _∙_}
 use mathlib.Core.Bool.{_&&_}
@@ -11,14 +11,14 @@ use Rattle.values.specs.declared.Table.{Table}
 use Rattle.values.specs.declared.Measure.{Measure}
 use Rattle.values.specs.declared.Judgement.{Judgement}
 use Rattle.model.specs.Limits.{slotLimit}
-use Rattle.model.specs.Tasks.{noTask, task, round, load, horizon, judgedMixed, judged, commonMultiple}
+use Rattle.model.specs.Tasks.{noTask, task, round, load, horizon, judgedMixed, commonMultiple}
 use Rattle.model.specs.Patterns.{startingAt}
 use Rattle.counting.specs.Sum.{sum-eq}
 use Rattle.counting.specs.Count.{count-eq}
 use Rattle.counting.specs.Search.{first-eq}
 use Rattle.counting.specs.Fill.{fill-passed, fill-eq, fill-again}
 use Rattle.wellformed.specs.Ranges.{InRange, Ranged, holds-all}
-use Rattle.wellformed.specs.WellFormed.{Buttonless, mixed-iff, periodic-iff}
+use Rattle.wellformed.specs.WellFormed.{mixed-iff}
 
 -- A task of whichever sort, periodic from an offset on.
 abbrev pub startingTask : ℕ → Task → Task
@@ -32,10 +32,6 @@ module _ (t : Table) (r : Ranged t) (start : ℕ → ℕ) where
   pub starting-count : startingAt t start .count ≡ t .count
   unfolding startingAt
   starting-count = refl
-
-  -- None of its tasks is a button.
-  pub starting-buttonless : Buttonless (startingAt t start)
-  starting-buttonless i l = rw (starting-task i (omega (arith, starting-count))) refl
 
   -- Its H and its load are the same.
   pub starting-round : round (startingAt t start) ≡ round t
@@ -68,7 +64,7 @@ module _ (t : Table) (r : Ranged t) (start : ℕ → ℕ) where
           offset-le = low i l;
         }
 
--- So it is well-formed, for both sorts of tasks and for periodic ones alone.
+-- So it is well-formed.
 pub starting-mixed : (t : Table) (m : Measure) (start : ℕ → ℕ) → judgedMixed t ≡ Judgement.WellFormed m → ((i : ℕ) → i < t .count → start i ≤ slotLimit)
     → judgedMixed (startingAt t start) ≡ Judgement.WellFormed (record { round = m .round; load = m .load; horizon = horizon (startingAt t start) })
 starting-mixed t m start e low =
@@ -78,11 +74,6 @@ starting-mixed t m start e low =
       omega (arith, starting-round t r start),
       rw (starting-round t r start, starting-load t r start, same) refl,
     )
-
-pub starting-well-formed : (t : Table) (m : Measure) (start : ℕ → ℕ) → judgedMixed t ≡ Judgement.WellFormed m → ((i : ℕ) → i < t .count → start i ≤ slotLimit)
-    → judged (startingAt t start) ≡ Judgement.WellFormed (record { round = m .round; load = m .load; horizon = horizon (startingAt t start) })
-starting-well-formed t m start e low =
-    periodic-iff (startingAt t start) _ .1 (starting-mixed t m start e low, starting-buttonless t (mixed-iff t m .0 e .0) start)
 
 -- New offsets of new offsets.
 pub starting-again : (t : Table) → Ranged t → (start start′ : ℕ → ℕ) → startingAt (startingAt t start) start′ ≡ startingAt t start′

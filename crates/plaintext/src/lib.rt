@@ -7,7 +7,7 @@ ghost use lib.ListN.{length, take};
 ghost use Rattle.model.specs.Notation.{decimal};
 ghost use Rattle.model.specs.Limits.{taskLimit, longestText};
 ghost use Rattle.model.specs.TableFile.{refuseFile};
-ghost use Rattle.model.specs.PlainText.{isDigit, withoutReturn, contentOf, wordsOf, allDigits, numbersFault, budgetLine, lineOf, textForm, textRead, sortText, taskText, taskTexts, textOf, textWritten, fromText, toText};
+ghost use Rattle.model.specs.PlainText.{isDigit, withoutReturn, contentOf, wordsOf, allDigits, numbersFault, budgetLine, lineOf, textForm, sortText, taskText, taskTexts, textOf, textWritten, fromText, toText};
 ghost use Rattle.model.specs.Writer.{tasksOf, fitted, budgeted};
 ghost use Rattle.counting.specs.Put.{Put};
 ghost use Rattle.wellformed.specs.Ranges.{Ranged};
@@ -25,9 +25,17 @@ use values::Line;
 use values::Refusal;
 use values::Sort;
 use values::TASK_LIMIT;
+use values::TEXT_LARGE_NUMBER;
+use values::TEXT_NO_BUDGET;
+use values::TEXT_NOT_A_NUMBER;
+use values::TEXT_SECOND_BUDGET;
+use values::TEXT_TOO_MANY_TASKS;
+use values::TEXT_UNKNOWN_WORD;
+use values::TEXT_WRONG_COUNT;
 use values::Table;
 use values::Task;
 use values::Writing;
+use values::ZERO_BUDGET;
 
 const RETURN: u8 = 13;
 
@@ -45,22 +53,6 @@ const LAST_LINE: u32 = 65_535;
 
 // Room for the longest text, the lines of a budget and of every task, and for numbers of 64 bits in its last line.
 const ASIDE: usize = 28 + TASK_LIMIT * 29 + 60;
-
-const NOTHING: u32 = 27;
-
-const UNKNOWN_WORD: u32 = 60;
-
-const NO_NUMBER: u32 = 61;
-
-const TOO_LARGE: u32 = 62;
-
-const WRONG_COUNT: u32 = 63;
-
-const NO_BUDGET: u32 = 64;
-
-const ANOTHER_BUDGET: u32 = 65;
-
-const ONE_TASK_TOO_MANY: u32 = 66;
 
 // Where the first word begins and ends; they are the same where there is none.
 struct Word {
@@ -91,7 +83,7 @@ fn number_in(word: &[u8], largest: u64) -> Number
 {
     if pieces::find(word, Mark::Stranger) < word.len() {
         return Number {
-            fault: NO_NUMBER,
+            fault: TEXT_NOT_A_NUMBER,
             value: 0,
         };
     }
@@ -108,7 +100,7 @@ fn value_of(word: &[u8], largest: u64) -> Number
         let digit = digit_of(word[i]);
         if (largest - digit) / 10 < value {
             return Number {
-                fault: TOO_LARGE,
+                fault: TEXT_LARGE_NUMBER,
                 value: 0,
             };
         }
@@ -143,7 +135,7 @@ fn numbers_in(words: &[u8], due: usize, largest: u64) -> Numbers
         let to = word.to;
         if from == to {
             return Numbers {
-                fault: WRONG_COUNT,
+                fault: TEXT_WRONG_COUNT,
                 values,
             };
         }
@@ -168,7 +160,7 @@ fn left_over(left: &[u8]) -> u32
     ensures { λ r. ⌜ r ≡ numbersFault 0 0 (wordsOf (now (left .entry))) ⌝ }
 {
     if pieces::find(left, Mark::Word) < left.len() {
-        return WRONG_COUNT;
+        return TEXT_WRONG_COUNT;
     }
     0
 }
@@ -177,7 +169,7 @@ fn budget_line(rest: &[u8], given: bool) -> Line
     ensures { λ r. ⌜ r ≡ budgetLine given (wordsOf (now (rest .entry))) ⌝ }
 {
     if given {
-        return Line::Fault(ANOTHER_BUDGET);
+        return Line::Fault(TEXT_SECOND_BUDGET);
     }
     let read = numbers_in(rest, BUDGET_NUMBERS, LARGEST_BUDGET);
     if read.fault != 0 {
@@ -186,7 +178,7 @@ fn budget_line(rest: &[u8], given: bool) -> Line
     let values = read.values;
     let budget = values[0];
     if budget == 0 {
-        return Line::Fault(NOTHING);
+        return Line::Fault(ZERO_BUDGET);
     }
     Line::Budget(budget)
 }
@@ -225,10 +217,10 @@ fn task_line(button: bool, rest: &[u8], given: bool, count: usize) -> Line
     ensures { λ r. ⌜ r ≡ sortLine button given count (wordsOf (now (rest .entry))) ⌝ }
 {
     if !given {
-        return Line::Fault(NO_BUDGET);
+        return Line::Fault(TEXT_NO_BUDGET);
     }
     if TASK_LIMIT <= count {
-        return Line::Fault(ONE_TASK_TOO_MANY);
+        return Line::Fault(TEXT_TOO_MANY_TASKS);
     }
     let read = numbers_in(rest, numbers_due(button), LARGEST_NUMBER);
     if read.fault != 0 {
@@ -258,7 +250,7 @@ fn line_of(line: &[u8], given: bool, count: usize) -> Line
     if pieces::same(name, b"button") {
         return task_line(true, rest, given, count);
     }
-    Line::Fault(UNKNOWN_WORD)
+    Line::Fault(TEXT_UNKNOWN_WORD)
 }
 
 fn without_return(line: &[u8]) -> usize
@@ -354,26 +346,12 @@ fn ended(given: bool, budget: u64, table: Table, line: u32) -> Contents
     ensures { λ r. ⌜ r ≡ cond given (record { admission = Admission.Admitted; budget = budget; table = table }) (refuseFile 64 line) ⌝ }
 {
     if !given {
-        return refused_line(NO_BUDGET, line);
+        return refused_line(TEXT_NO_BUDGET, line);
     }
     Contents {
         admission: Admission::Admitted,
         budget,
         table,
-    }
-}
-
-pub fn read(text: &[u8]) -> Contents
-    ensures { λ r. ⌜ r ≡ textRead (now (text .entry)) ⌝ }
-{
-    let form = form_of(text);
-    let admission = form.admission;
-    match admission {
-        Admission::Refused(_) => form,
-        Admission::Admitted => match table::judge_mixed(form.table) {
-            Judgement::Refused(why) => tablefile::refused_file(why),
-            Judgement::WellFormed(_) => form,
-        },
     }
 }
 

@@ -9,6 +9,7 @@ use belonging::Room;
 use slots::NO_TASK;
 use slots::Numbers;
 use values::Admission;
+use values::FULL_STATE;
 use values::Judgement;
 use values::Refusal;
 use values::SlotAnswer;
@@ -109,7 +110,7 @@ fn step_admitted(d: State, t: Table, room: u64, done: bool, pressed: u32) -> Pre
         return handed_back(
             d,
             Refusal {
-                number: 9,
+                number: FULL_STATE,
                 place: 0,
             },
             pressed,

@@ -1,6 +1,6 @@
--- DEMANDS 1 and 3 at the exported start and step: one permitted result for every file and buffer, a refusal changes no
--- byte, and a camera's own loop in a lent buffer is the dispatcher's history, of which Demand3 speaks.
-use mathlib.Core.Path.{_≡_, sym, ap, _∙_}
+-- DEMANDS 1 and 3 at the exported start and step: a refusal changes no byte, and a camera's own loop in a lent buffer is
+-- the dispatcher's history, of which Demand3 speaks.
+use mathlib.Core.Path.{_≡_, ap}
 use mathlib.Core.Logic.{_⊎_, inl, inr}
 use mathlib.Core.List.{List}
 use mathlib.Core.Bool.{Bool, false, not}
@@ -30,15 +30,6 @@ use Rattle.tablefile.specs.Admitted.{periodic-for}
 use Rattle.statebuffer.specs.Loop as loop
 use Rattle.statebuffer.specs.Told.{start-apart, step-apart}
 use Rattle.telling.specs.Examples.{g-formed}
-
--- Starting and stepping in a buffer have one permitted result each, for every file and buffer.
-pub one-camera-start : (file buffer : List ℕ) (a b : Exported)
-    → a ≡ startExported file buffer → b ≡ startExported file buffer → a ≡ b
-one-camera-start file buffer a b e f = e ∙ sym f
-
-pub one-camera-step : (file buffer : List ℕ) (done : ℕ) (a b : Exported)
-    → a ≡ stepExported file buffer done → b ≡ stepExported file buffer done → a ≡ b
-one-camera-step file buffer done a b e f = e ∙ sym f
 
 -- A state buffer of another length is refused by 50, before the file is looked at, and stays as it was.
 pub strange-start-buffer : (file buffer : List ℕ) → eqb (length buffer) stateBytes ≡ false

@@ -58,23 +58,12 @@ use Rattle.telling.specs.FileTold.{told-once, told-some, told-refused, button-r
 use Rattle.telling.specs.Reported.{taken, reported-or-refused, reported}
 use Rattle.telling.specs.Steps.{state-admitted, refused-stays}
 
--- Judging a table, reading a file's form, reading it,
--- starting and stepping have one permitted result each, for every input.
-pub one-judgement : (t : Table) (a b : Judgement) → a ≡ judged t → b ≡ judged t → a ≡ b
-one-judgement t a b e f = e ∙ sym f
+-- Where a contract says that the result is a word of the model's, every input has one permitted result. The table of
+-- docs/PROMISES.md names the word of each call.
+pub one-result : {A : Type 0} (said a b : A) → a ≡ said → b ≡ said → a ≡ b
+one-result said a b e f = e ∙ sym f
 
-pub one-mixed-judgement : (t : Table) (a b : Judgement) → a ≡ judgedMixed t → b ≡ judgedMixed t → a ≡ b
-one-mixed-judgement t a b e f = e ∙ sym f
-
-pub one-form : (file : List ℕ) (a b : Contents) → a ≡ formOf file → b ≡ formOf file → a ≡ b
-one-form file a b e f = e ∙ sym f
-
-pub one-reading : (file : List ℕ) (a b : Contents) → a ≡ fileRead file → b ≡ fileRead file → a ≡ b
-one-reading file a b e f = e ∙ sym f
-
-pub one-periodic-reading : (file : List ℕ) (a b : Contents) → a ≡ periodicFrom file → b ≡ periodicFrom file → a ≡ b
-one-periodic-reading file a b e f = e ∙ sym f
-
+-- Starting and stepping hand back records of their own, and have one permitted result too.
 pub one-start : (t : Table) (a b : Started) → startedOf a ≡ started t → startedOf b ≡ started t → a ≡ b
 one-start t a b e f = one-started a b (e ∙ sym f)
 

@@ -33,10 +33,6 @@ use Rattle.tablefile.specs.Periodic.{periodic-read}
 use Rattle.telling.specs.Distance.{distance-refuses, distance-words, distance-low, distance-one, distance-heavy}
 use Rattle.promises.specs.FileNumbers.{Apart, refused-file, read-file, file-apart}
 
--- The distance test has one answer to every table.
-pub one-distance : (t : Table) (a b : DistanceAnswer) → a ≡ distanceAnswer t → b ≡ distanceAnswer t → a ≡ b
-one-distance t a b e f = e ∙ sym f
-
 -- A refused table is refused by its number and place; of any other 0 is said, with 2 for overload,
 -- 1 for pass and 0 for no answer.
 pub refused-distance : (t : Table) (r : Refusal) → judgedMixed t ≡ Judgement.Refused r
@@ -92,10 +88,6 @@ pub distance-overload : (t : Table) (m : Measure) → judgedMixed t ≡ Judgemen
 unfolding distanceAnswer
 distance-overload t m well =
     (distance-heavy t m well, λ h. rw (well, is-false (light t) (λ x. absurd (omega tests))) refl)
-
--- The exported distance test has one result for every file.
-pub one-distance-export : (file : List ℕ) (a b : ℕ) → a ≡ distanceExported file → b ≡ distanceExported file → a ≡ b
-one-distance-export file a b e f = e ∙ sym f
 
 -- A file that is refused is refused as it is by the check, and one that is read gives its table's answer:
 -- 2 for overload, 1 for pass, 0 for none.

@@ -1,7 +1,7 @@
 -- WHAT MAY BE EASED SAFELY (section 3.10 of the specification): a table that passes still passes with lower costs,
 -- longer deadlines up to the period and fewer tasks, all of that together too,
 -- given a budget that reaches the new horizon; with costs alone lowered no worst response grows.
-use mathlib.Core.Path.{_≡_, refl, sym, ap, subst, _∙_}
+use mathlib.Core.Path.{_≡_, refl, ap, subst}
 use mathlib.Core.Logic.{_↔_}
 use mathlib.Core.List.{List, [], _∷_}
 use Prim.Native.Nat.{ℕ, suc, _/_, _%_, _^_, _≤_, _<_}
@@ -113,10 +113,6 @@ module _ (before after : Table) where
   pub unmatched-exactly : (i : ℕ) → easing before after ≡ Easing.Unmatched i
       → (i < after .count) × Eased before (firstTasks after i) × (Eased before (firstTasks after (suc i)) → ⊥)
   unmatched-exactly i e = subst (Told before after) e (first-choice before after)
-
--- The exported call has one result for every old and new file.
-pub one-eased-export : (old new : List ℕ) (a b : ℕ) → a ≡ easedExported old new → b ≡ easedExported old new → a ≡ b
-one-eased-export old new a b e f = e ∙ sym f
 
 -- What the number means, by its remainder by 4 and its quotient.
 pub eased-means : (old new : List ℕ) → EasedMeans old new (easedExported old new % 4) (easedExported old new / 4)

@@ -1,6 +1,6 @@
 -- HOW MUCH COST A TASK CAN TAKE (section 3.11 of the specification): the number told passes,
 -- and no larger one within the deadline does; where there is none to tell, why.
-use mathlib.Core.Path.{_≡_, refl, sym, subst, _∙_}
+use mathlib.Core.Path.{_≡_, refl, subst, _∙_}
 use mathlib.Core.Logic.{_⊎_, inl, inr}
 use mathlib.Core.List.{List}
 use Prim.Native.Nat.{ℕ, _+_, min, _≤_, _<_}
@@ -27,11 +27,6 @@ use Rattle.tablefile.specs.Admitted.{admitted}
 use Rattle.telling.specs.Refusals.{admitted-or-told}
 use Rattle.telling.specs.LargestCosts.{cost-case, cost-in-range, refusal-tellable, cost-apart}
 use Rattle.promises.specs.FileNumbers.{read-file, refused-periodic}
-
--- One answer is permitted to every table, task number and budget.
-pub one-largest-cost : (t : Table) (i budget : ℕ) (a b : LargestCost)
-    → a ≡ costAnswer t i budget → b ≡ costAnswer t i budget → a ≡ b
-one-largest-cost t i budget a b e f = e ∙ sym f
 
 -- The table's refusal comes first, and then 12 for a number that is none of its tasks', at that number.
 pub cost-refused : (t : Table) (i budget : ℕ) (r : Refusal)
@@ -86,10 +81,6 @@ cost-fits = cost-in-range
 pub cost-tellable : (t : Table) (i budget : ℕ) (r : Refusal)
     → i < 65536 → costAnswer t i budget ≡ LargestCost.Refused r → (0 < r .number) × (r .place < 65536)
 cost-tellable t i budget r l = refusal-tellable t i budget l r
-
--- The exported call has one result for every file and task number.
-pub one-largest-export : (file : List ℕ) (i a b : ℕ) → a ≡ largestExported file i → b ≡ largestExported file i → a ≡ b
-one-largest-export file i a b e f = e ∙ sym f
 
 -- A refused file is refused as by reading it, and one with a button by 11; of any other its table is answered for,
 -- with the file's budget.

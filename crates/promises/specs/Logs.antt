@@ -25,7 +25,7 @@ use Rattle.model.specs.Verdict.{Permitted}
 use Rattle.model.specs.TableFile.{formOf, periodicFrom}
 use Rattle.model.specs.Dispatcher.{admitted, startOf, started}
 use Rattle.model.specs.History.{Finished}
-use Rattle.model.specs.Report.{Exported, refusalNumber, refused}
+use Rattle.model.specs.Report.{refusalNumber, refused}
 use Rattle.model.specs.StateBuffer.{onFile}
 use Rattle.model.specs.Log as model
 use Rattle.model.specs.Log.{readAll, atEnd, miscounted, logAdmitted, logStarted, fed, logFinished, feeds, logJudged}
@@ -120,20 +120,7 @@ module _ (t : Table) (m : Measure) (well : judged t ≡ Judgement.WellFormed m) 
       let (n, b) = good-written t (flatten pieces) (each-answer pieces Finding.Good .0 e) in
       (n, b, λ i j l w. all-in-time t m well (b .done) budget a answer pass i j l)
 
--- The exported calls: one permitted result each, for every file, buffer and piece.
-pub one-exported-log-start : (file buffer : List ℕ) (a b : Exported)
-    → a ≡ logStartExported file buffer → b ≡ logStartExported file buffer → a ≡ b
-one-exported-log-start file buffer a b e f = e ∙ sym f
-
-pub one-exported-feed : (file buffer piece : List ℕ) (a b : Exported)
-    → a ≡ logFeedExported file buffer piece → b ≡ logFeedExported file buffer piece → a ≡ b
-one-exported-feed file buffer piece a b e f = e ∙ sym f
-
-pub one-exported-finish : (file buffer : List ℕ) (a b : Exported)
-    → a ≡ logFinishExported file buffer → b ≡ logFinishExported file buffer → a ≡ b
-one-exported-finish file buffer a b e f = e ∙ sym f
-
--- The order of their refusals: 50 for a buffer of another length; then the file as by the check;
+-- The exported calls. The order of their refusals: 50 for a buffer of another length; then the file as by the check;
 -- then the log as by the judge itself.
 pub strange-log-buffer : (file buffer piece : List ℕ) → eqb (length buffer) logBytes ≡ false
     → let r = refused (refusal 50 (min (length buffer) 65535)) buffer in

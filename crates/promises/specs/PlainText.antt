@@ -1,6 +1,6 @@
--- DEMAND 1 at tables in plain text: one permitted result for all bytes; a refusal changes no byte;
+-- DEMAND 1 at tables in plain text: a refusal changes no byte;
 -- the text of a budget and tasks is read as these; from a file to its text and back the bytes are the same.
-use mathlib.Core.Path.{_≡_, refl, sym, ap, _∙_}
+use mathlib.Core.Path.{_≡_, refl, ap, _∙_}
 use mathlib.Core.Logic.{_⊎_}
 use mathlib.Core.List.{List, [], _∷_, _++_}
 use Prim.Native.Nat.{ℕ, _≤_, _<_}
@@ -17,8 +17,8 @@ use Rattle.model.specs.Limits.{taskLimit, budgetLimit, longestFile, longestText
 use Rattle.model.specs.Values.{refusalSaid, writingSaid, admissionSaid}
 use Rattle.model.specs.Tasks.{judgedMixed}
 use Rattle.model.specs.TableFile.{admit, fileOf, formOf, fileRead}
-use Rattle.model.specs.Report.{Exported, refused}
-use Rattle.model.specs.Writer.{Filled, fitted, tasksOf, fileWritten}
+use Rattle.model.specs.Report.{refused}
+use Rattle.model.specs.Writer.{fitted, tasksOf, fileWritten}
 use Rattle.model.specs.PlainText.{textForm, textRead, textOf, textWritten, fromText, toText, fromTextExported}
 use Rattle.model.specs.PlainText.{toTextExported}
 use Rattle.tablefile.specs.Written.{AllFit}
@@ -26,32 +26,6 @@ use Rattle.writer.specs.RoundTrip.{tasks-back}
 use Rattle.plaintext.specs.Canonical.{text-read, text-nothing}
 use Rattle.plaintext.specs.RoundTrip as round
 use Rattle.plaintext.specs.Told as told
-
--- Reading a text's form, reading it, writing a text,
--- and going from text to file and back have one permitted result each, for every input.
-pub one-text-form : (s : List ℕ) (a b : Contents) → a ≡ textForm s → b ≡ textForm s → a ≡ b
-one-text-form s a b e f = e ∙ sym f
-
-pub one-text-reading : (s : List ℕ) (a b : Contents) → a ≡ textRead s → b ≡ textRead s → a ≡ b
-one-text-reading s a b e f = e ∙ sym f
-
-pub one-text-writing : (t : Table) (budget : ℕ) (buffer : List ℕ) (a b : Filled)
-    → a ≡ textWritten t budget buffer → b ≡ textWritten t budget buffer → a ≡ b
-one-text-writing t budget buffer a b e f = e ∙ sym f
-
-pub one-from-text : (s buffer : List ℕ) (a b : Filled) → a ≡ fromText s buffer → b ≡ fromText s buffer → a ≡ b
-one-from-text s buffer a b e f = e ∙ sym f
-
-pub one-to-text : (file buffer : List ℕ) (a b : Filled) → a ≡ toText file buffer → b ≡ toText file buffer → a ≡ b
-one-to-text file buffer a b e f = e ∙ sym f
-
-pub one-from-text-export : (s buffer : List ℕ) (a b : Exported)
-    → a ≡ fromTextExported s buffer → b ≡ fromTextExported s buffer → a ≡ b
-one-from-text-export s buffer a b e f = e ∙ sym f
-
-pub one-to-text-export : (file buffer : List ℕ) (a b : Exported)
-    → a ≡ toTextExported file buffer → b ≡ toTextExported file buffer → a ≡ b
-one-to-text-export file buffer a b e f = e ∙ sym f
 
 -- The text of any budget above 0 and below 2^64 and of at most `taskLimit` tasks, each number below 2^32,
 -- has a good form and holds these.

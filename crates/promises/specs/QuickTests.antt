@@ -29,10 +29,6 @@ use Rattle.tablefile.specs.Periodic.{periodic-read}
 use Rattle.telling.specs.Quick.{quick-refuses, quick-either, quick-words, quick-low, quick-one}
 use Rattle.promises.specs.FileNumbers.{Apart, read-file, refused-periodic, periodic-apart}
 
--- The quick test has one answer to every table.
-pub one-quick : (t : Table) (a b : QuickAnswer) → a ≡ quickAnswer t → b ≡ quickAnswer t → a ≡ b
-one-quick t a b e f = e ∙ sym f
-
 -- A refused table is refused by its number and place; of any other 0 is said, with 1 for pass and with 0 for no answer.
 pub refused-quick : (t : Table) (r : Refusal) → judged t ≡ Judgement.Refused r
     → quickSaid (quickAnswer t) ≡ refusalSaid r
@@ -82,10 +78,6 @@ quick-exactly t m well =
       (λ e. exact .0 (quick-case t (judged t) e .1), λ h. rw (well, is-true (quickPass t) (exact .1 h)) refl),
       quick-either t m well,
     )
-
--- The exported quick test has one result for every file.
-pub one-quick-export : (file : List ℕ) (a b : ℕ) → a ≡ quickExported file → b ≡ quickExported file → a ≡ b
-one-quick-export file a b e f = e ∙ sym f
 
 -- A file that is refused, as it is by reading it or by 11 for a button, is refused so,
 -- and any other gives its table's answer: 1 for pass, 0 for none.

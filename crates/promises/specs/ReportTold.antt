@@ -1,6 +1,6 @@
 -- WHAT THE TEXT TELLS: a report determines the verdict with its interval, the settled count and the worst responses,
 -- and the exported call on a report says 1 exactly if the verdict is Passes.
-use mathlib.Core.Path.{_≡_, sym, _∙_}
+use mathlib.Core.Path.{_≡_}
 use mathlib.Core.Logic.{_↔_}
 use mathlib.Core.Bool.{Bool}
 use mathlib.Core.List.{List}
@@ -15,10 +15,6 @@ use Rattle.readback.specs.Determined as readback
 use Rattle.readback.specs.Determined.{SameTold}
 use Rattle.readback.specs.Passes.{says-passes}
 use Rattle.readback.specs.ReadOff.{one-exactly}
-
--- The exported call has one permitted result for every bytes.
-pub one-passes : (s : List ℕ) (m n : ℕ) → m ≡ passesExported s → n ≡ passesExported s → m ≡ n
-one-passes s m n e f = e ∙ sym f
 
 -- Two reports that are the same text tell the same of everything in them; so do two that were written into buffers.
 module _ (n n′ : ℕ) (q q′ : Bool) (a a′ : Answer) (v v′ : Verdict) where

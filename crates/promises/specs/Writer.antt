@@ -1,7 +1,6 @@
--- DEMAND 1 at the writer: one permitted result for every table, budget and buffer, from C for all words;
--- a refusal changes no byte; what was written is read as the same budget and tasks,
+-- DEMAND 1 at the writer: a refusal changes no byte; what was written is read as the same budget and tasks,
 -- and what was read is written as the same bytes.
-use mathlib.Core.Path.{_≡_, refl, sym, ap, _∙_}
+use mathlib.Core.Path.{_≡_, refl, ap, _∙_}
 use mathlib.Core.Logic.{_⊎_}
 use mathlib.Core.List.{List, [], _∷_, _++_}
 use mathlib.Core.Bool.{true, false}
@@ -19,20 +18,11 @@ use Rattle.model.specs.Limits.{taskLimit, budgetLimit, longestFile}
 use Rattle.model.specs.Values.{refusal, refusalSaid, writingSaid}
 use Rattle.model.specs.Tasks.{task, judgedMixed}
 use Rattle.model.specs.TableFile.{fileOf, fileRead}
-use Rattle.model.specs.Report.{Exported, refused}
-use Rattle.model.specs.Writer.{Filled, tasksOf, fileWritten, rowWords, rows, rowTask, isTask, tableIn, fillTold}
+use Rattle.model.specs.Report.{refused}
+use Rattle.model.specs.Writer.{tasksOf, fileWritten, rowWords, rows, rowTask, isTask, tableIn, fillTold}
 use Rattle.model.specs.Writer.{writeExported}
 use Rattle.writer.specs.RoundTrip as round
 use Rattle.writer.specs.Told as told
-
--- Writing has one permitted result for every table, budget and buffer, and the exported call for all words.
-pub one-writing : (t : Table) (budget : ℕ) (buffer : List ℕ) (a b : Filled)
-    → a ≡ fileWritten t budget buffer → b ≡ fileWritten t budget buffer → a ≡ b
-one-writing t budget buffer a b e f = e ∙ sym f
-
-pub one-write-export : (words : List ℕ) (budget : ℕ) (buffer : List ℕ) (a b : Exported)
-    → a ≡ writeExported words budget buffer → b ≡ writeExported words budget buffer → a ≡ b
-one-write-export words budget buffer a b e f = e ∙ sym f
 
 -- A refused table is refused by its number and place, whatever the buffer, and the buffer stays as it was.
 pub refused-writing : (t : Table) (budget : ℕ) (buffer : List ℕ) (r : Refusal) → judgedMixed t ≡ Judgement.Refused r

@@ -3,7 +3,6 @@ use mathlib.Core.Path.{_≡_, refl, sym, subst}
 use mathlib.Core.Bool.{Bool}
 use mathlib.Core.List.{List}
 use Prim.Native.Nat.{ℕ, _^_, _≤_, _<_}
-use native.Mathlib.Nat.{mul-le-mul}
 use native.Mathlib.Omega.{arith}
 use lib.ListN.{length, getD, getD-replicate}
 use lib.Dec.{T}
@@ -20,11 +19,10 @@ use Rattle.model.specs.Idle.{idleAt, firstIdle}
 use Rattle.model.specs.Verdict.{needed, lateStart, verdict, settledBy, Worsts, brief, Answers, PermittedBy, Permitted}
 use Rattle.model.specs.Report.{reportOf}
 use Rattle.model.specs.Demand.{lateAt}
-use Rattle.counting.specs.Sum.{sum-bound}
 use Rattle.counting.specs.Search.{first-le}
-use Rattle.wellformed.specs.Round.{share, share-le}
+use Rattle.wellformed.specs.Round.{load-le}
 use Rattle.wellformed.specs.Refused.{Tellable, JudgementTellable, judged-tellable}
-use Rattle.wellformed.specs.WellFormed.{horizonLimit, WellFormed, well-formed}
+use Rattle.wellformed.specs.WellFormed.{WellFormed, well-formed}
 use Rattle.wellformed.specs.Demand.{demand-le}
 use Rattle.backlog.specs.TooMuch.{too-much-iff}
 use Rattle.backlog.specs.Needed.{needed-le}
@@ -42,14 +40,7 @@ module _ (t : Table) (m : Measure) (well : WellFormed t m) where
 
   -- A task asks for at most every slot of a round.
   load-wide : Wide (load t)
-  unfolding load
-  load-wide =
-      let r = well .ranged in
-      omega (
-        arith,
-        sum-bound (t .count) (share t (round t)) (round t) (share-le t r (round t)),
-        mul-le-mul {m₁ = round t} {n₂ = taskLimit} {m₂ = horizonLimit} (r .few) (omega (arith, well .offset-le 0 (r .some), well .horizon-le)),
-      )
+  load-wide = omega (arith, load-le t (well .ranged), well .offset-le 0 (well .ranged .some), well .horizon-le)
 
   late-wide : T (lateAt t (needed t)) → VerdictWide (lateVerdict t (needed t))
   late-wide h =

@@ -7,12 +7,20 @@ ghost use Rattle.model.specs.Limits.{taskLimit};
 ghost use Rattle.model.specs.Tasks.{within, taskFault, firstFaulty, firstButton, load, horizon, judgedMixed, judged};
 ghost use Rattle.wellformed.specs.Ranges.{Ranged};
 ghost use Rattle.wellformed.specs.Round.{RoundTold, RoundKept};
+use values::BAD_COST;
+use values::BAD_DEADLINE;
+use values::BAD_OFFSET;
+use values::BAD_PERIOD;
+use values::HAS_BUTTON;
 use values::Judgement;
+use values::LONG_ROUND;
 use values::Measure;
+use values::NO_TASKS;
 use values::ROUND_LIMIT;
 use values::Refusal;
 use values::SLOT_LIMIT;
 use values::TASK_LIMIT;
+use values::TOO_MANY_TASKS;
 use values::Table;
 use values::Task;
 
@@ -25,7 +33,7 @@ pub fn judge(t: Table) -> Judgement
         Judgement::WellFormed(measure) => {
             let button = first_button(t);
             if button < t.count {
-                return refuse(11, button as u32);
+                return refuse(HAS_BUTTON, button as u32);
             }
             Judgement::WellFormed(measure)
         }
@@ -38,10 +46,10 @@ pub fn judge_mixed(t: Table) -> Judgement
 {
     let n = t.count;
     if n == 0 {
-        return refuse(1, 0);
+        return refuse(NO_TASKS, 0);
     }
     if n > TASK_LIMIT {
-        return refuse(2, TASK_LIMIT as u32);
+        return refuse(TOO_MANY_TASKS, TASK_LIMIT as u32);
     }
     let faulty = first_faulty(t);
     if faulty < n {
@@ -49,7 +57,7 @@ pub fn judge_mixed(t: Table) -> Judgement
     }
     let round = round_of(t);
     if round > ROUND_LIMIT {
-        return refuse(7, 0);
+        return refuse(LONG_ROUND, 0);
     }
     Judgement::WellFormed(Measure {
         round,
@@ -94,16 +102,16 @@ fn task_fault(k: Task) -> u32
     ensures { λ r. ⌜ r ≡ taskFault k ⌝ }
 {
     if !within(1, SLOT_LIMIT, k.period) {
-        return 3;
+        return BAD_PERIOD;
     }
     if !within(1, k.period, k.deadline) {
-        return 4;
+        return BAD_DEADLINE;
     }
     if !within(1, k.deadline, k.cost) {
-        return 5;
+        return BAD_COST;
     }
     if !within(0, SLOT_LIMIT, sorts::offset_of(k)) {
-        return 6;
+        return BAD_OFFSET;
     }
     0
 }

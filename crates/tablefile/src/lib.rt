@@ -1,12 +1,20 @@
 // A table file, read record by record where it lies.
 use values::Admission;
 use values::Contents;
+use values::FILE_AFTER_END;
+use values::FILE_CUT_SHORT;
+use values::FILE_NO_BUDGET;
+use values::FILE_NO_END;
+use values::FILE_SECOND_BUDGET;
+use values::FILE_TOO_MANY_TASKS;
+use values::FILE_UNKNOWN_KIND;
 use values::Judgement;
 use values::Refusal;
 use values::Sort;
 use values::TASK_LIMIT;
 use values::Table;
 use values::Task;
+use values::ZERO_BUDGET;
 ghost use mathlib.Core.Path.{_≡_};
 ghost use mathlib.Core.List.{[]};
 ghost use Prim.Native.Nat.{_+_, _<_, _≤_};
@@ -32,22 +40,6 @@ const BUTTON_BODY: usize = 12;
 pub const BUDGET_BYTES: usize = 1 + BUDGET_BODY;
 
 pub const TASK_BYTES: usize = 1 + TASK_BODY;
-
-const CUT_SHORT: u32 = 20;
-
-const UNKNOWN_KIND: u32 = 21;
-
-const NO_BUDGET: u32 = 22;
-
-const ANOTHER_BUDGET: u32 = 23;
-
-const AFTER_END: u32 = 24;
-
-const ONE_TASK_TOO_MANY: u32 = 25;
-
-const NO_END: u32 = 26;
-
-const NOTHING: u32 = 27;
 
 // A record is a budget, a task of either sort or the end, with its numbers.
 pub enum Record {
@@ -115,14 +107,14 @@ fn budget_reading(rest: &[u8], at: usize) -> Reading
     ensures { λ r. ⌜ r ≡ budgetReading (now (rest .entry)) at ⌝ }
 {
     if 0 < at {
-        return refusal(ANOTHER_BUDGET, at);
+        return refusal(FILE_SECOND_BUDGET, at);
     }
     if rest.len() < BUDGET_BODY {
-        return refusal(CUT_SHORT, at);
+        return refusal(FILE_CUT_SHORT, at);
     }
     let budget = words::long_at(rest, 0);
     if budget == 0 {
-        return refusal(NOTHING, at);
+        return refusal(ZERO_BUDGET, at);
     }
     Reading::Whole(Record::Budget(budget))
 }
@@ -132,13 +124,13 @@ fn task_reading(button: bool, rest: &[u8], at: usize, count: usize) -> Reading
     ensures { λ r. ⌜ r ≡ taskReading button (now (rest .entry)) at count ⌝ }
 {
     if at == 0 {
-        return refusal(NO_BUDGET, at);
+        return refusal(FILE_NO_BUDGET, at);
     }
     if TASK_LIMIT <= count {
-        return refusal(ONE_TASK_TOO_MANY, at);
+        return refusal(FILE_TOO_MANY_TASKS, at);
     }
     if rest.len() < body_bytes(button) {
-        return refusal(CUT_SHORT, at);
+        return refusal(FILE_CUT_SHORT, at);
     }
     Reading::Whole(Record::OneTask(task_in(button, rest)))
 }
@@ -148,10 +140,10 @@ fn end_reading(rest: &[u8], at: usize) -> Reading
     ensures { λ r. ⌜ r ≡ endReading (now (rest .entry)) at ⌝ }
 {
     if at == 0 {
-        return refusal(NO_BUDGET, at);
+        return refusal(FILE_NO_BUDGET, at);
     }
     if 0 < rest.len() {
-        return refusal(AFTER_END, at + 1);
+        return refusal(FILE_AFTER_END, at + 1);
     }
     Reading::Whole(Record::End)
 }
@@ -163,9 +155,9 @@ fn reading_at(file: &[u8], at: usize, count: usize) -> Reading
 {
     if file.len() <= at {
         if at == 0 {
-            return refusal(NO_BUDGET, at);
+            return refusal(FILE_NO_BUDGET, at);
         }
-        return refusal(NO_END, at);
+        return refusal(FILE_NO_END, at);
     }
     let from = at + 1;
     let rest = &file[from..];
@@ -174,7 +166,7 @@ fn reading_at(file: &[u8], at: usize, count: usize) -> Reading
         TASK => task_reading(false, rest, at, count),
         BUTTON => task_reading(true, rest, at, count),
         END => end_reading(rest, at),
-        _ => refusal(UNKNOWN_KIND, at),
+        _ => refusal(FILE_UNKNOWN_KIND, at),
     }
 }
 

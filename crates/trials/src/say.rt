@@ -50,5 +50,5 @@ pub fn numbers(x: Numbers) {
     words(b" ");
     small(x[2]);
     words(b" .. ");
-    small(x[15]);
+    small(x[31]);
 }

@@ -19,6 +19,79 @@ pub const LOG_LIMIT: u64 = 0xffff_ffff;
 
 pub const LOG_STATE_BYTES: usize = STATE_BYTES + 4 * 4 + 8 * 2;
 
+// The numbers of refusals, section 7.1 of the specification, and of a log's faults, 7.3: those of `model`, or the proofs fail.
+pub const NO_TASKS: u32 = 1;
+
+pub const TOO_MANY_TASKS: u32 = 2;
+
+pub const BAD_PERIOD: u32 = 3;
+
+pub const BAD_DEADLINE: u32 = 4;
+
+pub const BAD_COST: u32 = 5;
+
+pub const BAD_OFFSET: u32 = 6;
+
+pub const LONG_ROUND: u32 = 7;
+
+pub const STRANGE_STATE: u32 = 8;
+
+pub const FULL_STATE: u32 = 9;
+
+pub const HAS_BUTTON: u32 = 11;
+
+pub const NO_SUCH_TASK: u32 = 12;
+
+pub const FILE_CUT_SHORT: u32 = 20;
+
+pub const FILE_UNKNOWN_KIND: u32 = 21;
+
+pub const FILE_NO_BUDGET: u32 = 22;
+
+pub const FILE_SECOND_BUDGET: u32 = 23;
+
+pub const FILE_AFTER_END: u32 = 24;
+
+pub const FILE_TOO_MANY_TASKS: u32 = 25;
+
+pub const FILE_NO_END: u32 = 26;
+
+pub const ZERO_BUDGET: u32 = 27;
+
+pub const SHORT_REPORT: u32 = 30;
+
+pub const SHORT_BUFFER: u32 = 31;
+
+pub const LOG_UNKNOWN_KIND: u32 = 40;
+
+pub const LOG_BAD_DONE: u32 = 41;
+
+pub const LOG_AFTER_END: u32 = 42;
+
+pub const LOG_NO_END: u32 = 43;
+
+pub const LOG_TOO_LONG: u32 = 44;
+
+pub const STATE_LENGTH: u32 = 50;
+
+pub const BROKEN_ROWS: u32 = 51;
+
+pub const STRANGE_ROW: u32 = 52;
+
+pub const TEXT_UNKNOWN_WORD: u32 = 60;
+
+pub const TEXT_NOT_A_NUMBER: u32 = 61;
+
+pub const TEXT_LARGE_NUMBER: u32 = 62;
+
+pub const TEXT_WRONG_COUNT: u32 = 63;
+
+pub const TEXT_NO_BUDGET: u32 = 64;
+
+pub const TEXT_SECOND_BUDGET: u32 = 65;
+
+pub const TEXT_TOO_MANY_TASKS: u32 = 66;
+
 // How the jobs of a task come: from an offset on, every period, or as a button is pressed, with no offset at all.
 pub enum Sort {
     Periodic(u32),

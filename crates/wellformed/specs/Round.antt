@@ -4,8 +4,9 @@ use Prim.Native.Nat.{ℕ, _*_, _/_, _^_, _≤_, _<_, _∣_}
 use native.Mathlib.Nat.{le-refl, le-trans, mul-comm, mul-mul-mul-comm, mul-le-mul, mul-le-mul-right, mul-div-le, div-le-self, div-mul-cancel}
 use native.Mathlib.Omega.{arith}
 use Rattle.values.specs.declared.Table.{Table}
-use Rattle.model.specs.Limits.{slotLimit, roundLimit}
-use Rattle.model.specs.Tasks.{task, round}
+use Rattle.model.specs.Limits.{taskLimit, slotLimit, roundLimit}
+use Rattle.model.specs.Tasks.{task, round, load}
+use Rattle.counting.specs.Sum.{sum-bound}
 use Rattle.counting.specs.Divisors.{lcmAll, lcmAll-least, lcmAll-mono, lcmAll-pos, lcmAll-le-product, product-le, divides-lcmAll, first-multiple}
 use Rattle.wellformed.specs.Ranges.{Ranged}
 
@@ -75,6 +76,12 @@ pub share-le : (t : Table) → Ranged t → (h i : ℕ) → i < t .count → sha
 share-le t r h i l =
     let k = r .each i l in
     le-trans (mul-le-mul-right (h / task t i .period) (le-trans (k .cost-le) (k .deadline-le))) (mul-div-le h (task t i .period))
+
+-- So the load is at most a whole round for each task.
+pub load-le : (t : Table) → Ranged t → load t ≤ taskLimit * round t
+unfolding load
+load-le t r =
+    omega (arith, sum-bound (t .count) (share t (round t)) (round t) (share-le t r (round t)), mul-le-mul-right (round t) (r .few))
 
 -- For H = q · p and b periods p within x slots.
 cross : (c b q p x : ℕ) → b * p ≤ x → q * p * (c * b) ≤ x * (c * q)

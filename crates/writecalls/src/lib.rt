@@ -3,11 +3,9 @@ ghost use mathlib.Core.Path.{_≡_};
 ghost use Rattle.model.specs.Writer.{writeExported};
 ghost use Rattle.model.specs.PlainText.{fromTextExported, toTextExported};
 ghost use Rattle.writecalls.specs.Told.{ToldAs};
+use values::BROKEN_ROWS;
+use values::STRANGE_ROW;
 use values::Writing;
-
-const BROKEN_ROWS: u32 = 51;
-
-const STRANGE_ROW: u32 = 52;
 
 // What a writer says as a number; the buffer is as it left it.
 fn told(said: Writing) -> u64

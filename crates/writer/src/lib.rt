@@ -16,14 +16,12 @@ use tablefile::END;
 use tablefile::TASK;
 use values::Judgement;
 use values::Refusal;
+use values::SHORT_BUFFER;
 use values::Sort;
 use values::Table;
 use values::Task;
 use values::Writing;
-
-const NOTHING: u32 = 27;
-
-const SHORT_BUFFER: u32 = 31;
+use values::ZERO_BUDGET;
 
 // Any table, budget and buffer: the table is judged first, then the budget, then the buffer's length.
 pub fn write(table: Table, budget: u64, buffer: &mut [u8]) -> Writing
@@ -67,7 +65,7 @@ pub fn no_budget() -> Writing
     ensures { λ r. ⌜ r ≡ Writing.Refused (record { number = 27; place = 0 }) ⌝ }
 {
     Writing::Refused(Refusal {
-        number: NOTHING,
+        number: ZERO_BUDGET,
         place: 0,
     })
 }

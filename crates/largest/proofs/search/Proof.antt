@@ -2,36 +2,36 @@
 use mathlib.Core.Path.{sym, _∙_}
 use Prim.Native.Nat.{ℕ, _+_, _-_, _/_}
 use native.Mathlib.Omega.{arith}
-use Rattle.largest.specs.Halving.{ranged-of, well-with, Halving, halving-start, halving-up, halving-down, halving-end}
+use Rattle.largest.specs.Halving.{ranged-of, Halving, halving-start, halving-up, halving-down, halving-end}
 use Rattle.largest.proofs.search.Statement.{statement}
 use Rattle.largest.proofs.search.Tie as tie
 
 abbrev Inv-loop : tie.InvT-loop
-Inv-loop i budget t passes₀ fails₀ passes fails = Halving t i budget passes fails
+Inv-loop m i budget t passes₀ fails₀ passes fails = Halving t i budget passes fails
 
 abbrev μ-loop : tie.MeasureT-loop
-μ-loop i budget t passes₀ fails₀ passes fails = fails - passes
+μ-loop m i budget t passes₀ fails₀ passes fails = fails - passes
 
 -- The cost that is tried.
 abbrev middle : tie.At-loop Inv-loop μ-loop → ℕ
 middle a = a .loop .passes + (a .loop .fails - a .loop .passes) / 2
 
 mul-task : tie.Need-mul-task Inv-loop μ-loop
-mul-task c = omega (arith, ranged-of (c .args .t1) (c .pre .0) .few)
+mul-task c = omega (arith, ranged-of (c .args .t1) (c .args .m) (c .pre .0) .few)
 
 element-copy-out-task : tie.Need-element-copy-out-task Inv-loop μ-loop
-element-copy-out-task c = omega (arith, ranged-of (c .args .t1) (c .pre .0) .few)
+element-copy-out-task c = omega (arith, ranged-of (c .args .t1) (c .args .m) (c .pre .0) .few)
 
 add-fails : tie.Need-add-fails Inv-loop μ-loop
 add-fails c =
     let s = c .before .before in
-    let k = ranged-of (s .args .t1) (s .pre .0) .each (s .args .i) (s .pre .1 .0) in
+    let k = ranged-of (s .args .t1) (s .args .m) (s .pre .0) .each (s .args .i) (s .pre .1 .0) in
     omega (arith, k .deadline-le, k .period-le)
 
 loop-holds : tie.Need-loop-holds Inv-loop μ-loop
 loop-holds c =
     let s = c .before .before in
-    halving-start (s .args .t1) (s .pre .0) (s .args .i) (s .args .budget) (s .pre .1 .0) (s .pre .1 .1) _ (omega arith)
+    halving-start (s .args .t1) (s .args .m) (s .pre .0) (s .args .i) (s .args .budget) (s .pre .1 .0) (s .pre .1 .1) _ (omega arith)
 
 sub-loop : tie.Need-sub-loop Inv-loop μ-loop
 sub-loop c = omega arith
@@ -45,10 +45,8 @@ add-middle c = omega arith
 passes-with-requires : tie.Need-passes-with-requires Inv-loop μ-loop
 passes-with-requires c κs =
     let s = c .before .before .before .before in
-    let h = c .before .loop .inv in (
-      omega (arith, ranged-of (s .args .t1) (s .pre .0) .few),
-      well-with (s .args .t1) (s .pre .0) (s .args .i) (middle (c .before)) (s .pre .1 .0) (omega (arith, h .some)) (omega (arith, h .upto)),
-    )
+    let h = c .before .loop .inv in
+    (s .pre .0, (s .pre .1 .0, (omega (arith, h .least), omega (arith, h .upto))))
 
 loop-less : tie.Need-loop-less Inv-loop μ-loop
 loop-less c = omega arith
@@ -76,7 +74,7 @@ returns c =
     let s = a .before .before .before in
     omega (
       arith,
-      halving-end (s .args .t1) (s .pre .0) (s .args .i) (s .args .budget) (s .pre .1 .0) (s .pre .1 .1) (a .loop .passes)
+      halving-end (s .args .t1) (s .args .m) (s .pre .0) (s .args .i) (s .args .budget) (s .pre .1 .0) (s .pre .1 .1) (a .loop .passes)
           (a .loop .fails) (a .loop .inv) (omega arith),
     )
 
