@@ -11,7 +11,7 @@
 #define PROGRAM "yolizadwa 0.2"
 
 /* docs/COMMAND.md promises these numbers. */
-enum status { DONE = 0, TROUBLE = 1, REFUSED = 2, LATE = 3, UNDECIDED = 4 };
+enum status { DONE = 0, TROUBLE = 1, REFUSED = 2, LATE = 3, UNDECIDED = 4, STOPPED = 130 };
 
 /* No text begins with a lower byte: the lowest that a text may begin with is a tab. */
 enum { FIRST_OF_A_TEXT = 9 };
@@ -73,9 +73,7 @@ int open_table(const char *name, FILE *refusals, struct table *table);
 int open_periodic(const char *name, FILE *refusals, const char *what, struct table *table);
 uint64_t budget_of(const struct table *table);
 void replace_budget(struct table *table, uint64_t budget);
-void lighten(struct table *table);
 void overload(struct table *table);
-void start_buttons(struct table *table);
 void keep_first(struct table *table, unsigned tasks);
 unsigned task_count(const struct table *table);
 unsigned button_count(const struct table *table);
@@ -86,13 +84,17 @@ int say_refusal(FILE *to, const struct input *input, uint64_t result);
 int say_button(FILE *to, const struct input *input, const char *what, uint64_t result);
 int say_no_task(FILE *to, const struct table *table, uint32_t task, uint64_t result);
 
-/* Reports. */
+/* Reports. A check of a table may take long, and tells its progress. It is made of several, whose last one has the table's own budget. */
 void check_table(const struct table *table, int plainly, struct report *report);
+void check_once(const struct table *table, int plainly, struct report *report);
 uint64_t report_number(const struct report *report, const char *words);
 int report_passes(const struct report *report);
 int report_verdict(const struct report *report, const char *verdict);
 uint64_t report_quick(const struct report *report);
-uint64_t horizon_of(const struct table *table);
+struct measure {
+    uint64_t round, horizon;
+};
+struct measure measure_of(const struct table *table);
 unsigned long usual_slots(const struct table *table, unsigned long most);
 
 /* The interval of a late verdict asks for more slots than it has; report_excess tells whether there is one. */
@@ -155,8 +157,14 @@ int judge_log(const struct request *request);
 int draw(const struct request *request);
 int page(const struct request *request);
 
-/* Call these around what may take long: that many checks by the table's budget, and walks to an idle instant. */
-void begin_progress(const struct table *table, unsigned checks, unsigned walks, int plainly);
+/* From then on Ctrl-C ends the command, with what is known of its progress. */
+void stop_when_interrupted(void);
+
+/* Call begin and end around what may take long. In between tell how far it is, in words for now and for when it is stopped, and how many
+ * seconds are left; 0: nobody knows. */
+void begin_progress(void);
+void tell_progress(const char *now, const char *stopped, double seconds_left);
 void end_progress(void);
+double seconds_now(void);
 
 #endif

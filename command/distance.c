@@ -19,19 +19,20 @@ static const char *pass_words(int buttons)
 static const char *none_words(int buttons, int tasks)
 {
     if (!buttons) {
-        return "distance none\n\nno answer: if all tasks came as close behind one of them as each does by itself, a job would be late; "
-               "they\nmay never do so all at once, and the table may pass or be late";
+        return "distance none\n\nno answer: the test starts each task in turn at 0 and releases every other task as soon after it as the "
+               "offsets\never allow, and one of these runs has a late job; the tasks may never come so all at once, and the table may\n"
+               "pass or be late";
     }
-    return tasks ? "distance none\n\nno answer: if all tasks came as close behind one of them as each does by itself, and all buttons with it, "
-                   "a job\nwould be late; they may never do so all at once, and no other test is for tables with buttons"
+    return tasks ? "distance none\n\nno answer: the test starts each task in turn at 0, with every button, and releases every other task as "
+                   "soon after\nit as the offsets ever allow, and one of these runs has a late job; they may never come so all at once, and no\n"
+                   "other test is for tables with buttons"
                  : "distance none\n\nnone: if all buttons are pressed at once, and again as soon as they may be, a job is late; of buttons "
                    "alone the\ntest is exact";
 }
 
 uint64_t ask_distance(const struct table *table)
 {
-    unsigned tasks = task_count(table) - button_count(table);
-    begin_progress(table, 0, tasks > 0 ? tasks : 1, 0);
+    begin_progress();
     uint64_t answer = yolizadwa_distance(table->file, table->len);
     end_progress();
     return answer;

@@ -13,9 +13,7 @@ int draw(const struct request *request)
     if (status != DONE) {
         return status;
     }
-    begin_progress(&table, 1, 0, 0);
     check_table(&table, 0, &report);
-    end_progress();
     take_verdict(&picture, &table, &report);
     trace_run(&picture, &table, request->early);
     picture.name = shown_name(request->files[0]);

@@ -27,7 +27,8 @@ static const char overview_end[] =
     "the least spacing of its presses; distance is the test for it.\n"
     "\n"
     "Ends with 0: passes, good, or done; 1: cannot be done; 2: refused; 3: late,\n"
-    "overload, or another log; 4: undecided, no answer, no easing, or a faulty log.\n";
+    "overload, or another log; 4: undecided, no answer, no easing, or a faulty log;\n"
+    "130: stopped by Ctrl-C. A test that takes long says on a terminal how far it is.\n";
 
 const char page_judge[] =
     "Prints the report on a table: tasks, load, the quick answer, horizon, verdict,\n"
@@ -53,13 +54,13 @@ const char page_quick[] =
 
 const char page_distance[] =
     "For tables that judge takes long over, and for tables with buttons. Each task in\n"
-    "turn is taken to start at 0, and every other as soon after it as its releases\n"
-    "ever come; each such run is looked at up to its first idle instant. distance\n"
-    "pass: every job is in time. distance overload: more slots are asked for than\n"
-    "there are. distance none: no answer, and judge is asked. It asks quick first:\n"
-    "wherever quick says pass, so does distance. It needs no budget and never says\n"
-    "late. With a load near 1 it may look, for each task, at as many slots as the\n"
-    "least common multiple of the periods has, and then judge is faster.\n"
+    "turn starts at 0, and every other task is released as soon after it as the\n"
+    "offsets ever allow; each such run is looked at up to its first idle instant.\n"
+    "distance pass: every job is in time. distance overload: more slots are asked for\n"
+    "than there are. distance none: no answer, and judge is asked. It asks quick\n"
+    "first: wherever quick says pass, so does distance. It needs no budget and never\n"
+    "says late. With a load near 1 it may look, for each task, at as many slots as\n"
+    "the least common multiple of the periods has, and then judge is faster.\n"
     "\n"
     "In each run every button comes at 0 too, and again as soon as it may. Then pass\n"
     "means: whenever the buttons are pressed, each at least its spacing apart, the\n"

@@ -20,9 +20,7 @@ int judge(const struct request *request)
     if (status != DONE) {
         return status;
     }
-    begin_progress(&table, 1, 0, request->plainly);
     check_table(&table, request->plainly, &report);
-    end_progress();
     fputs(report.text, stdout);
     status = verdict_status(&report);
     if (status != DONE) {

@@ -1,9 +1,6 @@
 /* The word largest: how far each cost may grow before the table no longer passes, by the library's answers alone. */
 #include "command.h"
 
-/* The most tests that one call makes. */
-enum { TESTS = 17 };
-
 static void print_heading(void)
 {
     printf("  task   cost  largest   more  deadline\n");
@@ -16,14 +13,23 @@ static void print_row(const struct table *table, unsigned number, uint64_t large
            task.deadline);
 }
 
+static void tell_tasks(unsigned done, unsigned all, double seconds)
+{
+    char words[64];
+    snprintf(words, sizeof words, "tasks done: %u of %u", done, all);
+    tell_progress(words, words, seconds / done * (all - done));
+}
+
 /* An answer that is no cost is the same for every task of the table, so the first one is enough. */
 uint64_t ask_largest(const struct table *table, uint32_t first, unsigned rows, uint64_t *told)
 {
     uint64_t answer = 0;
-    begin_progress(table, TESTS * rows, 0, 0);
+    double began = seconds_now();
+    begin_progress();
     for (unsigned row = 0; row < rows && answer < YOLIZADWA_LARGEST_OVERLOAD; row++) {
         answer = yolizadwa_largest(table->file, table->len, first + row);
         told[row] = answer;
+        tell_tasks(row + 1, rows, seconds_now() - began);
     }
     end_progress();
     return answer;
@@ -34,7 +40,7 @@ static int say_none(const struct table *table, uint64_t answer)
     if (answer == YOLIZADWA_LARGEST_UNDECIDED) {
         printf("largest undecided\n\nundecided: the budget, %" PRIu64 ", ended before it was known whether the table passes; the horizon, %" PRIu64 ", is\n"
                "always enough\n",
-               budget_of(table), horizon_of(table));
+               budget_of(table), measure_of(table).horizon);
         return UNDECIDED;
     }
     if (answer == YOLIZADWA_LARGEST_OVERLOAD) {

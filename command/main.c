@@ -61,6 +61,7 @@ static void outlive_readers(void)
 
 int main(int argc, char **argv)
 {
+    stop_when_interrupted();
     outlive_readers();
     keep_standard_files_apart();
     int status = obey(argv + (argc > 0));

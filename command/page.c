@@ -217,9 +217,7 @@ static int page_of_tasks(const char *name, const struct table *table)
     static struct picture picture;
     struct report report;
     uint64_t largest[YOLIZADWA_TASKS];
-    begin_progress(table, 1, 0, 0);
     check_table(table, 0, &report);
-    end_progress();
     int status = verdict_status(&report);
     if (status == DONE) {
         ask_largest(table, 0, task_count(table), largest);

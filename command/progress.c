@@ -1,139 +1,181 @@
-/* A call that takes long says on a terminal how long it has taken and about how long it may take. */
+/* On a terminal one line says how far a long call is. Ctrl-C ends the command at any time, inside a call of the library too. */
 #define _POSIX_C_SOURCE 200809L
 
 #include <errno.h>
 #include <signal.h>
+#include <string.h>
+#include <sys/time.h>
 #include <time.h>
 #include <unistd.h>
 
 #include "command.h"
 
-/* The probe takes no time to speak of, under the emulator too. */
-enum { PROBE_SLOTS = 200000, DIGITS = 20 };
+/* A tick is half a second. The line is as wide as this, and where Ctrl-C is pressed a terminal shows two signs behind it. */
+enum { TICKS_A_SECOND = 2, MICROSECONDS_A_TICK = 500000, WIDE = 70, ECHOED = 2, DIGITS = 20, MOST_SECONDS = 100000000 };
 
-static const char begins[] = "\rjudging: ";
-static volatile sig_atomic_t seconds, over = 1;
-static char outlook[64];
-static size_t outlook_length;
+#define STOPPED_WORDS "yolizadwa: stopped"
 
-/* Writes from the last digit backwards; tells where the number begins. */
-static char *digits_before(char *end, unsigned long number)
+/* What the signal handlers read. The texts are made anew only while both signals are held back. */
+static volatile sig_atomic_t ticks, ends_at, is_shown; /* ends_at: in ticks; 0: nobody knows */
+static char how_far[64], unit[16], parting[160] = STOPPED_WORDS "\n";
+
+static void hold_signals(sigset_t *kept)
 {
+    sigset_t both;
+    sigemptyset(&both);
+    sigaddset(&both, SIGALRM);
+    sigaddset(&both, SIGINT);
+    sigprocmask(SIG_BLOCK, &both, kept);
+}
+
+static void let_signals(const sigset_t *kept)
+{
+    sigprocmask(SIG_SETMASK, kept, NULL);
+}
+
+/* Handlers call this, so it may call write and not printf. What cannot be written stays unsaid. */
+static void say(const char *text, size_t length)
+{
+    while (length > 0) {
+        ssize_t wrote = write(STDERR_FILENO, text, length);
+        if (wrote > 0) {
+            text += wrote;
+            length -= (size_t)wrote;
+        } else if (wrote == 0 || errno != EINTR) {
+            return;
+        }
+    }
+}
+
+/* Puts a text into the line and tells where it ends, at most at the line's own end. */
+static char *put(char *at, const char *end, const char *text)
+{
+    while (at < end && *text != '\0') {
+        *at++ = *text++;
+    }
+    return at;
+}
+
+static char *put_seconds(char *at, const char *end, unsigned long seconds)
+{
+    char digits[DIGITS + 1], *first = digits + DIGITS;
+    *first = '\0';
     do {
-        *--end = (char)('0' + number % 10);
-        number /= 10;
-    } while (number > 0);
-    return end;
+        *--first = (char)('0' + seconds % 10);
+        seconds /= 10;
+    } while (seconds > 0);
+    return put(at, end, first);
 }
 
-static int tell_seconds(void)
+/* Those that are left, at least one, or if nobody knows those that have gone by; rounded up. */
+static unsigned long seconds_shown(void)
 {
-    char room[DIGITS], *number = digits_before(room + DIGITS, (unsigned long)seconds);
-    return write(STDERR_FILENO, begins, sizeof begins - 1) >= 0 &&
-           write(STDERR_FILENO, number, (size_t)(room + DIGITS - number)) >= 0 &&
-           write(STDERR_FILENO, outlook, outlook_length) >= 0;
+    int left = ends_at > ticks ? ends_at - ticks : 1;
+    return (unsigned long)((ends_at == 0 ? ticks : left) + TICKS_A_SECOND - 1) / TICKS_A_SECOND;
 }
 
-/* A signal handler may call write but not printf, and must leave errno to what it interrupts. */
-static void tell(int which)
+/* Interrupts anything, so errno is left as it was. */
+static void tick(int which)
 {
     int kept = errno;
+    char line[1 + WIDE], *at = line, *end = line + sizeof line;
     (void)which;
-    if (over) {
-        return;
-    }
-    seconds++;
-    if (tell_seconds()) {
-        alarm(1);
-    }
+    ticks++;
+    memset(line, ' ', sizeof line);
+    at = put(at, end, "\r");
+    at = put(at, end, how_far);
+    at = put_seconds(at, end, seconds_shown());
+    put(at, end, unit);
+    is_shown = 1;
+    say(line, sizeof line);
     errno = kept;
 }
 
-static double now(void)
+static void wipe(void)
+{
+    char line[1 + WIDE + ECHOED + 1];
+    memset(line, ' ', sizeof line);
+    line[0] = line[sizeof line - 1] = '\r';
+    if (is_shown) {
+        say(line, sizeof line);
+    }
+}
+
+/* No call of the library can be asked to end, so the handler ends the command. */
+static void stop(int which)
+{
+    (void)which;
+    wipe();
+    say(parting, strlen(parting));
+    _exit(STOPPED);
+}
+
+/* Who started the command so that Ctrl-C does not reach it meant that. */
+void stop_when_interrupted(void)
+{
+    struct sigaction stopping = {.sa_handler = stop}, was;
+    sigemptyset(&stopping.sa_mask);
+    sigaddset(&stopping.sa_mask, SIGALRM);
+    if (sigaction(SIGINT, NULL, &was) == 0 && was.sa_handler != SIG_IGN) {
+        sigaction(SIGINT, &stopping, NULL);
+    }
+}
+
+static void set_timer(long microseconds)
+{
+    struct itimerval timer = {{0, microseconds}, {0, microseconds}};
+    setitimer(ITIMER_REAL, &timer, NULL);
+}
+
+/* Nothing is known yet, or no longer. */
+static void know_nothing(void)
+{
+    sigset_t kept;
+    hold_signals(&kept);
+    ticks = ends_at = is_shown = 0;
+    snprintf(how_far, sizeof how_far, "judging: ");
+    snprintf(unit, sizeof unit, " s");
+    snprintf(parting, sizeof parting, STOPPED_WORDS "\n");
+    let_signals(&kept);
+}
+
+/* Only a terminal is told, and only there is a timer set. */
+void begin_progress(void)
+{
+    struct sigaction ticking = {.sa_handler = tick, .sa_flags = SA_RESTART};
+    sigemptyset(&ticking.sa_mask);
+    know_nothing();
+    if (isatty(STDERR_FILENO)) {
+        sigaction(SIGALRM, &ticking, NULL);
+        set_timer(MICROSECONDS_A_TICK);
+    }
+}
+
+void tell_progress(const char *now, const char *stopped, double seconds_left)
+{
+    sigset_t kept;
+    double left = seconds_left < MOST_SECONDS ? seconds_left : MOST_SECONDS;
+    hold_signals(&kept);
+    ends_at = left > 0 ? ticks + (sig_atomic_t)(TICKS_A_SECOND * left) + 1 : 0;
+    snprintf(how_far, sizeof how_far, "judging: %s; %s", now, left > 0 ? "about " : "");
+    snprintf(unit, sizeof unit, "%s", left > 0 ? " s more" : " s");
+    snprintf(parting, sizeof parting, STOPPED_WORDS "; %s\n", stopped);
+    let_signals(&kept);
+}
+
+/* The handler of ticks stays: one on its way must not end the command. */
+void end_progress(void)
+{
+    if (isatty(STDERR_FILENO)) {
+        set_timer(0);
+        wipe();
+    }
+    know_nothing();
+}
+
+double seconds_now(void)
 {
     struct timespec time = {0, 0};
     clock_gettime(CLOCK_MONOTONIC, &time);
     return (double)time.tv_sec + (double)time.tv_nsec / 1e9;
-}
-
-static const double longest_round = 1e12;
-
-/* A walk to an idle instant ends by then, whatever the offsets: all costs at once, and what comes in while those are worked off. */
-static double walk_slots(const struct table *table, double round)
-{
-    double costs = 0, load = 0;
-    for (unsigned number = 0; number < task_count(table); number++) {
-        struct task task = task_at(table, number);
-        costs += (double)task.cost;
-        load += (double)task.cost / (double)task.period;
-    }
-    return load < 1 && costs / (1 - load) < round ? costs / (1 - load) : round;
-}
-
-static double largest_offset(const struct table *table)
-{
-    uint64_t largest = 0;
-    for (unsigned number = 0; number < task_count(table); number++) {
-        struct task task = task_at(table, number);
-        largest = task.offset > largest ? task.offset : largest;
-    }
-    return (double)largest;
-}
-
-/* A check by leaps ends with no job open a round after the largest offset; slot by slot it goes to the horizon. */
-static double check_slots(const struct table *table, double horizon, double round, int plainly)
-{
-    double end = plainly ? horizon : horizon - round + walk_slots(table, round);
-    double budget = (double)budget_of(table);
-    return budget < end ? budget : end;
-}
-
-/* Takes the time of a slot from a check of the first slots with costs of 1, and foretells nothing if even that would take long. */
-static void estimate(const struct table *table, unsigned checks, unsigned walks, int plainly)
-{
-    struct table probe = *table;
-    struct report report;
-    outlook_length = (size_t)snprintf(outlook, sizeof outlook, " s");
-    if (checks + walks == 0) {
-        return;
-    }
-    start_buttons(&probe);
-    lighten(&probe);
-    if (walk_slots(&probe, longest_round) > PROBE_SLOTS) {
-        return;
-    }
-    replace_budget(&probe, PROBE_SLOTS);
-    double began = now();
-    check_table(&probe, plainly, &report);
-    double took = now() - began;
-    double horizon = (double)report_number(&report, "\nhorizon "), settled = (double)report_number(&report, "\nsettled ");
-    double round = (horizon - largest_offset(&probe)) / 2;
-    double slots = checks * check_slots(table, horizon, round, plainly) + walks * walk_slots(table, round);
-    double expected = settled > 0 ? took * slots / settled : 0;
-    outlook_length = (size_t)snprintf(outlook, sizeof outlook, " s; it may take about %.0f s", expected < 1 ? 1 : expected);
-}
-
-/* The outlook must be made before the handler reads it. */
-void begin_progress(const struct table *table, unsigned checks, unsigned walks, int plainly)
-{
-    struct sigaction telling = {.sa_handler = tell, .sa_flags = SA_RESTART};
-    sigemptyset(&telling.sa_mask);
-    if (isatty(STDERR_FILENO)) {
-        estimate(table, checks, walks, plainly);
-        seconds = 0;
-        over = 0;
-        sigaction(SIGALRM, &telling, NULL);
-        alarm(1);
-    }
-}
-
-/* The handler stays: an alarm on its way must not end the command. */
-void end_progress(void)
-{
-    over = 1;
-    alarm(0);
-    if (seconds > 0) {
-        int shown = (int)(sizeof begins - 2 + outlook_length) + columns_for((uint64_t)seconds);
-        fprintf(stderr, "\r%*s\r", shown, "");
-    }
 }

@@ -17,7 +17,7 @@ int quick(const struct request *request)
     if (status != DONE) {
         return status;
     }
-    begin_progress(&table, 0, 0, 0);
+    begin_progress();
     uint64_t answer = yolizadwa_quick(table.file, table.len);
     end_progress();
     fputs(quick_words(answer), stdout);

@@ -4,7 +4,7 @@
 
 #include "command.h"
 
-void check_table(const struct table *table, int plainly, struct report *report)
+void check_once(const struct table *table, int plainly, struct report *report)
 {
     uint8_t *text = (uint8_t *)report->text;
     report->length = plainly ? yolizadwa_check_plainly(table->file, table->len, text, YOLIZADWA_REPORT_BYTES)
@@ -61,11 +61,18 @@ static void word_late(const struct report *report, struct sentence *sentence)
     }
 }
 
+/* Tells whether the report has a load: how many slots are asked for in how many. */
+static int report_load(const struct report *report, uint64_t *asked, uint64_t *round)
+{
+    const char *line = strstr(report->text, "\nload ");
+    *asked = *round = 0;
+    return line != NULL && sscanf(line, "\nload %" SCNu64 "/%" SCNu64, asked, round) == 2;
+}
+
 static void word_overload(const struct report *report, struct sentence *sentence)
 {
-    uint64_t asked = 0, round = 0;
-    const char *line = strstr(report->text, "\nload ");
-    if (line != NULL && sscanf(line, "\nload %" SCNu64 "/%" SCNu64, &asked, &round) == 2) {
+    uint64_t asked, round;
+    if (report_load(report, &asked, &round)) {
         snprintf(sentence->text, sizeof sentence->text,
                  "overload: the jobs ask for %" PRIu64 " slots in every %" PRIu64 ", so some are late sooner or later", asked, round);
     }
@@ -101,20 +108,24 @@ void word_verdict(const struct table *table, const struct report *report, struct
     }
 }
 
-/* The horizon depends on neither costs nor budget, so the check is of some that need no walk. */
-uint64_t horizon_of(const struct table *table)
+/* Round and horizon depend on neither costs nor budget, so the check is of some that need no walk. */
+struct measure measure_of(const struct table *table)
 {
     struct table full = *table;
     struct report report;
+    struct measure measure;
+    uint64_t asked;
     overload(&full);
     replace_budget(&full, 1);
-    check_table(&full, 0, &report);
-    return report_number(&report, "\nhorizon ");
+    check_once(&full, 0, &report);
+    measure.horizon = report_number(&report, "\nhorizon ");
+    report_load(&report, &asked, &measure.round);
+    return measure;
 }
 
 /* Longer or shorter runs than these are not good to look at. */
 unsigned long usual_slots(const struct table *table, unsigned long most)
 {
-    uint64_t horizon = horizon_of(table);
+    uint64_t horizon = measure_of(table).horizon;
     return horizon < LEAST_USUAL ? LEAST_USUAL : horizon > most ? most : (unsigned long)horizon;
 }

@@ -114,36 +114,12 @@ static uint8_t *number_of(struct table *table, unsigned task, unsigned which)
     return record + 1 + WORD_BYTES * (which - (unsigned)is_button(record));
 }
 
-/* Costs of 1 let the quick test end soon, as a rule. */
-void lighten(struct table *table)
-{
-    for (unsigned task = 0; task < task_count(table); task++) {
-        uint8_t *cost = number_of(table, task, 1);
-        memset(cost, 0, WORD_BYTES);
-        cost[0] = 1;
-    }
-}
-
-/* Whole periods as costs keep the horizon, and of two tasks or more the library then says overload without a walk. */
+/* Whole periods as costs keep round and horizon, and of two tasks or more the library then says overload without a walk. */
 void overload(struct table *table)
 {
     for (unsigned task = 0; task < task_count(table); task++) {
         memcpy(number_of(table, task, 1), number_of(table, task, 3), WORD_BYTES);
         memcpy(number_of(table, task, 2), number_of(table, task, 3), WORD_BYTES);
-    }
-}
-
-/* Makes every button a task that comes from 0 on, as often as the button may. */
-void start_buttons(struct table *table)
-{
-    for (unsigned number = 0; number < task_count(table); number++) {
-        size_t at = record_at(table, number);
-        if (is_button(table->file + at)) {
-            memmove(table->file + at + 1 + WORD_BYTES, table->file + at + 1, table->len - at - 1);
-            memset(table->file + at + 1, 0, WORD_BYTES);
-            table->file[at] = YOLIZADWA_KIND_TASK;
-            table->len += WORD_BYTES;
-        }
     }
 }
 

@@ -6,7 +6,8 @@
 static const struct word words[] = {
     {.name = "judge", .form = "judge FILE [--all] [--plainly]", .sums_up = "whether every job is in time",
      .files = 1, .options = {"--all", "--plainly"}, .act = judge, .page = page_judge},
-    {.name = "quick", .form = "quick FILE", .sums_up = "an answer at once, or none",
+    {.name = "quick", .form = "quick FILE", .sums_up = "an answer or none, in microseconds",
+     .sums_up_more = "for nearly every table",
      .files = 1, .act = quick, .page = page_quick},
     {.name = "distance", .form = "distance FILE", .sums_up = "an answer by the offsets and for", .sums_up_more = "buttons, or none",
      .files = 1, .act = distance, .page = page_distance},

@@ -11,6 +11,7 @@ mod command;
 mod document;
 mod easing;
 mod files;
+mod growing;
 mod inputs;
 mod judge;
 mod largest;
@@ -147,6 +148,8 @@ fn what_is_shipped(bench: &mut Bench, rng: &mut Rng) {
     pictures::at_random(bench, rng);
     pictures::at_the_edges(bench);
     pictures::of_anybody(bench);
+    growing::same_answers(bench, rng);
+    growing::by_interrupt(bench);
 }
 
 fn main() -> ExitCode {
