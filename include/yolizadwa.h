@@ -190,10 +190,15 @@ uint64_t yolizadwa_to_text(const uint8_t *file, size_t file_len, uint8_t *text, 
  * A camera runs a table only if the report has the line `verdict passes`, which yolizadwa_passes tells; only then does
  * what is said of the worst responses hold.
  *
- * The time needed grows with the releases and finishes up to `settled`, which is at most the budget and at most 2,000,000,060,000; for a
- * table that passes, only with those up to about the largest offset and one round. It also grows with the instants that the quick test
- * looks at (see yolizadwa_quick), which the budget does not bound. No call can stop a check.
- * The time of start and step does not depend on the budget.
+ * The budget bounds the time of a check, with one exception: the quick test takes no notice of it. The quick test takes microseconds for
+ * nearly every table, and on the slowest one that was found 44 s: see yolizadwa_quick. All else in a check takes a time that grows with the
+ * releases and finishes up to `settled`, which is at most the budget and at most 2,000,000,060,000; for a table that passes, only with those
+ * up to about the largest offset and one round. The time of start and step does not depend on the budget.
+ *
+ * No call can stop a check. Who wants to know how far it is, or to end it halfway, checks the same table with smaller budgets first: with an
+ * eighth of the horizon, or of the budget if that is smaller, before that with a sixty-fourth, and so on; and at last with its own. As long
+ * as a check says undecided, its budget is what is settled. Any other verdict is the same with every larger budget, and so is the whole
+ * report. All the smaller checks take a seventh of the time of the last one, or two sevenths if the table passes.
  *
  * Measured (docs/PERFORMANCE.md) on an Arm machine (Neoverse V1): a release or finish took 3 to 12 ns with up to 16 tasks and 16 to 18
  * with 32; the search for a late table's interval took at most three quarters of the time up to its deadline; a step took 0.5
@@ -245,9 +250,10 @@ uint64_t yolizadwa_passes(const uint8_t *report, size_t length);
  * that. The budget must stand in the file, 1 or more, and plays no other part.
  *
  * No slot is walked. What the jobs due by an instant ask for is one sum over the tasks. Mostly some ten instants are looked at, and none
- * where every deadline is the period. But with a load of 1, or very nearly so, and shorter deadlines they may be many, here and in a
- * check whatever its budget: with a round of 450,838,288,810 slots and 14 tasks with periods from 70 to 1,582 they took 51.5 s, the
- * longest that was measured (docs/PERFORMANCE.md). No call can stop it.
+ * where every deadline is the period. They may be many, here and in a check whatever its budget, only if the load is 1 to within a
+ * millionth, the round is long and some deadlines are shorter than their periods. The slowest table that was found has 14 tasks with
+ * periods from 70 to 1,582 and a round of 450,838,288,810 slots, and takes 44.3 s on an x86-64 machine (AMD EPYC; docs/PERFORMANCE.md). No
+ * call can stop it.
  *
  * Refusals: 20 to 27; 1 and 3 to 7; 11.
  */
