@@ -5,7 +5,8 @@
  * Before the check with the table's own budget come some with an eighth of its slots, a sixty-fourth and so on: together at most a seventh
  * of them, so that all take 8/7 of its time. (If the table is late, that check ends at the late deadline, and the others may take 8/7 of its
  * time themselves.) The first has so few slots that they take well under a millisecond, slot by slot with 32 tasks too. But every check
- * makes the quick test anew, whatever its budget: if that is slow, so is the first check, and then only the last one follows.
+ * makes the quick test anew, whatever its budget: if that is slow, so is the first check, and then only the last one follows. Such a table
+ * takes twice the time of its quick test.
  */
 enum { GROWTH = 8, FIRST_SLOTS = 4096 };
 static const double slow_seconds = 0.02;

@@ -20,11 +20,11 @@ static const char *none_words(int buttons, int tasks)
 {
     if (!buttons) {
         return "distance none\n\nno answer: the test starts each task in turn at 0 and releases every other task as soon after it as the "
-               "offsets\never allow, and one of these runs has a late job; the tasks may never come so all at once, and the table may\n"
+               "offsets\never allow, and one of these runs has a late job; the table may never have such a run, so it may\n"
                "pass or be late";
     }
     return tasks ? "distance none\n\nno answer: the test starts each task in turn at 0, with every button, and releases every other task as "
-                   "soon after\nit as the offsets ever allow, and one of these runs has a late job; they may never come so all at once, and no\n"
+                   "soon after\nit as the offsets ever allow, and one of these runs has a late job; the table may never have such a run, and no\n"
                    "other test is for tables with buttons"
                  : "distance none\n\nnone: if all buttons are pressed at once, and again as soon as they may be, a job is late; of buttons "
                    "alone the\ntest is exact";

@@ -84,7 +84,7 @@ static void put_table(const struct table *table, const struct report *report, co
     }
     printf("</tbody></table></div>\n<p>All numbers are slots. The budget is %" PRIu64 ".", budget_of(table));
     if (largest != NULL) {
-        printf(" No job of a task ends later than its worst response after its release. A task may take so many slots more, all\n"
+        printf(" No job of a task ends later than its worst response after its release. A task may take that many slots more, all\n"
                "others as they are; raise one cost, and ask again before the next.");
     }
     printf("</p></section>\n");
@@ -127,7 +127,7 @@ static const char proved_of_tasks[] =
 
 static const char proved_of_buttons[] =
     "<li>Proved by machine, for every table: the answer above is right, whenever the buttons are pressed. Where it is pass, some way to\n"
-    "give out the slots keeps every deadline; no dispatcher for buttons is part of what is proved.</li>\n"
+    "give out the slots keeps every deadline; no C call of the library gives out slots to buttons yet.</li>\n"
     "<li>Assumed of the camera: no job needs more slots than its cost, and no button is pressed twice within its spacing.</li>\n";
 
 static void put_assumed(const char *proved)
@@ -186,7 +186,7 @@ static void put_report(const struct table *table, const struct report *report)
     }
 }
 
-/* The distance test is all there is for buttons: no dispatcher gives them slots, and no report is made. */
+/* The distance test is all there is for buttons: no C call gives them slots yet, and no report is made. */
 static int page_with_buttons(const char *name, const struct table *table)
 {
     uint64_t answer = ask_distance(table);

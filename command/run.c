@@ -149,7 +149,7 @@ static void list_late(const struct chart *chart)
         printf("no job was closed late from 0 to %lu\n", chart->slots);
         return;
     }
-    printf("closed late, with so many slots missing:\n");
+    printf("closed late, with that many slots missing:\n");
     print_jobs_heading("missing", wide);
     for (unsigned long count = 0; count < listed; count++) {
         print_job(&chart->late[count], wide);

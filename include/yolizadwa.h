@@ -198,7 +198,9 @@ uint64_t yolizadwa_to_text(const uint8_t *file, size_t file_len, uint8_t *text, 
  * No call can stop a check. Who wants to know how far it is, or to end it halfway, checks the same table with smaller budgets first: with an
  * eighth of the horizon, or of the budget if that is smaller, before that with a sixty-fourth, and so on; and at last with its own. As long
  * as a check says undecided, its budget is what is settled. Any other verdict is the same with every larger budget, and so is the whole
- * report. All the smaller checks take a seventh of the time of the last one, or two sevenths if the table passes.
+ * report. All the smaller checks together take a seventh of the time of the last one, or two sevenths if the table passes. If the table is
+ * late, the last check ends at the late deadline, and the smaller ones may take up to eight sevenths of its time. Each check repeats the
+ * quick test.
  *
  * Measured (docs/PERFORMANCE.md) on an Arm machine (Neoverse V1): a release or finish took 3 to 12 ns with up to 16 tasks and 16 to 18
  * with 32; the search for a late table's interval took at most three quarters of the time up to its deadline; a step took 0.5

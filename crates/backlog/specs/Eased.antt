@@ -20,6 +20,7 @@ use Rattle.backlog.specs.Passes.{never-of-passed, passes-iff}
 -- An eased task eased again, and so a table: easings may follow one another.
 task-again : (a b c : Task) → EasedTask a b → EasedTask b c → EasedTask a c
 task-again a b c p q = record {
+  same-sort = q .same-sort ∙ p .same-sort;
   same-offset = q .same-offset ∙ p .same-offset;
   same-period = q .same-period ∙ p .same-period;
   lower-cost = omega (arith, p .lower-cost, q .lower-cost);

@@ -12,18 +12,34 @@ use lib.Dec.{T, leb, ltb, eqb}
 use Rattle.values.specs.declared.Task.{Task}
 use Rattle.values.specs.declared.Table.{Table}
 use Rattle.values.specs.declared.Easing.{Easing}
-use Rattle.model.specs.Notation.{bit, some}
-use Rattle.model.specs.Tasks.{task}
+use Rattle.model.specs.Notation.{not, bit, some}
+use Rattle.model.specs.Tasks.{task, isButton}
 use Rattle.model.specs.Easing.{EasedTask, Eased, eases, searchedFrom, keptAs, unmatched, keptSet, easing, firstTasks}
 use Rattle.counting.specs.Count.{tests, and-iff, eq→eqb}
 use Rattle.counting.specs.Search.{first-from, first-before, first-passes}
 use Rattle.counting.specs.Bits.{bits-at}
 
+-- Two tests that are alike.
+pub alike-iff : (p q : Bool) → T (cond p q (not q)) ↔ (q ≡ p)
+alike-iff true true = (λ h. refl, λ e. tt)
+alike-iff true false = (λ h. absurd h, λ e. let z : _≡_ {A = ℕ} 0 1 = cc in absurd (omega arith))
+alike-iff false true = (λ h. absurd h, λ e. let z : _≡_ {A = ℕ} 0 1 = cc in absurd (omega arith))
+alike-iff false false = (λ h. refl, λ e. tt)
+
 -- The test of a task is the statement.
 pub eases-iff : (a b : Task) → T (eases a b) ↔ EasedTask a b
 eases-iff a b = (
-  λ h. let w = simp and-iff at h in record { same-offset = omega tests; same-period = omega tests; lower-cost = omega tests; longer-deadline = omega tests },
-  λ e. simp and-iff (eq→eqb _ _ (e .same-offset), (eq→eqb _ _ (e .same-period), (omega (tests, e .lower-cost), omega (tests, e .longer-deadline)))),
+  λ h. let w = simp and-iff at h in record {
+    same-sort = alike-iff (isButton a) (isButton b) .0 (w .0);
+    same-offset = omega tests;
+    same-period = omega tests;
+    lower-cost = omega tests;
+    longer-deadline = omega tests;
+  },
+  λ e. simp and-iff (
+    alike-iff (isButton a) (isButton b) .1 (e .same-sort),
+    (eq→eqb _ _ (e .same-offset), (eq→eqb _ _ (e .same-period), (omega (tests, e .lower-cost), omega (tests, e .longer-deadline)))),
+  ),
 )
 
 module _ (before after : Table) where

@@ -105,7 +105,7 @@ b-eased = record {
   in-order = λ i k l m. omega arith;
   of-before = λ i l. omega arith;
   each = λ i. elim i [
-    | zero ↦ λ l. record { same-offset = refl; same-period = refl; lower-cost = lit≤ tt; longer-deadline = lit≤ tt }
+    | zero ↦ λ l. record { same-sort = refl; same-offset = refl; same-period = refl; lower-cost = lit≤ tt; longer-deadline = lit≤ tt }
     | suc k ↦ λ l. absurd (omega arith)
   ];
 }
@@ -115,8 +115,8 @@ b-lowered : Lowered table-b (tableOf (of 8 4 7 15 ∷ of 0 2 2 5 ∷ []))
 b-lowered = record {
   same-count = refl;
   each = λ i. elim i [
-    | zero ↦ λ l. record { same-offset = refl; same-period = refl; lower-cost = lit≤ tt; longer-deadline = lit≤ tt }
-    | suc k ↦ λ l. record { same-offset = refl; same-period = refl; lower-cost = omega arith; longer-deadline = omega arith }
+    | zero ↦ λ l. record { same-sort = refl; same-offset = refl; same-period = refl; lower-cost = lit≤ tt; longer-deadline = lit≤ tt }
+    | suc k ↦ λ l. record { same-sort = refl; same-offset = refl; same-period = refl; lower-cost = omega arith; longer-deadline = omega arith }
   ];
   same-deadline = λ i. elim i [ zero ↦ λ l. refl | suc k ↦ λ l. refl ];
 }

@@ -12,9 +12,11 @@ use lib.ListN.{length, List·getD-eq-default}
 use lib.Seq.{getD-set-same, getD-set-other, set-getD}
 use Rattle.values.specs.declared.Task.{Task}
 use Rattle.values.specs.declared.Table.{Table}
+use Rattle.values.specs.declared.Measure.{Measure}
+use Rattle.values.specs.declared.Judgement.{Judgement}
 use Rattle.values.specs.declared.Verdict.{Verdict}
 use Rattle.model.specs.Notation.{last}
-use Rattle.model.specs.Tasks.{noTask, task, offset, round, load, horizon}
+use Rattle.model.specs.Tasks.{noTask, task, offset, round, load, horizon, judged}
 use Rattle.model.specs.Verdict.{verdict}
 use Rattle.model.specs.Easing.{EasedTask, Lowered}
 use Rattle.model.specs.Largest.{costing, withCost, isPass, passesWith, largestCost}
@@ -22,7 +24,7 @@ use Rattle.counting.specs.Sum.{sum-by}
 use Rattle.counting.specs.Search.{last-lt, last-is, last-passes, last-behind}
 use Rattle.wellformed.specs.Ranges.{InRange, Ranged}
 use Rattle.wellformed.specs.Round.{round-same}
-use Rattle.wellformed.specs.WellFormed.{Buttonless, horizon-same}
+use Rattle.wellformed.specs.WellFormed.{Buttonless, horizon-same, judged-iff}
 use Rattle.backlog.specs.Verdicts.{passes-needed-iff}
 use Rattle.backlog.specs.Needed.{none-within}
 use Rattle.backlog.specs.Eased.{eased-passes, eased-of-lowered}
@@ -100,6 +102,20 @@ module _ (t : Table) (r : Ranged t) (i : ℕ) (l : i < t .count) where
           → task (withCost t i c) k .cost * (round t / task (withCost t i c) k .period) ≡ task t k .cost * (round t / task t k .period)
       other k m h = rw (with-other c k h)
 
+  -- With more of that cost, up to the deadline, the table is well-formed too: its load grows, and nothing else.
+  pub well-with : (m : Measure) → judged t ≡ Judgement.WellFormed m → (c : ℕ) → task t i .cost ≤ c → c ≤ task t i .deadline
+      → judged (withCost t i c) ≡ Judgement.WellFormed
+      (record { round = m .round; load = m .load + (c - task t i .cost) * (m .round / task t i .period); horizon = m .horizon })
+  well-with m w c a b =
+      let (_, h, same, none) = judged-iff t m .0 w in
+      let some : 1 ≤ c = omega (arith, r .each i l .cost-pos) in
+      judged-iff (withCost t i c) _ .1 (
+        ranged-with c some b,
+        omega (arith, round-with c some b),
+        rw (same, round-with c some b, load-with c a b, horizon-with c some b),
+        buttonless-with c none,
+      )
+
   -- With less of that cost, costs alone are lowered.
   pub lowered-with : (less more : ℕ) → less ≤ more → Lowered (withCost t i more) (withCost t i less)
   lowered-with less more h = record { same-count = refl; each = λ k m. each k (ℕ-discrete k i); same-deadline = λ k m. same k (ℕ-discrete k i) }
@@ -107,8 +123,10 @@ module _ (t : Table) (r : Ranged t) (i : ℕ) (l : i < t .count) where
       each : (k : ℕ) → Dec (k ≡ i) → EasedTask (task (withCost t i more) k) (task (withCost t i less) k)
       each k (no e) =
           rw (with-other less k e, with-other more k e)
-          (record { same-offset = refl; same-period = refl; lower-cost = omega arith; longer-deadline = omega arith })
-      each k (yes e) = rw (e, with-own less, with-own more) (record { same-offset = refl; same-period = refl; lower-cost = h; longer-deadline = omega arith })
+          (record { same-sort = refl; same-offset = refl; same-period = refl; lower-cost = omega arith; longer-deadline = omega arith })
+      each k (yes e) =
+          rw (e, with-own less, with-own more)
+          (record { same-sort = refl; same-offset = refl; same-period = refl; lower-cost = h; longer-deadline = omega arith })
 
       same : (k : ℕ) → Dec (k ≡ i) → task (withCost t i less) k .deadline ≡ task (withCost t i more) k .deadline
       same k (no e) = rw (with-other less k e, with-other more k e)

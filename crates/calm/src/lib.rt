@@ -42,7 +42,6 @@ pub fn is_calm(t: Table) -> bool
     requires { ⌜ round t ≤ roundLimit ⌝ }
     ensures { λ r. ⌜ r ≡ calm t ⌝ }
 {
-    let reached = leaps::walk(t, ROUND_LIMIT, 0, true);
-    let here = reached.here;
-    0 < here.idle
+    let course = leaping::search(t, ROUND_LIMIT, 0, true);
+    0 < course.idle
 }

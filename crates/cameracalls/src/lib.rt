@@ -27,15 +27,18 @@ fn quiet() -> Turn
 
 fn start_table(table: Table, state: &mut [u8]) -> u64
     requires { ⌜ length (now state) ≡ stateBytes ⌝ }
-    ensures { λ r. ⌜ exported r (now (state .exit)) ≡ startWritten (now (state .entry)) (started table .state) (started table .admission) ⌝ }
+    ensures { λ r. ⌜ exported r (now (state .exit)) ≡ (let s = started table (stateIn (now (state .entry))) in startWritten (now (state .entry))
+        (s .state) (s .admission)) ⌝ }
 {
-    let started = Dispatcher::start(table);
+    let held = statebuffer::state_in(state);
+    let dispatcher = Dispatcher { state: held };
+    let started = dispatcher.start(table);
     let admission = started.admission;
     match admission {
         Admission::Refused(why) => numbers::refusal_number(why),
         Admission::Admitted => {
-            let dispatcher = started.dispatcher;
-            let first = dispatcher.state;
+            let begun = started.dispatcher;
+            let first = begun.state;
             statebuffer::write_state(state, first, quiet());
             0
         }
@@ -66,7 +69,8 @@ fn said_done(done: u32) -> bool
 
 fn step_table(table: Table, state: &mut [u8], done: u32) -> u64
     requires { ⌜ length (now state) ≡ stateBytes ⌝ }
-    ensures { λ r. ⌜ exported r (now (state .exit)) ≡ (let s = stepped table (stateIn (now (state .entry))) (not (eqb done 0)) in stepWritten (now (state .entry)) (s .state) (s .answer)) ⌝ }
+    ensures { λ r. ⌜ exported r (now (state .exit)) ≡ (let s = stepped table (stateIn (now (state .entry))) (not (eqb done 0)) in stepWritten
+        (now (state .entry)) (s .state) (s .answer)) ⌝ }
 {
     let held = statebuffer::state_in(state);
     let dispatcher = Dispatcher { state: held };

@@ -48,7 +48,8 @@ fn check_table(t: Table, budget: u64, buffer: &mut [u8], plainly: bool) -> u64
 
 fn check_file(file: &[u8], buffer: &mut [u8], plainly: bool) -> u64
     requires { ⌜ reportBytes ≤ length (now buffer) ⌝ }
-    ensures { λ r. ⌜ FileExported (now (buffer .entry)) (fileRead (now (file .entry))) (exported r (now (buffer .exit))) (fileRead (now (file .entry)) .admission) ⌝ }
+    ensures { λ r. ⌜ FileExported (now (buffer .entry)) (fileRead (now (file .entry))) (exported r (now (buffer .exit)))
+        (fileRead (now (file .entry)) .admission) ⌝ }
 {
     let form = tablefile::form_of(file);
     let admission = form.admission;

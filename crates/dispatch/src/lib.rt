@@ -45,32 +45,23 @@ pub struct Stepped {
 }
 
 impl Dispatcher {
-    pub fn start(t: Table) -> Started
-        ensures { λ r. ⌜ startedOf r ≡ started t ⌝ }
+    // A refusal hands the state back as it came, here and by a step.
+    pub fn start(self, t: Table) -> Started
+        ensures { λ r. ⌜ startedOf r ≡ started t (self .state) ⌝ }
     {
-        let left = [0u32; TASK_LIMIT];
-        let given = [0u64; TASK_LIMIT];
         match table::judge(t) {
             Judgement::Refused(refusal) => Started {
                 admission: Admission::Refused(refusal),
-                dispatcher: Dispatcher {
-                    state: State {
-                        wait: [0u32; TASK_LIMIT],
-                        left,
-                        last: 0,
-                        given,
-                        empty: 0,
-                    },
-                },
+                dispatcher: self,
             },
             Judgement::WellFormed(_) => Started {
                 admission: Admission::Admitted,
                 dispatcher: Dispatcher {
                     state: State {
                         wait: slots::offsets(t),
-                        left,
+                        left: [0u32; TASK_LIMIT],
                         last: NO_TASK,
-                        given,
+                        given: [0u64; TASK_LIMIT],
                         empty: 0,
                     },
                 },
@@ -78,7 +69,6 @@ impl Dispatcher {
         }
     }
 
-    // A refused step hands the state back as it came.
     pub fn step(self, t: Table, done: bool) -> Stepped
         ensures { λ r. ⌜ steppedOf r ≡ stepped t (self .state) done ⌝ }
     {
@@ -143,7 +133,8 @@ fn step_taken(
     done: bool,
 ) -> Stepped
     requires { ⌜ ((t : Table) × Unpacked t (now period) (now cost) (now slack) (now rank) n × Unrefused t d) ⌝ }
-    ensures { λ r. ⌜ ((t : Table) → Unpacked t (now (period .entry)) (now (cost .entry)) (now (slack .entry)) (now (rank .entry)) n → Unrefused t d → steppedOf r ≡ taken t d done) ⌝ }
+    ensures { λ r. ⌜ ((t : Table) → Unpacked t (now (period .entry)) (now (cost .entry)) (now (slack .entry)) (now (rank .entry)) n → Unrefused t d
+        → steppedOf r ≡ taken t d done) ⌝ }
 {
     let wait = d.wait;
     let left = d.left;
@@ -187,8 +178,11 @@ pub fn advance(
     n: usize,
     done: bool,
 ) -> Moved
-    requires { ⌜ ((t : Table) × (given : List ℕ) × (empty : ℕ) × Unpacked t (now period) (now cost) (now slack) (now rank) n × Unrefused t (stateWith wait left last given empty)) ⌝ }
-    ensures { λ r. ⌜ ((t : Table) (given : List ℕ) (empty : ℕ) → Unpacked t (now (period .entry)) (now (cost .entry)) (now (slack .entry)) (now (rank .entry)) n → Unrefused t (stateWith wait left last given empty) → Advanced t (stateWith wait left last given empty) done r) ⌝ }
+    requires { ⌜ ((t : Table) × (given : List ℕ) × (empty : ℕ) × Unpacked t (now period) (now cost) (now slack) (now rank) n
+        × Unrefused t (stateWith wait left last given empty)) ⌝ }
+    ensures { λ r. ⌜ ((t : Table) (given : List ℕ) (empty : ℕ)
+        → Unpacked t (now (period .entry)) (now (cost .entry)) (now (slack .entry)) (now (rank .entry)) n
+        → Unrefused t (stateWith wait left last given empty) → Advanced t (stateWith wait left last given empty) done r) ⌝ }
 {
     let mut next = wait;
     let mut open = after_report(left, last, done);

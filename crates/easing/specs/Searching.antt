@@ -1,6 +1,6 @@
 -- What the search for the kept tasks has found before its turn i, and what is told where it ends.
-use mathlib.Core.Path.{_≡_, refl, sym, _∙_}
-use mathlib.Core.Bool.{Bool, true, false}
+use mathlib.Core.Path.{_≡_, refl, sym, subst, _∙_}
+use mathlib.Core.Bool.{Bool, true, false, cond, not}
 use Prim.Native.Nat.{ℕ, _+_, _^_, _≤_, _<_}
 use native.Mathlib.Decide.{ℕ-discrete}
 use native.Mathlib.Numerals.{add-one}
@@ -12,12 +12,12 @@ use Rattle.values.specs.declared.Task.{Task}
 use Rattle.values.specs.declared.Table.{Table}
 use Rattle.values.specs.declared.Easing.{Easing}
 use Rattle.model.specs.Notation.{some, bits}
-use Rattle.model.specs.Tasks.{task}
+use Rattle.model.specs.Tasks.{task, isButton, offset}
 use Rattle.model.specs.Easing.{EasedTask, eases, nextEased, searchedFrom, keptAs, unmatched, keptSet, easing}
 use Rattle.counting.specs.Count.{tests, is-true, is-false, some-iff, same-test, bit-yes, eq→eqb}
 use Rattle.counting.specs.Search.{first-is, first-none}
 use Rattle.counting.specs.Bits.{bits-none, bits-more, bits-lt, bits-eq, bits-past}
-use Rattle.backlog.specs.FirstChoice.{eases-iff, from-le, behind}
+use Rattle.backlog.specs.FirstChoice.{alike-iff, eases-iff, from-le, behind}
 
 -- Task k is one that the first i tasks were found to be.
 abbrev pub foundBy : Table → Table → ℕ → ℕ → Bool
@@ -29,12 +29,21 @@ pub record Searching (before after : Table) (i kept from : ℕ) : Type 0 where
   pub all : (j : ℕ) → j < i → keptAs before after j < before .count
   pub kept-is : kept ≡ bits (foundBy before after i) from
 
--- The test of a task by its four comparisons.
+-- The test of a task by its comparisons.
 pub not-eased : (a b : Task) → (EasedTask a b → ⊥) → false ≡ eases a b
 not-eased a b h = sym (is-false (eases a b) (λ x. h (eases-iff a b .0 x)))
 
-pub is-eased : (a b : Task) → EasedTask a b → true ≡ eases a b
-is-eased a b e = sym (is-true (eases a b) (eases-iff a b .1 e))
+-- The sort is looked at last.
+pub eased-by : (a b : Task) (same : Bool) → same ≡ cond (isButton a) (isButton b) (not (isButton b)) → offset b ≡ offset a → b .period ≡ a .period
+    → b .cost ≤ a .cost → a .deadline ≤ b .deadline → same ≡ eases a b
+eased-by a b true e o p c d = sym (is-true (eases a b) (eases-iff a b .1 (record {
+  same-sort = alike-iff (isButton a) (isButton b) .0 (subst T e tt);
+  same-offset = o;
+  same-period = p;
+  lower-cost = c;
+  longer-deadline = d;
+})))
+eased-by a b false e o p c d = not-eased a b (λ k. subst T (sym e) (alike-iff (isButton a) (isButton b) .1 (k .same-sort)))
 
 module _ (before after : Table) where
   pub begin : Searching before after 0 0 0

@@ -1,11 +1,23 @@
 // Whether one table is an easing of another: each of its tasks is looked for behind what the one before it was found to be.
 ghost use mathlib.Core.Path.{_≡_};
+ghost use mathlib.Core.Bool.{cond, not};
 ghost use Prim.Native.Nat.{_+_, _^_, _≤_, _<_};
 ghost use Rattle.model.specs.Limits.{taskLimit};
+ghost use Rattle.model.specs.Tasks.{isButton};
 ghost use Rattle.model.specs.Easing.{eases, nextEased, easing};
 use values::Easing;
 use values::Table;
 use values::Task;
+
+// A button is an easing of a button alone.
+fn same_sort(old: Task, new: Task) -> bool
+    ensures { λ r. ⌜ r ≡ cond (isButton old) (isButton new) (not (isButton new)) ⌝ }
+{
+    if sorts::is_button(old) {
+        return sorts::is_button(new);
+    }
+    !sorts::is_button(new)
+}
 
 fn is_eased(old: Task, new: Task) -> bool
     ensures { λ r. ⌜ r ≡ eases old new ⌝ }
@@ -22,7 +34,7 @@ fn is_eased(old: Task, new: Task) -> bool
     if new.deadline < old.deadline {
         return false;
     }
-    true
+    same_sort(old, new)
 }
 
 // The first task of the table, from this one on, of which k is the eased one, or the count.

@@ -105,3 +105,18 @@ pub fn test(t: Table, budget: u64, plainly: bool) -> Answer
         Judgement::WellFormed(m) => tested(t, m, budget, plainly),
     }
 }
+
+// What the two engines answer to one table and budget: the same.
+pub struct Twice {
+    pub leaping: Answer,
+    pub plain: Answer,
+}
+
+pub fn by_both_engines(t: Table, budget: u64) -> Twice
+    ensures { λ r. ⌜ Permitted t budget (r .leaping) × (r .leaping ≡ r .plain) ⌝ }
+{
+    Twice {
+        leaping: test(t, budget, false),
+        plain: test(t, budget, true),
+    }
+}

@@ -11,7 +11,7 @@ use Rattle.values.specs.declared.Verdict.{Verdict}
 use Rattle.values.specs.declared.Outcome.{Outcome}
 use Rattle.values.specs.declared.Answer.{Answer}
 use Rattle.model.specs.Limits.{taskLimit, roundLimit}
-use Rattle.model.specs.Tasks.{task, round, load, judged}
+use Rattle.model.specs.Tasks.{task, judged}
 use Rattle.model.specs.Verdict.{verdict, Permitted}
 use Rattle.model.specs.Patterns.{quickPass}
 use Rattle.model.specs.Largest.{withCost, passesWith, largestCost}
@@ -19,26 +19,12 @@ use Rattle.wellformed.specs.Ranges.{Ranged}
 use Rattle.wellformed.specs.Round.{load-le}
 use Rattle.wellformed.specs.WellFormed.{judged-iff}
 use Rattle.backlog.specs.AnswersSay.{answers-say}
-use Rattle.backlog.specs.Largest.{ranged-with, buttonless-with, round-with, horizon-with, load-with, own-passes, largest-is}
+use Rattle.backlog.specs.Largest.{ranged-with, round-with, load-with, own-passes, largest-is}
 use Rattle.patterns.specs.Quick.{quick-passes}
 
 -- A well-formed table keeps its ranges.
 pub ranged-of : (t : Table) (m : Measure) → judged t ≡ Judgement.WellFormed m → Ranged t
 ranged-of t m w = judged-iff t m .0 w .0
-
--- With more of one task's cost, up to its deadline, it is well-formed too: its load grows, and nothing else.
-pub well-with : (t : Table) (m : Measure) → judged t ≡ Judgement.WellFormed m → (i c : ℕ) → i < t .count → task t i .cost ≤ c
-    → c ≤ task t i .deadline → judged (withCost t i c) ≡ Judgement.WellFormed
-    (record { round = m .round; load = m .load + (c - task t i .cost) * (m .round / task t i .period); horizon = m .horizon })
-well-with t m w i c l a b =
-    let (r, h, same, none) = judged-iff t m .0 w in
-    let some : 1 ≤ c = omega (arith, r .each i l .cost-pos) in
-    judged-iff (withCost t i c) _ .1 (
-      ranged-with t r i l c some b,
-      omega (arith, round-with t r i l c some b),
-      rw (same, round-with t r i l c some b, load-with t r i l c a b, horizon-with t r i l c some b),
-      buttonless-with t r i l c none,
-    )
 
 -- The load with more of that cost is no large number.
 pub more-le : (t : Table) (m : Measure) → judged t ≡ Judgement.WellFormed m → (i c : ℕ) → i < t .count → task t i .cost ≤ c

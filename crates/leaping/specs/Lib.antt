@@ -1,2 +1,3 @@
 -- The search of the exact test by leaps.
 pub mod Start
+pub mod Ended

@@ -50,6 +50,12 @@ pub record Searching (t : Table) (to : ℕ) (queue : List ℕ) (jobs asked : ℕ
   taken : (i : ℕ) → i < t .count → J i < dueBy t to i → start ≤ release (task t i) (J i)
   none : (later : ℕ) → later < to → ((i j : ℕ) → i < t .count → J i ≡ suc j → release (task t i) j < later) → T (asksTooMuch t later to) → ⊥
 
+-- The job before a counted one, if there is one, is queued in its place: it is a period further from `to`.
+abbrev pub Requeued : ℕ → ℕ → ℕ → ℕ → List ℕ → ℕ → List ℕ → ℕ → Type 0
+Requeued to key period first queue jobs queue′ jobs′ =
+    (key / span + period + first ≤ to → (queue′ ≡ inserted queue (jobs - 1) (key + period * span)) × (jobs′ ≡ jobs))
+    × (to < key / span + period + first → (queue′ ≡ queue) × (jobs′ ≡ jobs - 1))
+
 module _ (t : Table) (r : Ranged t) (to : ℕ) where
   -- A job that is due by `to` is released before it.
   pub released-before : (i j : ℕ) → i < t .count → j < dueBy t to i → release (task t i) j < to
@@ -138,8 +144,8 @@ module _ (t : Table) (r : Ranged t) (to : ℕ) where
       length-is : key / span ≡ to - here
       length-is = ap (λ (x : ℕ). x / span) (first .3) ∙ entry-time t r _ i task-lt
 
-      pub length-le : key / span ≤ to
-      length-le = omega (arith, length-is)
+      pub length-in : (length : ℕ) → length ≡ key / span → (0 < length) × (length ≤ to)
+      length-in length e = (omega (arith, e, length-is, here-lt), omega (arith, e, length-is))
 
       -- No job that is not counted is released after it.
       latest : (k m : ℕ) → k < t .count → v .J k ≡ suc m → release (task t k) m ≤ here
@@ -169,14 +175,10 @@ module _ (t : Table) (r : Ranged t) (to : ℕ) where
 
       -- It asks too much: it is the largest such start.
       pub found : (length : ℕ) → length ≡ key / span → length < asked + task t i .cost
-          → (to - length < to) × (length ≤ to) × (to - (to - length) < demand t (to - length) to)
-          × ((later : ℕ) → to - length < later → later < to → T (asksTooMuch t later to) → ⊥)
+          → (length < demand t (to - length) to) × ((later : ℕ) → to - length < later → later < to → T (asksTooMuch t later to) → ⊥)
       found length e h =
-          let f : to - length ≡ here = omega (arith, e, length-is, here-lt) in
-          let g : to - here ≡ length = omega (arith, e, length-is) in (
-            omega (arith, here-lt),
-            omega (arith, g),
-            rw f (omega (arith, g, v .asks, counted-more, asks-least (but (v .J) i j) here counted-here)),
+          let f : to - length ≡ here = omega (arith, e, length-is, here-lt) in (
+            rw f (omega (arith, e, length-is, v .asks, counted-more, asks-least (but (v .J) i j) here counted-here)),
             λ later a b. v .none later b (λ k m l x. omega (arith, latest k m l x)),
           )
 
@@ -243,24 +245,22 @@ module _ (t : Table) (r : Ranged t) (to : ℕ) where
             | no q ↦ (let g = sym (but-other (v .J) i j k q) ∙ e in inr ((k, m, l, g, f), larger k m x l g f q))
           ]
 
-      -- The job before it, if there is one, is a period further from `to`.
-      pub goes-on : (length longer : ℕ) → length ≡ key / span → longer ≡ length + task t i .period → asked + task t i .cost ≤ length
-          → (longer + offset (task t i) ≤ to → jobs ≤ taskLimit → Searching t to (inserted queue (jobs - 1) (entry t longer i)) jobs (asked + task t i .cost))
-          × (to < longer + offset (task t i) → Searching t to queue (jobs - 1) (asked + task t i .cost))
-      goes-on length longer e f h = by j refl
+      pub goes-on : {queue′ : List ℕ} {jobs′ : ℕ} → asked + task t i .cost ≤ key / span → jobs ≤ taskLimit
+          → Requeued to key (task t i .period) (offset (task t i)) queue jobs queue′ jobs′ → Searching t to queue′ jobs′ (asked + task t i .cost)
+      goes-on {queue′} {jobs′} h few (later, first-one) = by j refl
         where
           fits′ : asked + task t i .cost ≤ to - here
-          fits′ = omega (arith, e, length-is)
+          fits′ = omega (arith, length-is)
 
-          by : (n : ℕ) → j ≡ n
-              → (longer + offset (task t i) ≤ to → jobs ≤ taskLimit → Searching t to (inserted queue (jobs - 1) (entry t longer i)) jobs
-              (asked + task t i .cost))
-              × (to < longer + offset (task t i) → Searching t to queue (jobs - 1) (asked + task t i .cost))
+          by : (n : ℕ) → j ≡ n → Searching t to queue′ jobs′ (asked + task t i .cost)
           by zero z =
-              (λ x few. absurd (omega (arith, e, length-is, here-lt, ap (release (task t i)) z, r .each i task-lt .period-pos)), λ x. onward fits′ (dropped z))
+              let (e, f) = first-one (omega (arith, length-is, here-lt, ap (release (task t i)) z, r .each i task-lt .period-pos)) in
+              rw (e, f) (onward fits′ (dropped z))
           by (suc n) z =
-              let g : longer ≡ to - release (task t i) n = omega (arith, e, f, length-is, here-lt, ap (release (task t i)) z) in
-              (λ x few. rw g (onward fits′ (moved n z few)), λ x. absurd (omega (arith, g, here-lt, ap (release (task t i)) z)))
+              let (e, f) = later (omega (arith, length-is, here-lt, ap (release (task t i)) z)) in
+              let g : key + task t i .period * span ≡ entry t (to - release (task t i) n) i = omega
+              (arith, first .3, here-lt, ap (release (task t i)) z) in
+              rw (e, f, g) (onward fits′ (moved n z few))
 
     -- What is counted is no more than `to`.
     pub asked-le : asked ≤ to

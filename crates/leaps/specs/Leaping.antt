@@ -1,16 +1,13 @@
--- A WALK BY LEAPS (`leaping-start`): what holds before each leap, from the start on, and where the walk is over.
+-- A WALK BY LEAPS (`leaping-start`): what holds before each leap, from the start on.
 use mathlib.Core.Path.{_≡_, sym, ap, _∙_}
-use mathlib.Core.Logic.{_⊎_}
 use mathlib.Core.List.{List}
-use mathlib.Core.Bool.{Bool, true, false}
+use mathlib.Core.Bool.{false}
 use Prim.Native.Nat.{ℕ, suc, _+_, _-_, _≤_, _<_}
 use native.Mathlib.Omega.{arith}
-use lib.Dec.{T}
 use lib.ListN.{replicate, length-replicate}
 use Rattle.values.specs.declared.Table.{Table}
 use Rattle.model.specs.Limits.{taskLimit}
 use Rattle.model.specs.Tasks.{task, round, load, offset}
-use Rattle.model.specs.Demand.{lateAt}
 use Rattle.model.specs.Dispatcher.{waitOf, leftOf, waitReleased, leftReleased}
 use Rattle.model.specs.History.{stateAtBy}
 use Rattle.counting.specs.Fill.{getD-same}
@@ -58,14 +55,6 @@ pub record Here (t : Table) (period cost deadline releases ready left worst : Li
   pub clear : Clear t (x .time)
   pub tally : Tally t (x .time) worst (x .idle)
   pub held : Held t (x .time) (waitOf (walked t (x .time))) (leftOf (walked t (x .time))) releases ready left (x .jobs)
-
--- Where a walk is over: at its end, at a late deadline, or, if it is asked for, once it has been idle.
-pub record Ended (t : Table) (end : ℕ) (idling : Bool) (x : Landed) (worst : List ℕ) : Type 0 where
-  pub upto : x .time ≤ end
-  pub clear : Clear t (x .time)
-  pub tally : Tally t (x .time) worst (x .idle)
-  pub late : x .late ≡ true → T (lateAt t (x .time))
-  pub ends : x .late ≡ false → ((x .time ≡ end) × Clear t (suc (x .time))) ⊎ ((idling ≡ true) × (0 < x .idle))
 
 module _ {t : Table} {period cost deadline releases ready left worst : List ℕ} {last end : ℕ} {x : Landed}
     (h : Here t period cost deadline releases ready left worst last end x) where

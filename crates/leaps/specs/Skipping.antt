@@ -4,7 +4,6 @@ use mathlib.Core.Logic.{_⊎_, inl, inr}
 use mathlib.Core.List.{List}
 use mathlib.Core.Bool.{Bool, true, false}
 use Prim.Native.Nat.{ℕ, suc, _+_, _-_, _≤_, _<_}
-use native.Mathlib.Nat.{le-refl}
 use native.Mathlib.Decide.{decLt}
 use native.Mathlib.Omega.{arith}
 use lib.Dec.{T, eqb}
@@ -25,23 +24,19 @@ use Rattle.patterns.specs.RoundAgain.{Rests}
 use Rattle.patterns.specs.LateAgain.{clear-ever}
 use Rattle.patterns.specs.WorstAgain.{worst-ever}
 use Rattle.walks.specs.Tally.{Tally, idle-is}
-use Rattle.leaps.specs.Landed.{overAt}
 use Rattle.leaps.specs.Turn.{Landing}
-use Rattle.leaps.specs.Leaping.{Ended}
 use Rattle.leaps.specs.declared.Landed.{Landed}
 
 -- By `again` a round has gone by since the last first release.
 abbrev pub Rounded : Table → ℕ → Type 0
 Rounded t again = (i : ℕ) → i < t .count → offset (task t i) + round t ≤ again
 
--- A walk that goes on is not over. One that stops is over, or has no job open at `again` or later.
-abbrev pub Stops : ℕ → Landed → Bool → Type 0
-Stops again x stopped = (stopped ≡ false → x .over ≡ false) × (stopped ≡ true → (x .over ≡ true) ⊎ ((x .jobs ≡ 0) × (again ≤ x .time)))
+-- Where a walk may stop: it is over, or no job is open at `again` or later.
+abbrev pub Stopped : ℕ → Landed → Type 0
+Stopped again x = (x .over ≡ true) ⊎ ((x .over ≡ false) × (x .jobs ≡ 0) × (again ≤ x .time))
 
--- A walk that is over, or was asked for an idle instant, stays where it stopped; any other is taken to its end.
-abbrev pub Skips : ℕ → Bool → Landed → Landed → Type 0
-Skips end idling x y =
-    ((x .over ≡ true) × (y ≡ x)) ⊎ ((x .over ≡ false) × (((idling ≡ true) × (y ≡ x)) ⊎ ((idling ≡ false) × (y ≡ overAt end 0 (x .idle) false))))
+abbrev pub Stops : ℕ → Landed → Bool → Type 0
+Stops again x stopped = (stopped ≡ false → x .over ≡ false) × (stopped ≡ true → Stopped again x)
 
 module _ (t : Table) (r : Ranged t) (light : load t ≤ round t) {n end : ℕ} {releases ready left worst : List ℕ} {x : Landed}
     (z : Landing t n end releases ready left worst x) where
@@ -58,7 +53,7 @@ module _ (t : Table) (r : Ranged t) (light : load t ≤ round t) {n end : ℕ} {
         ]
 
     -- So the instant is idle, and one has been found.
-    idle-found : 0 < x .idle
+    pub idle-found : 0 < x .idle
     idle-found =
         let idle = subst T (walk-idle-at t r (x .time) (z .clear))
         (every-iff (λ i. eqb (leftOf (walked t (x .time)) i) 0) (t .count) .1 (λ i l. eq→eqb (leftOf (walked t (x .time)) i) 0 (shut i l))) in
@@ -95,27 +90,7 @@ module _ (t : Table) (r : Ranged t) (light : load t ≤ round t) {n end : ℕ} {
             idles = z .tally .idles ∙ idle-is t (x .time) (omega (arith, later)) ∙ sym (idle-is t end (omega (arith, later, z .upto)));
           }
 
-  -- Where the walk has stopped, it has ended.
-  module _ {again : ℕ} {idling : Bool} (rounded : idling ≡ false → Rounded t again) where
-    over-ended : x .over ≡ true → Ended t end idling x worst
-    over-ended over = record { upto = z .upto; clear = z .clear; tally = z .tally; late = z .late; ends = λ g. inl (z .ends over g) }
-
-    idle-ended : x .over ≡ false → x .jobs ≡ 0 → idling ≡ true → Ended t end idling x worst
-    idle-ended on none asked = record { upto = z .upto; clear = z .clear; tally = z .tally; late = z .late; ends = λ g. inr (asked, idle-found on none) }
-
-    skip-ended : x .over ≡ false → x .jobs ≡ 0 → again ≤ x .time → idling ≡ false → Ended t end idling (overAt end 0 (x .idle) false) worst
-    skip-ended on none past asked =
-        let never = clear on none (rounded asked) past in
-        record {
-          upto = le-refl end;
-          clear = never end;
-          tally = tally on none (rounded asked) past;
-          late = λ g. absurd (subst T (sym g) tt);
-          ends = λ g. inl (refl, never (suc end));
-        }
-
-    pub skipped : (x .over ≡ true) ⊎ ((x .jobs ≡ 0) × (again ≤ x .time)) → {y : Landed} → Skips end idling x y → Ended t end idling y worst
-    skipped stopped (inl (over, e)) = rw e (over-ended over)
-    skipped (inl over) (inr (on, s)) = absurd (subst T (sym over ∙ on) tt)
-    skipped (inr (none, past)) (inr (on, inl (asked, e))) = rw e (idle-ended on none asked)
-    skipped (inr (none, past)) (inr (on, inr (asked, e))) = rw e (skip-ended on none past asked)
+  -- Where the walk stops and no deadline is late, it has seen all up to its end.
+  pub skipped : {again : ℕ} → Rounded t again → x .late ≡ false → Stopped again x → Tally t end worst (x .idle) × Clear t (suc end)
+  skipped rounded calm (inl over) = let (e, c) = z .ends over calm in (subst (λ (v : ℕ). Tally t v worst (x .idle)) e (z .tally), rw e at c)
+  skipped rounded calm (inr (on, none, past)) = (tally on none rounded past, clear on none rounded past (suc end))

@@ -1,4 +1,4 @@
-// A walk over a table from one release or finish to the next.
+// The leaps of a walk over a table, from one release or finish to the next.
 ghost use mathlib.Core.Path.{_≡_};
 ghost use mathlib.Core.Bool.{true, false, cond};
 ghost use Prim.Native.Nat.{_+_, _-_, _*_, _/_, _%_, _^_, _≤_, _<_};
@@ -6,10 +6,9 @@ ghost use lib.Dec.{leb};
 ghost use lib.ListN.{set};
 ghost use Rattle.values.specs.declared.Table.{Table};
 ghost use Rattle.model.specs.Limits.{taskLimit};
-ghost use Rattle.model.specs.Tasks.{task, offset, round, load};
+ghost use Rattle.model.specs.Tasks.{task, offset};
 ghost use Rattle.model.specs.Dispatcher.{waitReleased, leftReleased};
 ghost use Rattle.wellformed.specs.Ranges.{Ranged};
-ghost use Rattle.wellformed.specs.WellFormed.{horizonLimit};
 ghost use Rattle.backlog.specs.Walk.{walked};
 ghost use Rattle.backlog.specs.WalkWorst.{noted};
 ghost use Rattle.slots.specs.Slot.{at as entryAt};
@@ -18,10 +17,10 @@ ghost use Rattle.leaps.specs.Entry.{places, span, timeLimit};
 ghost use Rattle.leaps.specs.Queue.{Queue, inserted};
 ghost use Rattle.leaps.specs.Held.{Coming, Held};
 ghost use Rattle.leaps.specs.Columns.{columnsOf, Marked};
-ghost use Rattle.leaps.specs.Leaping.{Due, Ready, Here, Ended};
+ghost use Rattle.leaps.specs.Leaping.{Due, Ready, Here};
 ghost use Rattle.leaps.specs.Landed.{goingAt, overAt, restedAt, doneAt, nextLate};
 ghost use Rattle.leaps.specs.Turn.{Landing};
-ghost use Rattle.leaps.specs.Skipping.{Rounded, Stops, Skips};
+ghost use Rattle.leaps.specs.Skipping.{Stops};
 use slots::Numbers;
 use values::TASK_LIMIT;
 use values::Table;
@@ -104,7 +103,7 @@ pub fn unpack(t: Table) -> Columns
 }
 
 // The first release of each task.
-fn first_releases(t: Table, mark: &Times) -> Times
+pub fn first_releases(t: Table, mark: &Times) -> Times
     requires { ⌜ Ranged t ⌝ }
     requires { ⌜ Marked t (now mark) ⌝ }
     ensures { λ r. ⌜ Queue (Coming t 0 (λ i. offset (task t i))) r (t .count) ⌝ }
@@ -133,7 +132,9 @@ fn release(
 )
     requires { ⌜ (i < taskLimit) × (last < taskLimit) × (jobs < taskLimit) ⌝ }
     requires { ⌜ (at < timeLimit) × (entryAt (now period) i < 2 ^ 62) × (entryAt (now deadline) i < 2 ^ 62) ⌝ }
-    ensures { λ _. ⌜ (now (releases .exit) ≡ inserted (now (releases .entry)) last (at * span + entryAt (now (period .entry)) i)) × (now (ready .exit) ≡ inserted (now (ready .entry)) jobs (at * span + entryAt (now (deadline .entry)) i)) × (now (left .exit) ≡ set (now (left .entry)) i (entryAt (now (cost .entry)) i)) ⌝ }
+    ensures { λ _. ⌜ (now (releases .exit) ≡ inserted (now (releases .entry)) last (at * span + entryAt (now (period .entry)) i))
+        × (now (ready .exit) ≡ inserted (now (ready .entry)) jobs (at * span + entryAt (now (deadline .entry)) i))
+        × (now (left .exit) ≡ set (now (left .entry)) i (entryAt (now (cost .entry)) i)) ⌝ }
 {
     insert(releases, last, at * SPAN + period[i]);
     insert(ready, jobs, at * SPAN + deadline[i]);
@@ -153,7 +154,10 @@ fn release_all(
     opened: usize,
 ) -> usize
     requires { ⌜ ((t : Table) × Due t (now period) (now cost) (now deadline) (now releases) (now ready) (now left) last at opened) ⌝ }
-    ensures { λ r. ⌜ ((t : Table) → Due t (now (period .entry)) (now (cost .entry)) (now (deadline .entry)) (now (releases .entry)) (now (ready .entry)) (now (left .entry)) last at opened → Held t at (waitReleased t (walked t at) false) (leftReleased t (walked t at) false) (now (releases .exit)) (now (ready .exit)) (now (left .exit)) r) ⌝ }
+    ensures { λ r. ⌜ ((t : Table) → Due t (now (period .entry)) (now (cost .entry)) (now (deadline .entry)) (now (releases .entry))
+        (now (ready .entry)) (now (left .entry)) last at opened
+        → Held t at (waitReleased t (walked t at) false) (leftReleased t (walked t at) false) (now (releases .exit)) (now (ready .exit))
+        (now (left .exit)) r) ⌝ }
 {
     let mut jobs = opened;
     while time_of(releases[last]) == at {
@@ -184,7 +188,7 @@ pub struct Landed {
     pub late: bool,
 }
 
-fn going(time: u64, jobs: usize, idle: u64) -> Landed
+pub fn going(time: u64, jobs: usize, idle: u64) -> Landed
     ensures { λ r. ⌜ r ≡ goingAt time jobs idle ⌝ }
 {
     let over = false;
@@ -278,8 +282,11 @@ fn finish(
     jobs: usize,
     idle: u64,
 ) -> Landed
-    requires { ⌜ (i < taskLimit) × (jobs ≤ taskLimit) × (done ≤ due) × (due - done ≤ entryAt (now deadline) i / span) × (entryAt (now deadline) i / span < 2 ^ 32) ⌝ }
-    ensures { λ r. ⌜ (now (left .exit) ≡ set (now (left .entry)) i 0) × (now (worst .exit) ≡ noted (now (worst .entry)) i (entryAt (now (deadline .entry)) i / span - (due - done))) × (r ≡ doneAt done jobs idle (nextLate (now (ready .entry)) jobs due done)) ⌝ }
+    requires { ⌜ (i < taskLimit) × (jobs ≤ taskLimit) × (done ≤ due) × (due - done ≤ entryAt (now deadline) i / span)
+        × (entryAt (now deadline) i / span < 2 ^ 32) ⌝ }
+    ensures { λ r. ⌜ (now (left .exit) ≡ set (now (left .entry)) i 0)
+        × (now (worst .exit) ≡ noted (now (worst .entry)) i (entryAt (now (deadline .entry)) i / span - (due - done)))
+        × (r ≡ doneAt done jobs idle (nextLate (now (ready .entry)) jobs due done)) ⌝ }
 {
     left[i] = 0;
     note(worst, i, (time_of(deadline[i]) - (due - done)) as u32);
@@ -307,7 +314,9 @@ fn turn(
     idle: u64,
 ) -> Landed
     requires { ⌜ ((t : Table) × Ready t (now deadline) (now releases) (now ready) (now left) (now worst) last at end jobs idle) ⌝ }
-    ensures { λ r. ⌜ ((t : Table) → Ready t (now (deadline .entry)) (now (releases .entry)) (now (ready .entry)) (now (left .entry)) (now (worst .entry)) last at end jobs idle → Landing t at end (now (releases .entry)) (now (ready .entry)) (now (left .exit)) (now (worst .exit)) r) ⌝ }
+    ensures { λ r. ⌜ ((t : Table) → Ready t (now (deadline .entry)) (now (releases .entry)) (now (ready .entry)) (now (left .entry))
+        (now (worst .entry)) last at end jobs idle → Landing t at end (now (releases .entry)) (now (ready .entry)) (now (left .exit))
+        (now (worst .exit)) r) ⌝ }
 {
     let soon = time_of(releases[last]);
     if jobs == 0 {
@@ -337,7 +346,7 @@ fn turn(
 }
 
 // The releases of now, and the turn after them.
-fn leap(
+pub fn leap(
     period: &Times,
     cost: &Times,
     deadline: &Times,
@@ -350,7 +359,9 @@ fn leap(
     here: Landed,
 ) -> Landed
     requires { ⌜ ((t : Table) × Here t (now period) (now cost) (now deadline) (now releases) (now ready) (now left) (now worst) last end here) ⌝ }
-    ensures { λ r. ⌜ ((t : Table) → Here t (now (period .entry)) (now (cost .entry)) (now (deadline .entry)) (now (releases .entry)) (now (ready .entry)) (now (left .entry)) (now (worst .entry)) last end here → Landing t (here .time) end (now (releases .exit)) (now (ready .exit)) (now (left .exit)) (now (worst .exit)) r) ⌝ }
+    ensures { λ r. ⌜ ((t : Table) → Here t (now (period .entry)) (now (cost .entry)) (now (deadline .entry)) (now (releases .entry))
+        (now (ready .entry)) (now (left .entry)) (now (worst .entry)) last end here
+        → Landing t (here .time) end (now (releases .exit)) (now (ready .exit)) (now (left .exit)) (now (worst .exit)) r) ⌝ }
 {
     let at = here.time;
     let jobs = release_all(
@@ -379,7 +390,7 @@ fn leap(
 }
 
 // A walk stops where it is over, or where no job is open at `again` or later.
-fn stops(here: Landed, again: u64) -> bool
+pub fn stops(here: Landed, again: u64) -> bool
     ensures { λ r. ⌜ Stops again here r ⌝ }
 {
     if here.over {
@@ -392,63 +403,4 @@ fn stops(here: Landed, again: u64) -> bool
         return false;
     }
     true
-}
-
-// A walk that has seen all that follows is over at its end; one that was asked for an idle instant stays where it is.
-fn skip(here: Landed, end: u64, idling: bool) -> Landed
-    ensures { λ r. ⌜ Skips end idling here r ⌝ }
-{
-    if here.over {
-        return here;
-    }
-    if idling {
-        return here;
-    }
-    ended(end, 0, here.idle, false)
-}
-
-// Where a walk was over, and the worst responses that it has seen.
-pub struct Reached {
-    pub here: Landed,
-    pub worst: Numbers,
-}
-
-// From event to event, to the end or the first late deadline; with no job open at `again` or later it has seen all that it needs.
-pub fn walk(t: Table, end: u64, again: u64, idling: bool) -> Reached
-    requires { ⌜ Ranged t ⌝ }
-    requires { ⌜ load t ≤ round t ⌝ }
-    requires { ⌜ end ≤ horizonLimit ⌝ }
-    requires { ⌜ (idling ≡ false → Rounded t again) ⌝ }
-    ensures { λ r. ⌜ Ended t end idling (r .here) (r .worst) ⌝ }
-{
-    let last = t.count - 1;
-    let columns = unpack(t);
-    let period = columns.period;
-    let cost = columns.cost;
-    let deadline = columns.deadline;
-    let mark = columns.mark;
-    let mut releases = first_releases(t, &mark);
-    let mut ready = [0u64; TASK_LIMIT];
-    let mut left = [0u64; TASK_LIMIT];
-    let mut worst = [0u32; TASK_LIMIT];
-    let mut here = going(0, 0, 0);
-    loop {
-        here = leap(
-            &period,
-            &cost,
-            &deadline,
-            &mut releases,
-            &mut ready,
-            &mut left,
-            &mut worst,
-            last,
-            end,
-            here,
-        );
-        if stops(here, again) {
-            break;
-        }
-    }
-    let here = skip(here, end, idling);
-    Reached { here, worst }
 }

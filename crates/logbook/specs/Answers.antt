@@ -282,13 +282,13 @@ module _ (t : Table) (few : t .count ≤ taskLimit) (log : List ℕ) where
   found-iff f = (λ e. subst (Found t log) e (end-means t few log (readAll t (unread (startOf t)) log) (reads t few log)), found-only)
 
 -- The whole judge, on any pieces of a log and a well-formed table, gives an answer exactly where it is meant.
-pub judged-iff : (t : Table) (m : Measure) → judged t ≡ Judgement.WellFormed m → (pieces : List (List ℕ)) (f : Finding)
-    → (logJudged t pieces .log .found ≡ f) ↔ Found t (flatten pieces) f
-judged-iff t m well pieces f =
+pub judged-iff : (t : Table) (m : Measure) → judged t ≡ Judgement.WellFormed m → (l : Log) (pieces : List (List ℕ)) (f : Finding)
+    → (logJudged t l pieces .log .found ≡ f) ↔ Found t (flatten pieces) f
+judged-iff t m well l pieces f =
     (λ e. found-iff t few (flatten pieces) f .0 (sym same ∙ e), λ h. same ∙ found-only t few (flatten pieces) h)
   where
     few : t .count ≤ taskLimit
     few = well-formed t m well .ranged .few
 
-    same : logJudged t pieces .log .found ≡ answer t few (flatten pieces)
-    same = ap (λ (x : Fed). x .log .found) (judged-bytes t m well pieces)
+    same : logJudged t l pieces .log .found ≡ answer t few (flatten pieces)
+    same = ap (λ (x : Fed). x .log .found) (judged-bytes t m well l pieces)

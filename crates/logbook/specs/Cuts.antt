@@ -5,12 +5,13 @@ use Prim.Native.Nat.{ℕ}
 use native.Mathlib.Omega.{arith}
 use Rattle.values.specs.declared.Table.{Table}
 use Rattle.values.specs.declared.Measure.{Measure}
+use Rattle.values.specs.declared.Refusal.{Refusal}
 use Rattle.values.specs.declared.Judgement.{Judgement}
 use Rattle.values.specs.declared.Admission.{Admission}
 use Rattle.values.specs.declared.Finding.{Finding}
 use Rattle.model.specs.Limits.{taskLimit}
 use Rattle.model.specs.Tasks.{judged}
-use Rattle.model.specs.Dispatcher.{givenOf, slotCount, startOf, started}
+use Rattle.model.specs.Dispatcher.{givenOf, slotCount, admitted, startOf, started}
 use Rattle.model.specs.Log.{Log, Fed, readBy, readByte, readAll, closed, unread, logAdmitted, logStarted, onLog, fed, logFinished, feeds, logJudged}
 use Rattle.model.specs.LogMeaning.{Final}
 use Rattle.counting.specs.Fill.{getD-same}
@@ -103,11 +104,33 @@ module _ (t : Table) (m : Measure) (well : judged t ≡ Judgement.WellFormed m) 
       let f = fits-all t (well-formed t m well .ranged) (unread (startOf t)) start-fits s in
       log-admitted-iff t (readAll t (unread (startOf t)) s) (fits-sized f) .1 ((m, well), f)
 
-  -- The whole judge, from the bytes of the log.
-  pub judged-bytes : (pieces : List (List ℕ)) → logJudged t pieces
+  -- The whole judge, from the bytes of the log. What stood in the log before does not matter.
+  pub judged-bytes : (l : Log) (pieces : List (List ℕ)) → logJudged t l pieces
       ≡ record { admission = Admission.Admitted; log = closed (readAll t (unread (startOf t)) (flatten pieces)) }
   unfolding logStarted started logFinished fed readAll
-  judged-bytes pieces =
-      let l = unread (startOf t) in
-      let read : feeds t l pieces ≡ readAll t l (flatten pieces) = feeds-one t l pieces (fits-sized start-fits) ∙ rw (start-admitted []) refl in
+  judged-bytes l pieces =
+      let first = unread (startOf t) in
+      let read : feeds t first pieces ≡ readAll t first (flatten pieces) =
+      feeds-one t first pieces (fits-sized start-fits) ∙ rw (start-admitted []) refl in
       rw (well, read, start-admitted (flatten pieces))
+
+-- A refused table refuses each call, and hands the log back each time.
+feeds-refused : (t : Table) (l : Log) (r : Refusal) → judged t ≡ Judgement.Refused r → (pieces : List (List ℕ)) → feeds t l pieces ≡ l
+unfolding feeds fed logAdmitted admitted
+feeds-refused t l r e [] = refl
+feeds-refused t l r e (piece ∷ more) = rw e (feeds-refused t l r e more)
+
+start-refused : (t : Table) (l : Log) (r : Refusal) → judged t ≡ Judgement.Refused r → logStarted t l .log ≡ l
+unfolding logStarted started
+start-refused t l r e = rw e
+
+-- From a start two ways to cut the same bytes do the same, on every table.
+pub judged-alike : (t : Table) (l : Log) (p q : List (List ℕ)) → flatten p ≡ flatten q → logJudged t l p ≡ logJudged t l q
+judged-alike t l p q e = by (judged t) refl
+  where
+    alone : (r : Refusal) → judged t ≡ Judgement.Refused r → (pieces : List (List ℕ)) → logJudged t l pieces ≡ logFinished t l
+    alone r j pieces = ap (λ (k : Log). logFinished t (feeds t k pieces)) (start-refused t l r j) ∙ ap (logFinished t) (feeds-refused t l r j pieces)
+
+    by : (j : Judgement) → judged t ≡ j → logJudged t l p ≡ logJudged t l q
+    by (Judgement.Refused r) j = alone r j p ∙ sym (alone r j q)
+    by (Judgement.WellFormed m) j = judged-bytes t m j l p ∙ rw e (sym (judged-bytes t m j l q))

@@ -7,7 +7,7 @@ ghost use Rattle.values.specs.declared.Table.{Table};
 ghost use Rattle.values.specs.declared.Admission.{Admission};
 ghost use Rattle.values.specs.declared.Finding.{Finding};
 ghost use Rattle.model.specs.Limits.{taskLimit, logLimit};
-ghost use Rattle.model.specs.Log.{Log as LogState, logStarted, fed, logFinished, logAdmitted, atEnd, readAll};
+ghost use Rattle.model.specs.Log.{Log as LogState, unread, logStarted, fed, logFinished, logAdmitted, atEnd, readAll};
 ghost use Rattle.model.specs.LogMeaning.{Final};
 ghost use Rattle.dispatch.specs.Step.{Unpacked, stateWith};
 ghost use Rattle.logbook.specs.State.{joined, logStateOf, fedOf};
@@ -61,29 +61,29 @@ pub struct Fed {
 }
 
 impl Log {
-    pub fn start(t: Table) -> Fed
-        ensures { λ r. ⌜ fedOf r ≡ logStarted t ⌝ }
+    // A refusal hands the log back as it came, here and by a piece and the finish.
+    pub fn start(self, t: Table) -> Fed
+        ensures { λ r. ⌜ fedOf r ≡ logStarted t (logStateOf self) ⌝ }
     {
-        let started = Dispatcher::start(t);
+        let state = self.state;
+        let dispatcher = Dispatcher { state };
+        let started = dispatcher.start(t);
         let admission = started.admission;
-        let dispatcher = started.dispatcher;
-        let state = dispatcher.state;
-        Fed {
-            admission,
-            log: Log {
-                state,
-                reading: Reading {
-                    opened: false,
-                    done: false,
-                    slots: 0,
-                    bytes: 0,
-                    found: Finding::Nothing,
-                },
+        match admission {
+            Admission::Refused(why) => Fed {
+                admission: Admission::Refused(why),
+                log: self,
             },
+            Admission::Admitted => {
+                let first = started.dispatcher;
+                Fed {
+                    admission: Admission::Admitted,
+                    log: unread(first.state),
+                }
+            }
         }
     }
 
-    // A refused piece hands the log back as it came.
     pub fn feed(self, t: Table, piece: &[u8]) -> Fed
         ensures { λ r. ⌜ fedOf r ≡ fed t (logStateOf self) (now (piece .entry)) ⌝ }
     {
@@ -113,6 +113,22 @@ impl Log {
                 log: close(self),
             },
         }
+    }
+}
+
+// A log of which nothing is read.
+fn unread(state: State) -> Log
+    ensures { λ r. ⌜ logStateOf r ≡ unread state ⌝ }
+{
+    Log {
+        state,
+        reading: Reading {
+            opened: false,
+            done: false,
+            slots: 0,
+            bytes: 0,
+            found: Finding::Nothing,
+        },
     }
 }
 
@@ -215,7 +231,8 @@ fn read_blocks(
     piece: &[u8],
 ) -> Log
     requires { ⌜ ((t : Table) × Unpacked t (now period) (now cost) (now slack) (now rank) n × Readable t (logStateOf log)) ⌝ }
-    ensures { λ r. ⌜ ((t : Table) → Unpacked t (now (period .entry)) (now (cost .entry)) (now (slack .entry)) (now (rank .entry)) n → Readable t (logStateOf log) → logStateOf r ≡ readAll t (logStateOf log) (now (piece .entry))) ⌝ }
+    ensures { λ r. ⌜ ((t : Table) → Unpacked t (now (period .entry)) (now (cost .entry)) (now (slack .entry)) (now (rank .entry)) n
+        → Readable t (logStateOf log) → logStateOf r ≡ readAll t (logStateOf log) (now (piece .entry))) ⌝ }
 {
     let mut next = log;
     let mut at = 0;
@@ -278,9 +295,12 @@ fn read_in_place(
     to: usize,
 ) -> Run
     requires { do ⌜ (from ≤ to) × (to ≤ (← ⟦piece.len()⟧)) ⌝ }
-    requires { ⌜ ((t : Table) × (start : LogState) × Unpacked t (now period) (now cost) (now slack) (now rank) n × ReadTo t start (now piece) from (logStateOf log)) ⌝ }
+    requires { ⌜ ((t : Table) × (start : LogState) × Unpacked t (now period) (now cost) (now slack) (now rank) n
+        × ReadTo t start (now piece) from (logStateOf log)) ⌝ }
     ensures within { λ r. ⌜ r .at ≤ to ⌝ }
-    ensures read { λ r. ⌜ ((t : Table) (start : LogState) → Unpacked t (now (period .entry)) (now (cost .entry)) (now (slack .entry)) (now (rank .entry)) n → ReadTo t start (now (piece .entry)) from (logStateOf log) → ReadTo t start (now (piece .entry)) (r .at) (logStateOf (r .log))) ⌝ }
+    ensures read { λ r. ⌜ ((t : Table) (start : LogState) → Unpacked t (now (period .entry)) (now (cost .entry)) (now (slack .entry))
+        (now (rank .entry)) n → ReadTo t start (now (piece .entry)) from (logStateOf log)
+        → ReadTo t start (now (piece .entry)) (r .at) (logStateOf (r .log))) ⌝ }
 {
     let d = log.state;
     let mut wait = d.wait;
@@ -352,8 +372,10 @@ fn read_bytes(
     to: usize,
 ) -> Log
     requires { do ⌜ (from ≤ to) × (to ≤ (← ⟦piece.len()⟧)) ⌝ }
-    requires { ⌜ ((t : Table) × (start : LogState) × Unpacked t (now period) (now cost) (now slack) (now rank) n × ReadTo t start (now piece) from (logStateOf log)) ⌝ }
-    ensures { λ r. ⌜ ((t : Table) (start : LogState) → Unpacked t (now (period .entry)) (now (cost .entry)) (now (slack .entry)) (now (rank .entry)) n → ReadTo t start (now (piece .entry)) from (logStateOf log) → ReadTo t start (now (piece .entry)) to (logStateOf r)) ⌝ }
+    requires { ⌜ ((t : Table) × (start : LogState) × Unpacked t (now period) (now cost) (now slack) (now rank) n
+        × ReadTo t start (now piece) from (logStateOf log)) ⌝ }
+    ensures { λ r. ⌜ ((t : Table) (start : LogState) → Unpacked t (now (period .entry)) (now (cost .entry)) (now (slack .entry))
+        (now (rank .entry)) n → ReadTo t start (now (piece .entry)) from (logStateOf log) → ReadTo t start (now (piece .entry)) to (logStateOf r)) ⌝ }
 {
     let d = log.state;
     let mut wait = d.wait;

@@ -64,7 +64,8 @@ module _ (file : List ℕ) (t : Table) (m : Measure) (formed : formOf file .admi
 
   pub starts : (lent : List ℕ) → length lent ≡ logBytes → logStartExported file lent ≡ record { number = 0; buffer = logBufferOf (unread (startOf t)) }
   unfolding logStarted started
-  starts lent size = on-table logBytes file lent t (λ k. let f = logStarted k in logWritten lent (f .log) (f .admission)) formed held size ∙ rw well refl
+  starts lent size =
+      on-table logBytes file lent t (λ k. let f = logStarted k (logIn lent) in logWritten lent (f .log) (f .admission)) formed held size ∙ rw well refl
 
   pub feeds-on : (s piece : List ℕ) → logFeedExported file (logBufferOf (after s)) piece
       ≡ record { number = answerNumber (after (s ++ piece) .found); buffer = logBufferOf (after (s ++ piece)) }
@@ -92,12 +93,13 @@ module _ (file : List ℕ) (t : Table) (m : Measure) (formed : formOf file .admi
 
   -- IN ONE BUFFER: the whole judge through the exported calls returns the judge's answer, however the log is cut.
   pub judges : (lent : List ℕ) → length lent ≡ logBytes → (pieces : List (List ℕ))
-      → judgedIn file lent pieces ≡ record { number = answerNumber (logJudged t pieces .log .found); buffer = logBufferOf (logJudged t pieces .log) }
+      → judgedIn file lent pieces
+      ≡ record { number = answerNumber (logJudged t (logIn lent) pieces .log .found); buffer = logBufferOf (logJudged t (logIn lent) pieces .log) }
   unfolding readAll
   judges lent size pieces =
       ap (λ (e : Exported). logFinishExported file (feedsIn file (e .buffer) pieces)) (starts lent size)
       ∙ ap (logFinishExported file) (all-fed [] pieces) ∙ finishes (flatten pieces)
-      ∙ ap (λ (f : Fed). record { number = answerNumber (f .log .found); buffer = logBufferOf (f .log) }) (sym (judged-bytes t m well pieces))
+      ∙ ap (λ (f : Fed). record { number = answerNumber (f .log .found); buffer = logBufferOf (f .log) }) (sym (judged-bytes t m well (logIn lent) pieces))
 
 -- What is found so far is nothing, or has a number above 0.
 abbrev Numbered : Finding → Type 0
@@ -166,11 +168,11 @@ module _ (file buffer : List ℕ) where
   pub start-apart : Apart (λ n. n ≡ 0) buffer (logStartExported file buffer)
   unfolding logStarted started
   start-apart =
-      on-file (λ n. n ≡ 0) (λ t. let f = logStarted t in logWritten buffer (f .log) (f .admission))
+      on-file (λ n. n ≡ 0) (λ t. let f = logStarted t (logIn buffer) in logWritten buffer (f .log) (f .admission))
       (by (formOf file .table) (judged (formOf file .table)) (judged-tellable (formOf file .table)) (judged-below (formOf file .table)))
     where
-      by : (t : Table) (j : Judgement) → JudgementTellable j → JudgedBelow j → let s = startJudged t j in Apart (λ n. n ≡ 0) buffer
-          (logWritten buffer (unread (s .state)) (s .admission))
+      by : (t : Table) (j : Judgement) → JudgementTellable j → JudgedBelow j → let s = startJudged t (logIn buffer .state) j in
+          let f = onLog (logIn buffer) (unread (startOf t)) (s .admission) in Apart (λ n. n ≡ 0) buffer (logWritten buffer (f .log) (f .admission))
       by t (Judgement.Refused r) n b = inr (r, refl, n, omega (arith, n .1))
       by t (Judgement.WellFormed m) n b = inl refl
 

@@ -37,7 +37,8 @@ pub fn log_start(file: &[u8], state: &mut [u8]) -> u64
         Admission::Refused(why) => numbers::refusal_number(why),
         Admission::Admitted => {
             let table = form.table;
-            log_told(Log::start(table), state)
+            let log = logbuffer::log_in(state);
+            log_told(log.start(table), state)
         }
     }
 }

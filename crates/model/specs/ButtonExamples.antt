@@ -149,7 +149,7 @@ buttons-weigh = (refl, refl, refl)
 only-periodic :
     (quickAnswer table-shutter ≡ QuickAnswer.Refused (refusal 11 2))
     × (costAnswer table-shutter 9 1000 ≡ LargestCost.Refused (refusal 11 2))
-    × (started table-shutter .admission ≡ at 11 2)
+    × (started table-shutter (startOf table-shutter) .admission ≡ at 11 2)
     × (stepped table-shutter (uncounted (padded 99 []) (padded 9 []) 99) false .answer
     ≡ SlotAnswer.Refused (refusal 11 2))
     × (easedExported file-b file-shutter ≡ 4 * (65536 * 11 + 2) + 3)
@@ -187,7 +187,7 @@ taken owner untaken d =
 -- At the start the shutter may be pressed: its job comes, and the lens, which is due sooner, has the slot.
 -- A press in the next slot is too early; one of the lens, a periodic task, and one of no task are never taken.
 press-taken :
-    (startedMixed camera ≡ record { admission = Admission.Admitted; state = startOf camera })
+    (startedMixed camera (once (9 ∷ 4 ∷ 19 ∷ 39 ∷ []) (1 ∷ [])) ≡ record { admission = Admission.Admitted; state = startOf camera })
     × (steppedPressed camera (startOf camera) false 8
     ≡ taken 0 0 (once (9 ∷ 4 ∷ 19 ∷ 39 ∷ []) (1 ∷ 0 ∷ 4 ∷ 3 ∷ [])))
     × (steppedPressed camera (startOf camera) false 0

@@ -64,7 +64,6 @@ unfoldable pub admitted : Table → State → Admission
 admitted t d = admittedBy t d (judged t)
 
 -- At the start the waits are the offsets, no job is open, no task ran last and no slot is counted.
--- A refused start hands out zeros.
 unfoldable pub startOf : Table → State
 startOf t =
     record {
@@ -75,22 +74,13 @@ startOf t =
       empty = 0;
     }
 
-abbrev pub zeros : State
-zeros =
-    record {
-      wait = replicate taskLimit 0;
-      left = replicate taskLimit 0;
-      last = 0;
-      given = replicate taskLimit 0;
-      empty = 0;
-    }
+-- A refused start hands the state back as it came.
+abbrev pub startJudged : Table → State → Judgement → Started
+startJudged t d (Judgement.Refused r) = record { admission = Admission.Refused r; state = d }
+startJudged t d (Judgement.WellFormed m) = record { admission = Admission.Admitted; state = startOf t }
 
-abbrev pub startJudged : Table → Judgement → Started
-startJudged t (Judgement.Refused r) = record { admission = Admission.Refused r; state = zeros }
-startJudged t (Judgement.WellFormed m) = record { admission = Admission.Admitted; state = startOf t }
-
-unfoldable pub started : Table → Started
-started t = startJudged t (judged t)
+unfoldable pub started : Table → State → Started
+started t d = startJudged t d (judged t)
 
 module _ (t : Table) (d : State) (done : Bool) where
   -- Rule 1: a done report closes the open job of the task that ran last.

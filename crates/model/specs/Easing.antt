@@ -1,14 +1,15 @@
 -- What may be eased in a table (T-11): costs lowered, deadlines lengthened, tasks left out, and all of that together;
 -- and what is told of two tables.
-use Rattle.model.specs.Notation.{List, _≡_, Bool, cond, _&&_, ℕ, zero, suc, _+_, _-_, _*_, _≤_, _<_, leb, ltb}
+use Rattle.model.specs.Notation.{List, _≡_, Bool, cond, not, _&&_, ℕ, zero, suc, _+_, _-_, _*_, _≤_, _<_, leb, ltb}
 use Rattle.model.specs.Notation.{eqb, some, first, bits}
 use Rattle.model.specs.Values.{Task, Table, Easing, Admission}
-use Rattle.model.specs.Tasks.{task, offset}
+use Rattle.model.specs.Tasks.{task, isButton, offset}
 use Rattle.model.specs.TableFile.{periodicFrom}
 use Rattle.model.specs.Report.{refusalNumber}
 
--- A periodic task eased: it is released as before, costs no more, and is due no earlier.
+-- A task eased: it is of the same sort, is released as before, costs no more, and is due no earlier.
 pub record EasedTask (before after : Task) : Type 0 where
+  pub same-sort : isButton after ≡ isButton before
   pub same-offset : offset after ≡ offset before
   pub same-period : after .period ≡ before .period
   pub lower-cost : after .cost ≤ before .cost
@@ -31,8 +32,8 @@ pub record Lowered (before after : Table) : Type 0 where
 -- The test of a task: it is the other, eased.
 abbrev pub eases : Task → Task → Bool
 eases before after =
-    eqb (offset after) (offset before) && (eqb (after .period) (before .period)
-    && (leb (after .cost) (before .cost) && leb (before .deadline) (after .deadline)))
+    cond (isButton before) (isButton after) (not (isButton after)) && (eqb (offset after) (offset before) && (eqb (after .period) (before .period)
+    && (leb (after .cost) (before .cost) && leb (before .deadline) (after .deadline))))
 
 -- The first task of the table, from this one on, of which k is the eased one, or the count.
 abbrev pub nextEased : Table → Task → ℕ → ℕ

@@ -181,10 +181,10 @@ measures = (refl, refl, refl)
 
 -- Of a verdict, a test, a judgement and a file; of a step, here for none, with the tasks 1 and 2 closed late.
 said :
-    (map verdictSaid (Verdict.Overload ∷ Verdict.Undecided ∷ Verdict.Late 0 7 9 ∷ Verdict.Passes ∷ [])
-    ≡ (1 ∷ []) ∷ (2 ∷ []) ∷ (3 ∷ 0 ∷ 7 ∷ 9 ∷ []) ∷ (4 ∷ []) ∷ [])
-    × (map outcomeSaid (Outcome.Refused (refusal 5 1) ∷ Outcome.Tested (Verdict.Late 0 7 9) ∷ [])
-    ≡ (5 ∷ 1 ∷ []) ∷ (3 ∷ 0 ∷ 7 ∷ 9 ∷ []) ∷ [])
+    (map (λ v. verdictSaid v 8 2 (7 ∷ 6 ∷ [])) (Verdict.Overload ∷ Verdict.Undecided ∷ Verdict.Late 0 7 9 ∷ Verdict.Passes ∷ [])
+    ≡ (1 ∷ 8 ∷ []) ∷ (2 ∷ 8 ∷ []) ∷ (3 ∷ 8 ∷ 0 ∷ 7 ∷ 9 ∷ []) ∷ (4 ∷ 8 ∷ 2 ∷ 7 ∷ 6 ∷ []) ∷ [])
+    × (map (λ o. outcomeSaid o 7 0 []) (Outcome.Refused (refusal 5 1) ∷ Outcome.Tested (Verdict.Late 0 7 9) ∷ [])
+    ≡ (5 ∷ 1 ∷ []) ∷ (0 ∷ 3 ∷ 7 ∷ 0 ∷ 7 ∷ 9 ∷ []) ∷ [])
     × (map judgementSaid (refuse 5 1 ∷ Judgement.WellFormed (measured 15 11 38) ∷ [])
     ≡ (5 ∷ 1 ∷ []) ∷ (0 ∷ 15 ∷ 11 ∷ 38 ∷ []) ∷ [])
     × (map admissionSaid (at 21 9 ∷ Admission.Admitted ∷ []) ≡ (21 ∷ 9 ∷ []) ∷ (0 ∷ []) ∷ [])

@@ -4,7 +4,7 @@ use Rattle.model.specs.Notation.{List, [], _∷_, _++_, Bool, true, fals
 use Rattle.model.specs.Notation.{ltb, eqb}
 use Rattle.model.specs.Values.{Table, Admission, Finding, refusal}
 use Rattle.model.specs.Limits.{taskLimit, logLimit, countPlace}
-use Rattle.model.specs.Dispatcher.{State, slotCount, admitted, started, ownerNow, after}
+use Rattle.model.specs.Dispatcher.{State, slotCount, admitted, startOf, started, ownerNow, after}
 use Rattle.model.specs.History.{ownerAt}
 
 -- What the judge keeps between pieces: a dispatcher's state; whether a record of kind 16 is open, whose task number is
@@ -116,18 +116,18 @@ logAdmitted t l = logAdmittedBy t l (admitted t (l .state))
 abbrev pub unread : State → Log
 unread d = record { state = d; opened = false; done = false; slots = 0; bytes = 0; found = Finding.Nothing }
 
--- What each of the three calls says and leaves: a start on any table,
--- and a piece and the finish on any table and any log. A refusal hands the log back as it came.
+-- What each of the three calls says and leaves, of any table and any log: a start, a piece and the finish.
+-- A refusal hands the log back as it came.
 pub record Fed : Type 0 where
   pub admission : Admission
   pub log : Log
 
-unfoldable pub logStarted : Table → Fed
-logStarted t = record { admission = started t .admission; log = unread (started t .state) }
-
 abbrev pub onLog : Log → Log → Admission → Fed
 onLog l next (Admission.Refused r) = record { admission = Admission.Refused r; log = l }
 onLog l next Admission.Admitted = record { admission = Admission.Admitted; log = next }
+
+unfoldable pub logStarted : Table → Log → Fed
+logStarted t l = onLog l (unread (startOf t)) (started t (l .state) .admission)
 
 unfoldable pub fed : Table → Log → List ℕ → Fed
 fed t l piece = onLog l (readAll t l piece) (logAdmitted t l)
@@ -141,8 +141,8 @@ feeds t l [] = l
 feeds t l (piece ∷ more) = feeds t (fed t l piece .log) more
 
 -- The whole judge: started, given the pieces, and finished. The answer is what is then found.
-abbrev pub logJudged : Table → List (List ℕ) → Fed
-logJudged t pieces = logFinished t (feeds t (logStarted t .log) pieces)
+abbrev pub logJudged : Table → Log → List (List ℕ) → Fed
+logJudged t l pieces = logFinished t (feeds t (logStarted t l .log) pieces)
 
 -- What a camera writes of a slot's owner, and of a done report.
 abbrev pub slotRecord : ℕ → List ℕ

@@ -58,7 +58,7 @@ logWritten buffer l Admission.Admitted = record { number = answerNumber (l .foun
 -- the state with its places of 8 up to the last.
 abbrev pub logStartExported : List ℕ → List ℕ → Exported
 logStartExported file buffer =
-    onFile logBytes file buffer (λ t. let f = logStarted t in logWritten buffer (f .log) (f .admission))
+    onFile logBytes file buffer (λ t. let f = logStarted t (logIn buffer) in logWritten buffer (f .log) (f .admission))
 
 abbrev pub logFeedExported : List ℕ → List ℕ → List ℕ → Exported
 logFeedExported file buffer piece =

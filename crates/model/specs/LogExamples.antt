@@ -26,7 +26,7 @@ limits = refl
 
 -- What is said of a log that is handed over in these pieces.
 said : Table → List (List ℕ) → List ℕ
-said t pieces = findingSaid (logJudged t pieces .log .found)
+said t pieces = findingSaid (logJudged t (unread (startOf t)) pieces .log .found)
 
 -- Good: g with task 0 done after one slot, whole and cut anywhere; a report after the last slot;
 -- one about an empty slot; no slot at all.

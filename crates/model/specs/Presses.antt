@@ -12,8 +12,8 @@ use Rattle.model.specs.Dispatcher.{State, Started, waitOf, slotCount, ad
 use Rattle.model.specs.Dispatcher.{waitCome, leftCome, earliest, slotGiven, slotTold}
 
 -- A start on any table of both sorts; a button may be pressed at once. When a state belongs to such a table.
-unfoldable pub startedMixed : Table → Started
-startedMixed t = startJudged t (judgedMixed t)
+unfoldable pub startedMixed : Table → State → Started
+startedMixed t d = startJudged t d (judgedMixed t)
 
 unfoldable pub admittedMixed : Table → State → Admission
 admittedMixed t d = admittedBy t d (judgedMixed t)

@@ -68,7 +68,7 @@ onFile bytes file buffer go =
 -- The one permitted result of each on any file and any buffer; a done report is any number but 0.
 abbrev pub startExported : List ℕ → List ℕ → Exported
 startExported file buffer =
-    onFile stateBytes file buffer (λ t. startWritten buffer (started t .state) (started t .admission))
+    onFile stateBytes file buffer (λ t. let s = started t (stateIn buffer) in startWritten buffer (s .state) (s .admission))
 
 abbrev pub stepExported : List ℕ → List ℕ → ℕ → Exported
 stepExported file buffer done =

@@ -56,11 +56,12 @@ closings :
 unfolding turnBy startOf ownerNowBy choose fill bits sum count first
 closings = (refl, refl, refl)
 
--- A start on a table: the waits are the offsets; a refused start; a step taken.
+-- A start on a table: the waits are the offsets; a refused start hands back what it was given; a step taken.
 starts :
-    (started table-b
+    (started table-b (startOf table-g)
     ≡ record { admission = Admission.Admitted; state = uncounted (padded 0 (8 ∷ [])) (padded 0 []) taskLimit })
-    × (started (tableOf []) ≡ record { admission = at 1 0; state = uncounted (padded 0 []) (padded 0 []) 0 })
+    × (started (tableOf []) (uncounted (padded 7 []) (padded 0 []) 9)
+    ≡ record { admission = at 1 0; state = uncounted (padded 7 []) (padded 0 []) 9 })
     × (stepped table-g (startOf table-g) false .answer
     ≡ SlotAnswer.Slot (record { owner = 0; late = 0; closed = 0; lowest = taskLimit }))
 unfolding started startOf steppedBy admitted slotCount turnBy ownerNowBy choose fill bits firstStrange judged

@@ -23,12 +23,13 @@ pub use Rattle.values.specs.declared.Turn.{Turn}
 pub use Rattle.values.specs.declared.SlotAnswer.{SlotAnswer}
 pub use Rattle.values.specs.declared.Finding.{Finding}
 
--- A verdict: its number in the order in which they are said, and the interval and demand of a late one.
-abbrev pub verdictSaid : Verdict → List ℕ
-verdictSaid Verdict.Overload = 1 ∷ []
-verdictSaid Verdict.Undecided = 2 ∷ []
-verdictSaid (Verdict.Late from to demand) = 3 ∷ from ∷ to ∷ demand ∷ []
-verdictSaid Verdict.Passes = 4 ∷ []
+-- A verdict: its number in the order in which they are said, and the slots that are settled; then the interval and demand
+-- of a late one, or of one that passes the first idle instant and the worst responses.
+abbrev pub verdictSaid : Verdict → ℕ → ℕ → List ℕ → List ℕ
+verdictSaid Verdict.Overload settled idle worst = 1 ∷ settled ∷ []
+verdictSaid Verdict.Undecided settled idle worst = 2 ∷ settled ∷ []
+verdictSaid (Verdict.Late from to demand) settled idle worst = 3 ∷ settled ∷ from ∷ to ∷ demand ∷ []
+verdictSaid Verdict.Passes settled idle worst = 4 ∷ settled ∷ idle ∷ worst
 
 -- A refusal: its number and its place.
 abbrev pub refusal : ℕ → ℕ → Refusal
@@ -37,12 +38,15 @@ refusal n p = record { number = n; place = p }
 abbrev pub refusalSaid : Refusal → List ℕ
 refusalSaid r = r .number ∷ r .place ∷ []
 
--- Of the test: a refusal, of two entries, or a verdict, of one or four. Of a table's judge: a refusal,
--- or 0 with H, load and horizon.
-abbrev pub outcomeSaid : Outcome → List ℕ
-outcomeSaid (Outcome.Refused r) = refusalSaid r
-outcomeSaid (Outcome.Tested v) = verdictSaid v
+-- The whole answer of the test: a refusal, or 0 and a verdict.
+abbrev pub outcomeSaid : Outcome → ℕ → ℕ → List ℕ → List ℕ
+outcomeSaid (Outcome.Refused r) settled idle worst = refusalSaid r
+outcomeSaid (Outcome.Tested v) settled idle worst = 0 ∷ verdictSaid v settled idle worst
 
+abbrev pub answerSaid : Answer → List ℕ
+answerSaid a = outcomeSaid (a .outcome) (a .settled) (a .idle) (a .worst)
+
+-- Of a table's judge: a refusal, or 0 with H, load and horizon.
 abbrev pub judgementSaid : Judgement → List ℕ
 judgementSaid (Judgement.Refused r) = refusalSaid r
 judgementSaid (Judgement.WellFormed m) = 0 ∷ m .round ∷ m .load ∷ m .horizon ∷ []

@@ -21,9 +21,9 @@ use Rattle.wellformed.specs.WellFormed.{Buttonless, judged-same, well-mixed}
 use Rattle.backlog.specs.Coming.{owner-same, after-same}
 
 module _ (t : Table) (none : Buttonless t) where
-  pub start-same : startedMixed t ≡ started t
+  pub start-same : (d : State) → startedMixed t d ≡ started t d
   unfolding startedMixed started
-  start-same = rw (judged-same t none)
+  start-same d = rw (judged-same t none)
 
   module _ (r : Ranged t) where
     -- A job comes exactly of a task whose wait is 0.

@@ -35,32 +35,23 @@ pub struct Pressed {
 }
 
 impl Presses {
-    pub fn start(t: Table) -> Started
-        ensures { λ r. ⌜ startedOf r ≡ startedMixed t ⌝ }
+    // A refusal hands the state back as it came, here and by a step.
+    pub fn start(self, t: Table) -> Started
+        ensures { λ r. ⌜ startedOf r ≡ startedMixed t (self .state) ⌝ }
     {
-        let left = [0u32; TASK_LIMIT];
-        let given = [0u64; TASK_LIMIT];
         match table::judge_mixed(t) {
             Judgement::Refused(refusal) => Started {
                 admission: Admission::Refused(refusal),
-                presses: Presses {
-                    state: State {
-                        wait: [0u32; TASK_LIMIT],
-                        left,
-                        last: 0,
-                        given,
-                        empty: 0,
-                    },
-                },
+                presses: self,
             },
             Judgement::WellFormed(_) => Started {
                 admission: Admission::Admitted,
                 presses: Presses {
                     state: State {
                         wait: slots::offsets(t),
-                        left,
+                        left: [0u32; TASK_LIMIT],
                         last: NO_TASK,
-                        given,
+                        given: [0u64; TASK_LIMIT],
                         empty: 0,
                     },
                 },
@@ -68,7 +59,7 @@ impl Presses {
         }
     }
 
-    // A refused step takes no press, and hands the state back as it came.
+    // A refused step takes no press.
     pub fn step(self, t: Table, done: bool, pressed: u32) -> Pressed
         ensures { λ r. ⌜ pressedOf r ≡ steppedPressed t (self .state) done pressed ⌝ }
     {

@@ -19,7 +19,7 @@ use Rattle.model.specs.Limits.{taskLimit, slotCountLimit}
 use Rattle.model.specs.Values.{refusal}
 use Rattle.model.specs.Notation.{count}
 use Rattle.model.specs.Tasks.{judged}
-use Rattle.model.specs.TableFile.{eight, formOf, periodicFrom}
+use Rattle.model.specs.TableFile.{four, eight, formOf, periodicFrom}
 use Rattle.model.specs.Dispatcher.{admitted, turn, started, stepped, steppedBy}
 use Rattle.model.specs.Report.{Exported, refused}
 use Rattle.model.specs.Examples.{table-g, file-g}
@@ -102,6 +102,13 @@ module _ (file : List ℕ) (t : Table) (m : Measure) (formed : formOf file .admi
         buffer = bufferOf (stateAt t reports (suc n)) (turn t (stateAt t reports n) (reports n));
       }
   camera-steps = loop.steps file t m formed held well lent size done
+
+  -- After step n the late set, its count and its lowest task stand behind the last-run task.
+  pub camera-said : (n : ℕ) → n < slotCountLimit → let u = turn t (stateAt t reports n) (reports n) in
+      let b = handed file lent done (suc n) in
+      (four b (8 * taskLimit + 4) ≡ u .late) × (four b (8 * taskLimit + 8) ≡ u .closed)
+      × (four b (8 * taskLimit + 12) ≡ u .lowest)
+  camera-said = loop.said file t m formed held well lent size done
 
   -- After n steps the counts that stand in the buffer are those of the history of answers,
   -- task by task and then the empty slots.

@@ -23,7 +23,7 @@ use Rattle.values.specs.declared.Answer.{Answer}
 use Rattle.values.specs.declared.Contents.{Contents}
 use Rattle.model.specs.Limits.{taskLimit, slotCountLimit, sumPlace, roundLimit, reportBytes, budgetLimit, budgetBytes}
 use Rattle.model.specs.Limits.{taskBytes, buttonBytes, longestFile}
-use Rattle.model.specs.Values.{refusal, refusalSaid, judgementSaid, admissionSaid, slotSaid, outcomeSaid}
+use Rattle.model.specs.Values.{refusal, refusalSaid, judgementSaid, admissionSaid, slotSaid, answerSaid}
 use Rattle.model.specs.Tasks.{task, isButton, round, measure, judgedMixed, judged, load, horizon}
 use Rattle.model.specs.Verdict.{brief, Permitted}
 use Rattle.model.specs.TableFile.{budgetKind, eight, admit, taskRecord, taskRecords, fileOf, formOf, fileRead}
@@ -58,14 +58,11 @@ use Rattle.telling.specs.FileTold.{told-once, told-some, told-refused, button-r
 use Rattle.telling.specs.Reported.{taken, reported-or-refused, reported}
 use Rattle.telling.specs.Steps.{state-admitted, refused-stays}
 
--- Where a contract says that the result is a word of the model's, every input has one permitted result. The table of
--- docs/PROMISES.md names the word of each call.
-pub one-result : {A : Type 0} (said a b : A) → a ≡ said → b ≡ said → a ≡ b
-one-result said a b e f = e ∙ sym f
-
+-- Where a contract says that the result is a word of the model's, every input has one permitted result (OneResult.antt).
 -- Starting and stepping hand back records of their own, and have one permitted result too.
-pub one-start : (t : Table) (a b : Started) → startedOf a ≡ started t → startedOf b ≡ started t → a ≡ b
-one-start t a b e f = one-started a b (e ∙ sym f)
+pub one-start : (t : Table) (d : Dispatcher) (a b : Started)
+    → startedOf a ≡ started t (d .state) → startedOf b ≡ started t (d .state) → a ≡ b
+one-start t d a b e f = one-started a b (e ∙ sym f)
 
 pub one-step : (t : Table) (d : Dispatcher) (done : Bool) (a b : Stepped)
     → steppedOf a ≡ stepped t (d .state) done → steppedOf b ≡ stepped t (d .state) done → a ≡ b
@@ -168,10 +165,10 @@ pub read-said : (file : List ℕ) (m : Measure) → formOf file .admission ≡ A
     → judgedMixed (formOf file .table) ≡ Judgement.WellFormed m → admissionSaid (fileRead file .admission) ≡ 0 ∷ []
 read-said file m good well = ap admissionSaid (read-exactly file .1 (good, (m, well)))
 
-pub started-said : (t : Table) (m : Measure) → judged t ≡ Judgement.WellFormed m
-    → admissionSaid (started t .admission) ≡ 0 ∷ []
+pub started-said : (t : Table) (d : State) (m : Measure) → judged t ≡ Judgement.WellFormed m
+    → admissionSaid (started t d .admission) ≡ 0 ∷ []
 unfolding started
-started-said t m well = rw well refl
+started-said t d m well = rw well refl
 
 -- The file of any budget of eight bytes above 0 and of at most `taskLimit` tasks, each number below 2^32,
 -- has a good form and holds these.
@@ -238,10 +235,10 @@ pub refused-read : (file : List ℕ) (r : Refusal) → formOf file .admission �
 unfolding fileRead
 refused-read file r good e = rw (good, e) refl
 
-pub refused-start : (t : Table) (r : Refusal) → judged t ≡ Judgement.Refused r
-    → admissionSaid (started t .admission) ≡ refusalSaid r
+pub refused-start : (t : Table) (d : State) (r : Refusal) → judged t ≡ Judgement.Refused r
+    → (admissionSaid (started t d .admission) ≡ refusalSaid r) × (started t d .state ≡ d)
 unfolding started
-refused-start t r e = rw e refl
+refused-start t d r e = rw e (refl, refl)
 
 pub refused-table-step : (t : Table) (d : State) (done : Bool) (r : Refusal)
     → judged t ≡ Judgement.Refused r → slotSaid (stepped t d done .answer) ≡ refusalSaid r
@@ -266,8 +263,8 @@ unfolding Permitted
 refused-answer t budget r a e p = rw e at p
 
 pub refused-answer-said : (t : Table) (budget : ℕ) (r : Refusal) (a : Answer)
-    → judged t ≡ Judgement.Refused r → Permitted t budget a → outcomeSaid (a .outcome) ≡ refusalSaid r
-refused-answer-said t budget r a e p = ap (λ (x : Answer). outcomeSaid (x .outcome)) (refused-answer t budget r a e p)
+    → judged t ≡ Judgement.Refused r → Permitted t budget a → answerSaid a ≡ refusalSaid r
+refused-answer-said t budget r a e p = ap answerSaid (refused-answer t budget r a e p)
 
 -- A state that does not belong to a well-formed table is refused by 8 with the first such task,
 -- with `taskLimit` for the last-run number, or with `sumPlace` for more slots than can be counted;

@@ -1,9 +1,11 @@
 -- DEMAND 2: the test passes a table exactly when some schedule is good for all time; else overload,
 -- or the first late deadline with its shortest interval; with exact worst responses; a short budget gives undecided and
 -- a longer one alters no other verdict. What asks for a well-formed table says so: `judged t ≡ Judgement.WellFormed m`.
-use mathlib.Core.Path.{_≡_, ap, _∙_}
+use mathlib.Core.Path.{_≡_, refl, ap, _∙_}
+use native.Mathlib.Decide.{decLe}
 use native.Mathlib.Omega.{arith}
-use mathlib.Core.Logic.{_↔_, _⊎_, _≢_}
+use mathlib.Core.List.{_∷_}
+use mathlib.Core.Logic.{_↔_, _⊎_, inl, inr, _≢_}
 use Prim.Native.Nat.{ℕ, _≤_, _<_}
 use lib.Dec.{T}
 use lib.ListN.{getD}
@@ -14,7 +16,7 @@ use Rattle.values.specs.declared.Verdict.{Verdict}
 use Rattle.values.specs.declared.Outcome.{Outcome}
 use Rattle.values.specs.declared.Answer.{Answer}
 use Rattle.model.specs.Notation.{Least}
-use Rattle.model.specs.Values.{verdictSaid, outcomeSaid}
+use Rattle.model.specs.Values.{verdictSaid, answerSaid}
 use Rattle.model.specs.Tasks.{task, release, due, round, load, horizon, judged}
 use Rattle.model.specs.Demand.{demand, asksTooMuch, lateAt}
 use Rattle.model.specs.Schedule.{none, job, Schedule, given, Good}
@@ -114,10 +116,36 @@ late-said t budget to light (l, before) h b =
     let e : needed t ≡ to = needed-is t to h before (λ x. l) in
     is-late t budget light (omega arith) (rw e l) .0 ∙ rw e
 
+-- With a budget that reaches the horizon one of three ways is said, and rightly: some schedule is good, and it passes; or
+-- none is, and it is overload, for a load above 1, or late, with the first late deadline.
+pub three-ways : (t : Table) (m : Measure) → judged t ≡ Judgement.WellFormed m → (budget : ℕ) → horizon t ≤ budget
+    → ((verdict t budget ≡ Verdict.Passes) × ((σ : Schedule) × Good t σ))
+    ⊎ ((((σ : Schedule) × Good t σ) → ⊥)
+    × (((verdict t budget ≡ Verdict.Overload) × (round t < load t))
+    ⊎ ((from : ℕ) × (to : ℕ) × (asked : ℕ) × (verdict t budget ≡ Verdict.Late from to asked) × (load t ≤ round t)
+    × LateRight t from to asked)))
+three-ways t m well budget reach = by (verdict t budget) refl
+  where
+    by : (v : Verdict) → verdict t budget ≡ v
+        → ((v ≡ Verdict.Passes) × ((σ : Schedule) × Good t σ))
+        ⊎ ((((σ : Schedule) × Good t σ) → ⊥)
+        × (((v ≡ Verdict.Overload) × (round t < load t))
+        ⊎ ((from : ℕ) × (to : ℕ) × (asked : ℕ) × (v ≡ Verdict.Late from to asked) × (load t ≤ round t) × LateRight t from to asked)))
+    by Verdict.Passes e = inl (refl, passes-exactly t m well budget reach .0 e)
+    by Verdict.Overload e = inr (λ (σ, g). overload-rightly t m well budget e σ g, inl (refl, overload-iff t budget .0 e))
+    by Verdict.Undecided e = absurd (omega (arith, undecided-iff t budget .0 e .1, needed-le t))
+    by (Verdict.Late from to asked) e =
+        let light : load t ≤ round t = elim (decLe (load t) (round t)) [
+          | yes l ↦ l
+          | no l ↦ (let o = overload-iff t budget .1 (omega arith) in let z : _≡_ {A = ℕ} 0 1 = cc in absurd (omega arith))
+        ] in
+        inr (λ (σ, g). late-rightly t m well budget from to asked e σ g, inr (from, to, asked, refl, light, late-exactly t budget from to asked e .0))
+
 -- The answer says the verdict, the settled count and the measures, in the specification's numbers too.
 pub record Says (t : Table) (budget : ℕ) (m : Measure) (a : Answer) : Type 0 where
   pub outcome : a .outcome ≡ Outcome.Tested (verdict t budget)
-  pub said : outcomeSaid (a .outcome) ≡ verdictSaid (verdict t budget)
+  pub said : answerSaid a ≡ 0 ∷ verdictSaid (verdict t budget) (settledBy t budget) (a .idle) (a .worst)
+  pub values : verdict t budget ≡ Verdict.Passes → Worsts t (a .worst) × (a .idle ≡ firstIdle t (tieOrder t))
   pub settled : a .settled ≡ settledBy t budget
   pub measures : a .measure ≡ m
 
@@ -126,7 +154,13 @@ pub answer-exactly : (t : Table) (m : Measure)
 unfolding Permitted
 answer-exactly t m well budget a h =
     let (o, s, k) = answers-say t budget m a (verdict t budget) (rw well at h) in
-    record { outcome = o; said = ap outcomeSaid o; settled = s; measures = k }
+    record {
+      outcome = o;
+      said = rw (o, s);
+      values = λ e. let (_, worst, idle) = passing t budget a (o ∙ ap Outcome.Tested e) h in (worst, idle);
+      settled = s;
+      measures = k;
+    }
 
 -- The worst responses of a passing answer are exact, for all jobs for ever,
 -- and its idle instant is the run's first after 0.

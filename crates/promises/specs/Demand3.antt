@@ -2,9 +2,12 @@
 -- reported worst response, cuts none off, gives none too much, leaves no slot empty while a job waits.
 -- So does a dispatcher whose ties go by any other fixed order of the tasks, with the worst responses of that order.
 use mathlib.Core.Path.{_≡_, refl}
-use mathlib.Core.Bool.{Bool}
-use Prim.Native.Nat.{ℕ, suc, _+_, _≤_, _<_}
-use lib.Dec.{eqb}
+use mathlib.Core.Logic.{_⊎_, inl, inr}
+use mathlib.Core.List.{List}
+use mathlib.Core.Bool.{Bool, _&&_}
+use Prim.Native.Nat.{ℕ, suc, _+_, _≤_, _<_, min}
+use native.Mathlib.Omega.{arith}
+use lib.Dec.{T, leb, eqb}
 use lib.ListN.{getD}
 use Rattle.values.specs.declared.Table.{Table}
 use Rattle.values.specs.declared.Measure.{Measure}
@@ -20,9 +23,10 @@ use Rattle.model.specs.Values.{refusal}
 use Rattle.model.specs.Tasks.{task, release, due, judged}
 use Rattle.model.specs.Run.{Order, tieOrder, Worst}
 use Rattle.model.specs.Verdict.{verdict, Permitted}
-use Rattle.model.specs.Dispatcher.{Started, Stepped, givenOf, slotCount, started, turn, turnBy, refuseStep}
+use Rattle.model.specs.Dispatcher.{State, Started, Stepped, givenOf, slotCount, started, afterBy, turn, turnBy, refuseStep}
 use Rattle.model.specs.Dispatcher.{stepped, steppedBy}
 use Rattle.model.specs.History.{stateAt, stateAtBy, ownerAt, ownerAtBy, had, hadBy, Finished, FinishedBy}
+use Rattle.counting.specs.Count.{tests, and-iff, count-none}
 use Rattle.wellformed.specs.WellFormed.{well-formed}
 use Rattle.wellformed.specs.Ranges.{Ranged}
 use Rattle.backlog.specs.Worst.{worst-range}
@@ -43,11 +47,11 @@ module _ (t : Table) (m : Measure) (well : judged t ≡ Judgement.WellFormed m) 
   abbrev ranged : Ranged t
   ranged = well-formed t m well .ranged
 
-  -- A start takes no order.
-  pub starts-by :
-      _≡_ {A = Started} (started t) (record { admission = Admission.Admitted; state = stateAtBy t rank done 0 })
+  -- A start takes no order, and what stood in the state before does not matter.
+  pub starts-by : (d : State)
+      → _≡_ {A = Started} (started t d) (record { admission = Admission.Admitted; state = stateAtBy t rank done 0 })
   unfolding started stateAtBy
-  starts-by = rw well refl
+  starts-by d = rw well refl
 
   -- No step refuses a state that the dispatcher itself produced, for fewer than 2^64 steps; the next is refused by 9.
   pub never-refused-by : (n : ℕ) → n < slotCountLimit
@@ -114,7 +118,8 @@ module _ (t : Table) (m : Measure) (well : judged t ≡ Judgement.WellFormed m) 
 -- The same in our order. A history: a start on a well-formed table, and steps with any done reports.
 -- `stateAt t done n` is the state after n steps, as many as can be counted; beyond, what the rules would give.
 module _ (t : Table) (m : Measure) (well : judged t ≡ Judgement.WellFormed m) (done : ℕ → Bool) where
-  pub starts : _≡_ {A = Started} (started t) (record { admission = Admission.Admitted; state = stateAt t done 0 })
+  pub starts : (d : State)
+      → _≡_ {A = Started} (started t d) (record { admission = Admission.Admitted; state = stateAt t done 0 })
   starts = starts-by t m well (tieOrder t) done
 
   -- No step refuses a state that the dispatcher itself produced, and each hands out the next one,
@@ -175,3 +180,46 @@ module _ (t : Table) (m : Measure) (well : judged t ≡ Judgement.WellFormed m) 
     pub none-idle : (n : ℕ) → ownerAt t done n ≡ taskLimit → (i j : ℕ) → i < t .count → release (task t i) j ≤ n
         → Finished t done i j n
     none-idle = none-idle-by t m well (tieOrder t) done budget (passed-exactly t budget a answer pass .0)
+
+-- Demand 3 asked of any history of owners: `owner n` has slot n, a task or `taskLimit` for none.
+module _ (t : Table) (owner : ℕ → ℕ) (done : ℕ → Bool) where
+  -- Job j of task i is finished by n: by n, and by its task's next release, it had its whole cost,
+  -- or was reported done right after a slot of its task.
+  abbrev pub FinishedIn : ℕ → ℕ → ℕ → Type 0
+  FinishedIn i j n =
+      let from = release (task t i) j in
+      let to = min n (release (task t i) (suc j)) in
+      (count (λ u. leb from u && eqb (owner u) i) to ≡ task t i .cost)
+      ⊎ ((u : ℕ) × (from ≤ u) × (u < to) × T (done (suc u) && eqb (owner u) i))
+
+  -- Every job is finished within the worst response that is told of its task.
+  abbrev pub KeepsWorst : List ℕ → Type 0
+  KeepsWorst worst = (i j : ℕ) → i < t .count → FinishedIn i j (release (task t i) j + getD worst i 0)
+
+module _ (t : Table) (m : Measure) (well : judged t ≡ Judgement.WellFormed m) (done : ℕ → Bool) where
+  -- The dispatcher's history keeps it on a table that the test passed: this is `all-in-time`.
+  pub history-in-time : (budget : ℕ) (a : Answer) → Permitted t budget a → a .outcome ≡ Outcome.Tested Verdict.Passes
+      → KeepsWorst t (ownerAt t done) done (a .worst)
+  unfolding hadBy stateAtBy afterBy
+  history-in-time budget a answer pass i j l = elim (all-in-time t m well done budget a answer pass i j l) [
+    | inl whole ↦ inl whole
+    | inr (suc u, p, q, said) ↦ inr (u, omega arith, omega arith, said)
+  ]
+
+  -- The history that gives every slot to none finishes no job of any task, on any well-formed table,
+  -- whatever is reported done and whatever worst responses are told.
+  pub nothing-finishes-nothing : (i j n : ℕ) → i < t .count → FinishedIn t (λ u. taskLimit) done i j n → ⊥
+  nothing-finishes-nothing i j n l h = elim h [
+    | inl whole ↦
+        let from = release (task t i) j in
+        let to = min n (release (task t i) (suc j)) in
+        let none : count (λ u. leb from u && eqb taskLimit i) to ≡ 0 = count-none _ to (λ u b x. none-owns (leb from u) x) in
+        omega (arith, none, whole, facts .each i l .cost-pos)
+    | inr (u, p, q, said) ↦ none-owns (done (suc u)) said
+  ]
+    where
+      facts : Ranged t
+      facts = well-formed t m well .ranged
+
+      none-owns : (b : Bool) → T (b && eqb taskLimit i) → ⊥
+      none-owns b h = omega (tests, and-iff b (eqb taskLimit i) .0 h .1, l, facts .few)

@@ -18,7 +18,7 @@ use Rattle.values.specs.declared.Easing.{Easing}
 use Rattle.model.specs.Notation.{bit, sum, largest, count, some, first, last, fill}
 use Rattle.model.specs.Tasks.{taskFault, firstFaulty, round, load, horizon, judgedMixed, firstButton, judged}
 use Rattle.model.specs.Demand.{arrivedIn, demand, lateAt}
-use Rattle.model.specs.Run.{tieOrder, choose, ownerOf, served, Worst}
+use Rattle.model.specs.Run.{Order, tieOrder, choose, ownerOf, served, Worst}
 use Rattle.model.specs.Idle.{idleAt, firstIdle}
 use Rattle.model.specs.Verdict.{needed, lateStart, verdict, settledBy, Permitted}
 use Rattle.model.specs.Dispatcher.{startOf, ownerNowBy, afterBy}
@@ -55,12 +55,16 @@ module _ (before after : Table) (m n : Measure) (well : judged before ≡ Judgem
   easing-is-safe e =
       eased-passes before after e (well-formed before m well .ranged) (well-formed after n well-after .ranged)
 
-  -- With costs alone lowered no worst response grows.
+  -- With costs alone lowered no worst response grows, in any order of the tasks that both tables have.
+  pub lowering-slows-none-by : Lowered before after → (rank rank' : Order) → ((i : ℕ) → i < before .count → rank' i ≡ rank i)
+      → (i w w' : ℕ) → i < before .count → Worst before rank i w → Worst after rank' i w' → w' ≤ w
+  lowering-slows-none-by e =
+      lowered-worst before after (well-formed before m well .ranged) (well-formed after n well-after .ranged) e
+
+  -- And in ours, which goes by the periods and the numbers.
   pub lowering-slows-none : Lowered before after → (i w w' : ℕ) → i < before .count
       → Worst before (tieOrder before) i w → Worst after (tieOrder after) i w' → w' ≤ w
-  lowering-slows-none e =
-      lowered-worst before after (well-formed before m well .ranged)
-      (well-formed after n well-after .ranged) e _ _ (λ i l. e .each i l .same-period)
+  lowering-slows-none e = lowering-slows-none-by e (tieOrder before) (tieOrder after) (λ i l. e .each i l .same-period)
 
   -- So none that is reported grows.
   pub lowering-reports-less : Lowered before after → (budget budget' : ℕ) (a a' : Answer)

@@ -1,11 +1,12 @@
 -- THE HEADLINES: the report of the exported check says `verdict passes` exactly if some schedule is good for all time;
--- and where it says so, a camera's loop over the same file finishes every job within the worst response that the report
--- tells, whatever is reported done.
-use mathlib.Core.Path.{_≡_, sym, ap, _∙_}
+-- where it says so, a camera's loop over the same file finishes every job within the worst response that the report
+-- tells, whatever is reported done; and so did a camera whose log is found good.
+use mathlib.Core.Path.{_≡_, refl, sym, ap, _∙_}
 use mathlib.Core.Logic.{_↔_}
-use mathlib.Core.List.{List}
+use mathlib.Core.List.{List, [], _∷_, flatten}
 use mathlib.Core.Bool.{Bool, not}
-use Prim.Native.Nat.{ℕ, suc, _+_, _≤_, _<_}
+use Prim.Native.Nat.{ℕ, suc, _+_, _*_, _≤_, _<_}
+use native.Mathlib.Omega.{arith}
 use borrow.Author.Tests.{le-ltb}
 use lib.Dec.{eqb}
 use lib.ListN.{length, getD, take}
@@ -17,36 +18,48 @@ use Rattle.values.specs.declared.Outcome.{Outcome}
 use Rattle.values.specs.declared.Answer.{Answer}
 use Rattle.values.specs.declared.Admission.{Admission}
 use Rattle.values.specs.declared.Contents.{Contents}
-use Rattle.model.specs.Limits.{taskLimit, reportBytes, slotCountLimit}
+use Rattle.model.specs.Limits.{taskLimit, wordLimit, reportBytes, slotCountLimit}
 use Rattle.model.specs.Tasks.{task, release, horizon, judged}
 use Rattle.model.specs.Schedule.{Schedule, Good}
 use Rattle.model.specs.Patterns.{quickPass}
 use Rattle.model.specs.Verdict.{verdict, Permitted}
-use Rattle.model.specs.TableFile.{formOf, fileRead, periodicFrom}
+use Rattle.model.specs.TableFile.{four, formOf, fileRead, periodicFrom}
 use Rattle.model.specs.Dispatcher.{turn}
 use Rattle.model.specs.History.{stateAt, ownerAt, had, Finished}
 use Rattle.model.specs.Report.{Exported, reportOf, Checked}
 use Rattle.model.specs.ReportRead.{passesExported}
-use Rattle.model.specs.StateBuffer.{stateBytes, startExported, stepExported, handed}
+use Rattle.model.specs.StateBuffer.{stateBytes, bufferOf, quiet, startExported, stepExported, handed}
+use Rattle.model.specs.LogMeaning.{Begins}
+use Rattle.model.specs.LogBuffer.{logBytes, logIn, judgedIn}
 use Rattle.tablefile.specs.Admitted.{admitted}
 use Rattle.tablefile.specs.Periodic.{periodic-read}
-use Rattle.readback.specs.ReadOff.{read-off}
+use Rattle.telling.specs.ReadOff.{read-off}
+use Rattle.telling.specs.GoodLogs.{good-told}
 use Rattle.promises.specs.Demand1.{Reported, reported-export}
 use Rattle.promises.specs.Demand2.{passes-exactly, answer-exactly}
 use Rattle.promises.specs.Demand3.{none-too-much, all-in-time, none-cut-off, none-idle}
-use Rattle.promises.specs.Camera.{camera-starts, camera-steps}
+use Rattle.promises.specs.Camera.{camera-starts, camera-steps, camera-said}
+use Rattle.promises.specs.Logs.{each-answer, good-in-time, log-judged}
 use Rattle.promises.specs.ReportTold.{passes-told}
 
 -- What step n is told: any number but 0 is a done report.
 abbrev pub heard : (ℕ → ℕ) → ℕ → Bool
 heard done n = not (eqb (done n) 0)
 
--- A camera's loop over a file is the dispatcher's history under these done reports:
--- the start returns 0, and every step that can be counted the owner of its slot.
-pub record Follows (file lent : List ℕ) (done : ℕ → ℕ) : Type 0 where
-  pub started : startExported file lent .number ≡ 0
+-- A camera's loop over a file is the dispatcher's history under these done reports: the start returns 0, every step that
+-- can be counted returns the owner of its slot, and each leaves the state and what it said in the buffer.
+pub record Follows (t : Table) (file lent : List ℕ) (done : ℕ → ℕ) : Type 0 where
+  pub started : startExported file lent ≡ record { number = 0; buffer = bufferOf (stateAt t (heard done) 0) quiet }
   pub stepped : (n : ℕ) → n < slotCountLimit
-      → stepExported file (handed file lent done n) (done n) .number ≡ ownerAt (fileRead file .table) (heard done) n
+      → stepExported file (handed file lent done n) (done n) ≡ record {
+        number = ownerAt t (heard done) n;
+        buffer = bufferOf (stateAt t (heard done) (suc n)) (turn t (stateAt t (heard done) n) (heard done n));
+      }
+
+-- What a host reads in a state buffer where no task was closed late: the late set, its count and its lowest task.
+abbrev pub NoneLate : List ℕ → Type 0
+NoneLate b =
+    (four b (8 * taskLimit + 4) ≡ 0) × (four b (8 * taskLimit + 8) ≡ 0) × (four b (8 * taskLimit + 12) ≡ taskLimit)
 
 -- A history keeps these worst responses, as demand 3 has it: every job is finished within that of its task, by its slots
 -- or by a done report; none is cut off; none gets too much; no slot is empty while a job waits.
@@ -86,34 +99,50 @@ module _ (file buffer : List ℕ) (e : Exported) (long : reportBytes ≤ length 
       let exactly = passes-exactly table m well (fileRead file .budget) reach in
       (λ one. exactly .0 (sym is ∙ says-so .0 (sym off ∙ one)), λ some. off ∙ says-so .1 (is ∙ exactly .1 some))
 
-  -- Where the report says so, it is that of an answer whose worst responses are kept: on the same file, in any state
-  -- buffer and under any done reports, a camera's loop is the dispatcher's history, and that is in time.
+  -- Where the report says so, it is that of an answer that passes.
+  passed : passesExported report ≡ 1
+      → (a : Answer) × (report ≡ reportOf (table .count) (quickPass table) a Verdict.Passes)
+      × Permitted table (fileRead file .budget) a × (a .outcome ≡ Outcome.Tested Verdict.Passes)
+  passed one =
+      let (a, v, p, o, w, fit) = reported in
+      let text = read-off (reportOf (table .count) (quickPass table) a v) buffer w in
+      let says = passes-told (table .count) (quickPass table) a v fit in
+      let passes : v ≡ Verdict.Passes = says .0 (sym (ap passesExported text) ∙ one) in
+      (a, text ∙ ap (reportOf (table .count) (quickPass table) a) passes, p, o ∙ ap Outcome.Tested passes)
+
+  -- Its worst responses are kept: on the same file, in any state buffer and under any done reports, a camera's loop is the
+  -- dispatcher's history, that is in time, and the host reads of every step that no task was closed late.
   pub camera-in-time : passesExported report ≡ 1
       → (a : Answer) × (report ≡ reportOf (table .count) (quickPass table) a Verdict.Passes)
       × ((lent : List ℕ) → length lent ≡ stateBytes → (done : ℕ → ℕ)
-      → Follows file lent done × InTime table (a .worst) (heard done))
+      → Follows table file lent done × InTime table (a .worst) (heard done)
+      × ((n : ℕ) → n < slotCountLimit → NoneLate (handed file lent done (suc n))))
   camera-in-time one =
-      let (a, v, p, o, w, fit) = reported in
+      let (a, text, p, pass) = passed one in
       let (read, same, (m, well)) = periodic-read file good in
-      let text = read-off (reportOf (table .count) (quickPass table) a v) buffer w in
-      let says = passes-told (table .count) (quickPass table) a v fit in
-      let passes : v ≡ Verdict.Passes = says .0 (sym (ap passesExported text) ∙ one) in (
-        a,
-        text ∙ ap (reportOf (table .count) (quickPass table) a) passes,
-        λ lent size done. (follows m well lent size done, in-time m well a p (o ∙ ap Outcome.Tested passes) (heard done)),
-      )
+      (a, text, λ lent size done. (follows m well lent size done, in-time m well a p pass (heard done), none-late m well a p pass lent size done))
     where
+      formed : formOf file .admission ≡ Admission.Admitted
+      formed = rw (← admitted file (periodic-read file good .0) .0) (periodic-read file good .0)
+
+      held : formOf file .table ≡ table
+      held = ap (λ (x : Contents). x .table) (sym (admitted file (periodic-read file good .0) .0))
+
       follows : (m : Measure) → judged table ≡ Judgement.WellFormed m
-          → (lent : List ℕ) → length lent ≡ stateBytes → (done : ℕ → ℕ) → Follows file lent done
+          → (lent : List ℕ) → length lent ≡ stateBytes → (done : ℕ → ℕ) → Follows table file lent done
       follows m well lent size done =
-          let (same, _) = admitted file (periodic-read file good .0) in
-          let formed : formOf file .admission ≡ Admission.Admitted = rw (← same) (periodic-read file good .0) in
-          let held : formOf file .table ≡ table = ap (λ (x : Contents). x .table) (sym same) in
           record {
-            started = ap (λ (x : Exported). x .number) (camera-starts file table m formed held well lent size done);
-            stepped =
-                λ n h. ap (λ (x : Exported). x .number) (camera-steps file table m formed held well lent size done n h);
+            started = camera-starts file table m formed held well lent size done;
+            stepped = camera-steps file table m formed held well lent size done;
           }
+
+      none-late : (m : Measure) → judged table ≡ Judgement.WellFormed m
+          → (a : Answer) → Permitted table (fileRead file .budget) a → a .outcome ≡ Outcome.Tested Verdict.Passes
+          → (lent : List ℕ) → length lent ≡ stateBytes → (done : ℕ → ℕ) (n : ℕ) → n < slotCountLimit → NoneLate (handed file lent done (suc n))
+      none-late m well a p pass lent size done n h =
+          let (late, closed, lowest) = none-cut-off table m well (heard done) (fileRead file .budget) a p pass n in
+          let (x, y, z) = camera-said file table m formed held well lent size done n h in
+          (x ∙ late, y ∙ closed, z ∙ lowest)
 
       in-time : (m : Measure) → judged table ≡ Judgement.WellFormed m
           → (a : Answer) → Permitted table (fileRead file .budget) a → a .outcome ≡ Outcome.Tested Verdict.Passes
@@ -125,3 +154,26 @@ module _ (file buffer : List ℕ) (e : Exported) (long : reportBytes ≤ length 
             none-too-much = none-too-much table m well done;
             none-idle = none-idle table m well done (fileRead file .budget) a p pass;
           }
+
+  -- And where the judge of a log, over the same file, in any buffer and however the log is cut, says that a log is good,
+  -- it is what a camera writes of n slots, and every job whose worst response ends within them was finished by then.
+  pub log-in-time : passesExported report ≡ 1
+      → (a : Answer) × (report ≡ reportOf (table .count) (quickPass table) a Verdict.Passes)
+      × ((lent : List ℕ) → length lent ≡ logBytes → (pieces : List (List ℕ)) → judgedIn file lent pieces .number ≡ wordLimit
+      → (n : ℕ) × (b : Begins table (flatten pieces) n (19 ∷ []))
+      × ((i j : ℕ) → i < table .count → release (task table i) j + getD (a .worst) i 0 ≤ n
+      → Finished table (b .done) i j (release (task table i) j + getD (a .worst) i 0)))
+  log-in-time one =
+      let (a, text, p, pass) = passed one in
+      let (read, same, (m, well)) = periodic-read file good in
+      let whole = admitted file read .0 in
+      let formed : formOf file .admission ≡ Admission.Admitted = rw (← whole) read in
+      let held : formOf file .table ≡ table = ap (λ (x : Contents). x .table) (sym whole) in (
+        a,
+        text,
+        λ lent size pieces e.
+            let told = ap (λ (x : Exported). x .number) (log-judged file table m formed held well lent size pieces) in
+            let found = each-answer table m well (logIn lent) pieces _ .0 refl in
+            good-in-time table m well (fileRead file .budget) a p pass (logIn lent) pieces
+            (good-told table (flatten pieces) _ found (sym told ∙ e)),
+      )

@@ -1,8 +1,8 @@
 -- HOW MUCH COST A TASK CAN TAKE (section 3.11 of the specification): the number told passes,
 -- and no larger one within the deadline does; where there is none to tell, why.
-use mathlib.Core.Path.{_≡_, refl, subst, _∙_}
+use mathlib.Core.Path.{_≡_, refl, sym, ap, subst, _∙_}
 use mathlib.Core.Logic.{_⊎_, inl, inr}
-use mathlib.Core.List.{List}
+use mathlib.Core.List.{List, [], _∷_}
 use Prim.Native.Nat.{ℕ, _+_, min, _≤_, _<_}
 use native.Mathlib.Decide.{decLt}
 use native.Mathlib.Omega.{arith}
@@ -12,20 +12,25 @@ use Rattle.values.specs.declared.Refusal.{Refusal}
 use Rattle.values.specs.declared.Measure.{Measure}
 use Rattle.values.specs.declared.Judgement.{Judgement}
 use Rattle.values.specs.declared.Verdict.{Verdict}
+use Rattle.values.specs.declared.Outcome.{Outcome}
+use Rattle.values.specs.declared.Answer.{Answer}
 use Rattle.values.specs.declared.Admission.{Admission}
 use Rattle.values.specs.declared.LargestCost.{LargestCost}
-use Rattle.model.specs.Values.{refusal}
+use Rattle.model.specs.Values.{refusal, costSaid}
 use Rattle.model.specs.Limits.{slotLimit}
 use Rattle.model.specs.Tasks.{task, judged}
-use Rattle.model.specs.Verdict.{verdict}
+use Rattle.model.specs.Verdict.{verdict, Permitted}
 use Rattle.model.specs.TableFile.{formOf, fileRead, periodicFrom}
 use Rattle.model.specs.Report.{refusalNumber}
 use Rattle.model.specs.Largest.{withCost, largestCost, costTold, costAnswer, costNumber, largestExported}
-use Rattle.backlog.specs.Largest.{largest-cost}
+use Rattle.wellformed.specs.WellFormed as wellformed
+use Rattle.backlog.specs.Largest.{well-with, largest-cost}
 use Rattle.tablefile.specs.Periodic.{periodic-read, periodic-tellable}
 use Rattle.tablefile.specs.Admitted.{admitted}
 use Rattle.telling.specs.Refusals.{admitted-or-told}
 use Rattle.telling.specs.LargestCosts.{cost-case, cost-in-range, refusal-tellable, cost-apart}
+use Rattle.promises.specs.Demand1.{some-answer}
+use Rattle.promises.specs.Demand2.{answer-exactly}
 use Rattle.promises.specs.FileNumbers.{read-file, refused-periodic}
 
 -- The table's refusal comes first, and then 12 for a number that is none of its tasks', at that number.
@@ -44,23 +49,41 @@ module _ (t : Table) (m : Measure) (well : judged t ≡ Judgement.WellFormed m) 
   unfolding costAnswer
   cost-by-verdict l = rw (well, lt-ltb i (t .count) l)
 
--- The number passes, is at least the present cost and at most the deadline,
--- and no larger one up to there passes with any budget.
+-- The number is at least the present cost and at most the deadline. With it the table is well-formed, and a check with the
+-- same budget says passes; with a larger one up to the deadline no check does, with any budget.
 pub record LargestRight (t : Table) (i budget c : ℕ) : Type 0 where
   pub at-least : task t i .cost ≤ c
   pub at-most : c ≤ task t i .deadline
-  pub passes : verdict (withCost t i c) budget ≡ Verdict.Passes
-  pub none-larger : (larger : ℕ)
-      → c < larger → larger ≤ task t i .deadline → (any : ℕ) → verdict (withCost t i larger) any ≡ Verdict.Passes → ⊥
+  pub well-formed : (m : Measure) × (judged (withCost t i c) ≡ Judgement.WellFormed m)
+  pub passes : (a : Answer) → Permitted (withCost t i c) budget a → a .outcome ≡ Outcome.Tested Verdict.Passes
+  pub none-larger : (larger : ℕ) → c < larger → larger ≤ task t i .deadline
+      → (any : ℕ) (a : Answer) → Permitted (withCost t i larger) any a → a .outcome ≡ Outcome.Tested Verdict.Passes → ⊥
 
 -- A number is told only of a task of a table that passes, and it is right.
 pub cost-exactly : (t : Table) (i budget c : ℕ) → costAnswer t i budget ≡ LargestCost.Cost c
     → (i < t .count) × (verdict t budget ≡ Verdict.Passes) × LargestRight t i budget c
 cost-exactly t i budget c e =
-    let (l, pass, r, same) = cost-case t i budget c e in
-    let (a, b, p, none) = largest-cost t r i l budget pass in
-    let right : LargestRight t i budget _ = record { at-least = a; at-most = b; passes = p; none-larger = none } in
-    (l, pass, subst (LargestRight t i budget) same right)
+    let (l, pass, (m, well), same) = cost-case t i budget c e in
+    (l, pass, subst (LargestRight t i budget) same (right l pass m well))
+  where
+    tested-same : {v w : Verdict} → Outcome.Tested v ≡ Outcome.Tested w → v ≡ w
+    tested-same e = cc
+
+    right : i < t .count → verdict t budget ≡ Verdict.Passes → (m : Measure) → judged t ≡ Judgement.WellFormed m
+        → LargestRight t i budget (largestCost t i budget)
+    right l pass m well =
+        let r = wellformed.well-formed t m well .ranged in
+        let (low, high, p, none) = largest-cost t r i l budget pass in
+        let changed : (n : ℕ) → task t i .cost ≤ n → n ≤ task t i .deadline → (k : Measure) × (judged (withCost t i n) ≡ Judgement.WellFormed k) =
+        λ n x y. (_, well-with t r i l m well n x y) in
+        record {
+          at-least = low;
+          at-most = high;
+          well-formed = changed _ low high;
+          passes = λ a h. let (k, w) = changed _ low high in answer-exactly _ k w budget a h .outcome ∙ ap Outcome.Tested p;
+          none-larger = λ n x y any a h o. let (k, w) = changed n (omega arith) y in
+              none n x y any (tested-same (sym (answer-exactly _ k w any a h .outcome) ∙ o));
+        }
 
 -- It is told wherever there is one, and only one number is right.
 pub cost-told : (t : Table) (m : Measure) → judged t ≡ Judgement.WellFormed m → (i budget : ℕ) → i < t .count
@@ -69,9 +92,29 @@ cost-told t m well i budget l pass = cost-by-verdict t m well i budget l ∙ rw 
 
 pub one-right : (t : Table) (i budget c d : ℕ) → LargestRight t i budget c → LargestRight t i budget d → c ≡ d
 one-right t i budget c d a b = elim (decLt c d) [
-  | yes l ↦ absurd (a .none-larger d l (b .at-most) budget (b .passes))
-  | no l ↦ elim (decLt d c) [ yes k ↦ absurd (b .none-larger c k (a .at-most) budget (a .passes)) | no k ↦ omega arith ]
+  | yes l ↦ (let (x, h) = some-answer (withCost t i d) budget in absurd (a .none-larger d l (b .at-most) budget x h (b .passes x h)))
+  | no l ↦ elim (decLt d c) [
+    | yes k ↦ (let (x, h) = some-answer (withCost t i c) budget in absurd (b .none-larger c k (a .at-most) budget x h (a .passes x h)))
+    | no k ↦ omega arith
+  ]
 ]
+
+-- In the specification's numbers: 0 with the cost where the table passes, and else the verdict's number.
+abbrev Said : Table → ℕ → ℕ → Verdict → List ℕ
+Said t i budget Verdict.Passes = 0 ∷ largestCost t i budget ∷ []
+Said t i budget Verdict.Overload = 1 ∷ []
+Said t i budget Verdict.Undecided = 2 ∷ []
+Said t i budget (Verdict.Late from to asked) = 3 ∷ []
+
+pub cost-said : (t : Table) (m : Measure) → judged t ≡ Judgement.WellFormed m → (i budget : ℕ) → i < t .count
+    → costSaid (costAnswer t i budget) ≡ Said t i budget (verdict t budget)
+cost-said t m well i budget l = ap costSaid (cost-by-verdict t m well i budget l) ∙ by (verdict t budget)
+  where
+    by : (v : Verdict) → costSaid (costTold t i budget v) ≡ Said t i budget v
+    by Verdict.Passes = refl
+    by Verdict.Overload = refl
+    by Verdict.Undecided = refl
+    by (Verdict.Late from to asked) = refl
 
 -- From C: a cost that is told is 1 to 60,000,
 -- and a task number below 65,536 has every refusal told apart from it by 65,536 · number + place.

@@ -1,6 +1,7 @@
 -- What is promised, demand by demand.
 pub mod Headlines
 pub mod Demand1
+pub mod OneResult
 pub mod Demand2
 pub mod Demand3
 pub mod Tables

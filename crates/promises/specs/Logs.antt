@@ -19,7 +19,7 @@ use Rattle.values.specs.declared.Admission.{Admission}
 use Rattle.values.specs.declared.Answer.{Answer}
 use Rattle.values.specs.declared.Finding.{Finding}
 use Rattle.model.specs.Limits.{wordLimit, countPlace}
-use Rattle.model.specs.Values.{refusal}
+use Rattle.model.specs.Values.{refusal, findingSaid}
 use Rattle.model.specs.Tasks.{task, release, judged}
 use Rattle.model.specs.Verdict.{Permitted}
 use Rattle.model.specs.TableFile.{formOf, periodicFrom}
@@ -44,8 +44,9 @@ use Rattle.telling.specs.GoodLogs.{good-written}
 use Rattle.promises.specs.Demand3.{all-in-time}
 
 -- Starting, feeding and finishing have one permitted result each, for every table, log and piece.
-pub one-log-start : (t : Table) (a b : Fed) → fedOf a ≡ logStarted t → fedOf b ≡ logStarted t → a ≡ b
-one-log-start t a b e f = one-fed a b (e ∙ sym f)
+pub one-log-start : (t : Table) (l : Log) (a b : Fed)
+    → fedOf a ≡ logStarted t (logStateOf l) → fedOf b ≡ logStarted t (logStateOf l) → a ≡ b
+one-log-start t l a b e f = one-fed a b (e ∙ sym f)
 
 pub one-feed : (t : Table) (l : Log) (piece : List ℕ) (a b : Fed)
     → fedOf a ≡ fed t (logStateOf l) piece → fedOf b ≡ fed t (logStateOf l) piece → a ≡ b
@@ -67,6 +68,11 @@ pub log-miscounted : (t : Table) (l : model.Log) → admitted t (l .state) ≡ A
 unfolding logAdmitted
 log-miscounted t l e = rw e
 
+pub refused-log-start : (t : Table) (l : model.Log) (r : Refusal)
+    → judged t ≡ Judgement.Refused r → logStarted t l ≡ record { admission = Admission.Refused r; log = l }
+unfolding logStarted started
+refused-log-start t l r e = rw e
+
 pub refused-feed : (t : Table) (l : model.Log) (piece : List ℕ) (r : Refusal)
     → logAdmitted t l ≡ Admission.Refused r → fed t l piece ≡ record { admission = Admission.Refused r; log = l }
 unfolding fed
@@ -87,6 +93,11 @@ pub all-cuts : (t : Table) (l : model.Log) (p q : List (List ℕ))
     → Sized (l .state) → flatten p ≡ flatten q → feeds t l p ≡ feeds t l q
 all-cuts = cuts.all-cuts
 
+-- From a start two ways to cut the same bytes leave the same log and give the same answer, on every table.
+pub cuts-judged-alike : (t : Table) (l : model.Log) (p q : List (List ℕ))
+    → flatten p ≡ flatten q → logJudged t l p ≡ logJudged t l q
+cuts-judged-alike = cuts.judged-alike
+
 -- A fault or a difference that is found stays, and nothing else moves any more, whatever follows;
 -- the finish says it too.
 pub found-stays : (t : Table) (l : model.Log) (s : List ℕ) → Final (l .found) → readAll t l s ≡ l
@@ -98,26 +109,36 @@ found-at-end bytes (Finding.Fault n p) h = refl
 
 module _ (t : Table) (m : Measure) (well : judged t ≡ Judgement.WellFormed m) where
   -- From a start on a well-formed table no call is refused.
-  pub log-admitted : (pieces : List (List ℕ)) → logJudged t pieces .admission ≡ Admission.Admitted
-  log-admitted pieces = ap (λ (f : model.Fed). f .admission) (cuts.judged-bytes t m well pieces)
+  pub log-admitted : (l : model.Log) (pieces : List (List ℕ)) → logJudged t l pieces .admission ≡ Admission.Admitted
+  log-admitted l pieces = ap (λ (f : model.Fed). f .admission) (cuts.judged-bytes t m well l pieces)
 
   -- Each answer is given exactly where it is meant:
   -- good for what a camera that runs the dispatcher writes under some done reports, with an end;
   -- a difference at the first slot that is not the dispatcher's under the reports before it; a fault at its byte.
-  pub each-answer : (pieces : List (List ℕ)) (f : Finding)
-      → (logJudged t pieces .log .found ≡ f) ↔ Found t (flatten pieces) f
+  pub each-answer : (l : model.Log) (pieces : List (List ℕ)) (f : Finding)
+      → (logJudged t l pieces .log .found ≡ f) ↔ Found t (flatten pieces) f
   each-answer = answers.judged-iff t m well
+
+  -- In the specification's numbers: 1 for good, 2 with the slot that differs, a fault's number with the place of its byte.
+  pub each-said : (l : model.Log) (pieces : List (List ℕ)) → let said = findingSaid (logJudged t l pieces .log .found) in
+      (Found t (flatten pieces) Finding.Good → said ≡ 1 ∷ [])
+      × ((slot : ℕ) → Found t (flatten pieces) (Finding.Differs slot) → said ≡ 2 ∷ slot ∷ [])
+      × ((n p : ℕ) → Found t (flatten pieces) (Finding.Fault n p) → said ≡ n ∷ p ∷ [])
+  each-said l pieces = (by Finding.Good, λ slot. by (Finding.Differs slot), λ n p. by (Finding.Fault n p))
+    where
+      by : (f : Finding) → Found t (flatten pieces) f → findingSaid (logJudged t l pieces .log .found) ≡ findingSaid f
+      by f h = ap findingSaid (each-answer l pieces f .1 h)
 
   -- A good log on a table that the test passed: it is what a camera writes of n slots under some done reports,
   -- and every job whose reported worst response ends within these slots was finished by then.
   -- The report after the last slot, which step n would be given, counts.
   pub good-in-time : (budget : ℕ) (a : Answer) → Permitted t budget a → a .outcome ≡ Outcome.Tested Verdict.Passes
-      → (pieces : List (List ℕ)) → logJudged t pieces .log .found ≡ Finding.Good
+      → (l : model.Log) (pieces : List (List ℕ)) → logJudged t l pieces .log .found ≡ Finding.Good
       → (n : ℕ) × (b : Begins t (flatten pieces) n (19 ∷ []))
       × ((i j : ℕ) → i < t .count → release (task t i) j + getD (a .worst) i 0 ≤ n
       → Finished t (b .done) i j (release (task t i) j + getD (a .worst) i 0))
-  good-in-time budget a answer pass pieces e =
-      let (n, b) = good-written t (flatten pieces) (each-answer pieces Finding.Good .0 e) in
+  good-in-time budget a answer pass l pieces e =
+      let (n, b) = good-written t (flatten pieces) (each-answer l pieces Finding.Good .0 e) in
       (n, b, λ i j l w. all-in-time t m well (b .done) budget a answer pass i j l)
 
 -- The exported calls. The order of their refusals: 50 for a buffer of another length; then the file as by the check;
@@ -177,7 +198,7 @@ module _ (file : List ℕ) (t : Table) (m : Measure) (formed : formOf file .admi
 
   pub log-judged : (pieces : List (List ℕ))
       → judgedIn file lent pieces ≡ record {
-        number = answerNumber (logJudged t pieces .log .found);
-        buffer = logBufferOf (logJudged t pieces .log);
+        number = answerNumber (logJudged t (logIn lent) pieces .log .found);
+        buffer = logBufferOf (logJudged t (logIn lent) pieces .log);
       }
   log-judged = judging.judges file t m formed held well lent size

@@ -50,19 +50,20 @@ use Rattle.patterns.specs.PressPeriodic as periodic
 use Rattle.telling.specs.PressSteps.{refused-keeps}
 
 -- Each call has one permitted result.
-pub one-press-start : (t : Table) (a b : StartedCall) → startedOf a ≡ startedMixed t → startedOf b ≡ startedMixed t → a ≡ b
-one-press-start t a b e f = one-started a b (e ∙ sym f)
+pub one-press-start : (t : Table) (d : Presses) (a b : StartedCall)
+    → startedOf a ≡ startedMixed t (d .state) → startedOf b ≡ startedMixed t (d .state) → a ≡ b
+one-press-start t d a b e f = one-started a b (e ∙ sym f)
 
 pub one-press-step : (t : Table) (d : Presses) (done : Bool) (pressed : ℕ) (a b : PressedCall)
     → pressedOf a ≡ steppedPressed t (d .state) done pressed
     → pressedOf b ≡ steppedPressed t (d .state) done pressed → a ≡ b
 one-press-step t d done pressed a b e f = one-pressed a b (e ∙ sym f)
 
--- A start is refused as its table is. A refused step hands the state back as it came, and takes no press.
-pub press-refused-start : (t : Table) (r : Refusal) → judgedMixed t ≡ Judgement.Refused r
-    → startedMixed t .admission ≡ Admission.Refused r
+-- A start is refused as its table is. A refusal hands the state back as it came, and takes no press.
+pub press-refused-start : (t : Table) (d : State) (r : Refusal) → judgedMixed t ≡ Judgement.Refused r
+    → startedMixed t d ≡ record { admission = Admission.Refused r; state = d }
 unfolding startedMixed
-press-refused-start t r e = rw e refl
+press-refused-start t d r e = rw e refl
 
 pub press-refused-step : (t : Table) (d : State) (done : Bool) (pressed : ℕ) (r : Refusal)
     → steppedPressed t d done pressed .answer ≡ SlotAnswer.Refused r
@@ -119,10 +120,10 @@ module _ (t : Table) (m : Measure) (well : judgedMixed t ≡ Judgement.WellForme
     abbrev ranged : Ranged t
     ranged = well-mixed t m well .ranged
 
-    pub press-starts : _≡_ {A = Started} (startedMixed t)
+    pub press-starts : (d : State) → _≡_ {A = Started} (startedMixed t d)
         (record { admission = Admission.Admitted; state = stateUnder t done pressed 0 })
     unfolding startedMixed stateUnder
-    press-starts = rw well refl
+    press-starts d = rw well refl
 
     -- No step refuses a state that the dispatcher itself produced, and each hands out the next one,
     -- for fewer than 2^64 steps; the next is refused by 9.
@@ -200,7 +201,7 @@ module _ (t : Table) (m : Measure) (well : judgedMixed t ≡ Judgement.WellForme
 
 -- On a table without buttons it is document 01's dispatcher: its start, every step, and so its history.
 module _ (t : Table) (m : Measure) (well : judged t ≡ Judgement.WellFormed m) where
-  pub press-starts-same : startedMixed t ≡ started t
+  pub press-starts-same : (d : State) → startedMixed t d ≡ started t d
   press-starts-same = periodic.start-same t (periodic-iff t m .0 well .1)
 
   pub press-steps-same : (d : State) (done : Bool) (pressed : ℕ)

@@ -9,7 +9,7 @@ use Rattle.values.specs.declared.Measure.{Measure}
 use Rattle.values.specs.declared.Verdict.{Verdict}
 use Rattle.values.specs.declared.Outcome.{Outcome}
 use Rattle.values.specs.declared.Answer.{Answer}
-use Rattle.model.specs.Values.{outcomeSaid}
+use Rattle.model.specs.Values.{answerSaid}
 use Rattle.model.specs.Notation.{sum, largest, count, first, last, fill}
 use Rattle.model.specs.Tasks.{taskFault, firstFaulty, round, load, horizon, judgedMixed, firstButton, judged}
 use Rattle.model.specs.Demand.{arrivedIn, demand, lateAt}
@@ -66,12 +66,26 @@ unfolding answerOf judged judgedMixed firstButton firstFaulty taskFault first la
     startOf afterBy ownerNowBy choose fill firstIdle idleAt ownerOf served
 tables-answered = all-permitted rows refl
 
--- In the specification's numbers: 4 passes, 3 late with its interval and demand, 2 undecided, 1 overload.
+-- In the specification's numbers, each with the settled count: 4 passes, with the first idle instant and the worst responses;
+-- 3 late, with its interval and demand; 2 undecided; 1 overload.
 pub tables-said :
-    map (λ r. outcomeSaid (r .answer .outcome)) rows
-    ≡ (4 ∷ []) ∷ (4 ∷ []) ∷ (3 ∷ 8 ∷ 15 ∷ 8 ∷ []) ∷ (3 ∷ 0 ∷ 7 ∷ 9 ∷ []) ∷ (4 ∷ [])
-    ∷ (3 ∷ 0 ∷ 1 ∷ 2 ∷ []) ∷ (4 ∷ []) ∷ (3 ∷ 4 ∷ 7 ∷ 4 ∷ []) ∷ (1 ∷ []) ∷ (4 ∷ [])
-    ∷ (2 ∷ []) ∷ (4 ∷ []) ∷ (2 ∷ []) ∷ (3 ∷ 8 ∷ 15 ∷ 8 ∷ []) ∷ (4 ∷ []) ∷ []
+    map (λ r. answerSaid (r .answer)) rows
+    ≡ (0 ∷ 4 ∷ 2 ∷ 1 ∷ padded 0 (1 ∷ []))
+    ∷ (0 ∷ 4 ∷ 38 ∷ 2 ∷ padded 0 (7 ∷ 2 ∷ []))
+    ∷ (0 ∷ 3 ∷ 15 ∷ 8 ∷ 15 ∷ 8 ∷ [])
+    ∷ (0 ∷ 3 ∷ 7 ∷ 0 ∷ 7 ∷ 9 ∷ [])
+    ∷ (0 ∷ 4 ∷ 5 ∷ 1 ∷ padded 0 (1 ∷ 1 ∷ []))
+    ∷ (0 ∷ 3 ∷ 1 ∷ 0 ∷ 1 ∷ 2 ∷ [])
+    ∷ (0 ∷ 4 ∷ 8 ∷ 4 ∷ padded 0 (2 ∷ 4 ∷ []))
+    ∷ (0 ∷ 3 ∷ 7 ∷ 4 ∷ 7 ∷ 4 ∷ [])
+    ∷ (0 ∷ 1 ∷ 0 ∷ [])
+    ∷ (0 ∷ 4 ∷ 8 ∷ 1 ∷ padded 0 (1 ∷ []))
+    ∷ (0 ∷ 2 ∷ 37 ∷ [])
+    ∷ (0 ∷ 4 ∷ 38 ∷ 2 ∷ padded 0 (7 ∷ 2 ∷ []))
+    ∷ (0 ∷ 2 ∷ 14 ∷ [])
+    ∷ (0 ∷ 3 ∷ 15 ∷ 8 ∷ 15 ∷ 8 ∷ [])
+    ∷ (0 ∷ 4 ∷ 15 ∷ 5 ∷ padded 0 (6 ∷ 1 ∷ []))
+    ∷ []
 tables-said = refl
 
 -- The lamp with ties by number alone, as they went before T-06: 5 and 3, where our order has 6 and 1.

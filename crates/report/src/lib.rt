@@ -123,7 +123,8 @@ fn put_worst_line(buffer: &mut [u8], at: usize, task: usize, worst: u32) -> usiz
 
 fn put_interval(buffer: &mut [u8], at: usize, from: u64, to: u64, demand: u64) -> usize
     requires { ⌜ at + intervalBytes ≤ length (now buffer) ⌝ }
-    ensures { λ r. ⌜ Put (line (text "interval " ++ decimal from ++ text " " ++ decimal to ++ text " demand " ++ decimal demand)) at (now (buffer .entry)) (now (buffer .exit)) r ⌝ }
+    ensures { λ r. ⌜ Put (line (text "interval " ++ decimal from ++ text " " ++ decimal to ++ text " demand " ++ decimal demand))
+        at (now (buffer .entry)) (now (buffer .exit)) r ⌝ }
     ensures { λ r. ⌜ r ≤ at + intervalBytes ⌝ }
 {
     let at = text::put_number(buffer, at, b"interval ", from);

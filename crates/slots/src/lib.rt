@@ -240,7 +240,9 @@ fn renew(
     i: usize,
 ) -> Renewed
     requires { ⌜ i < taskLimit ⌝ }
-    ensures { λ r. ⌜ (r .wait ≡ waitReleased (now (wait .entry)) (now (period .entry)) i) × (r .left ≡ leftReleased (now (wait .entry)) (now (left .entry)) (now (cost .entry)) i) × (now (wait .exit) ≡ set (now (wait .entry)) i (r .wait - 1)) × (now (left .exit) ≡ set (now (left .entry)) i (r .left)) ⌝ }
+    ensures { λ r. ⌜ (r .wait ≡ waitReleased (now (wait .entry)) (now (period .entry)) i)
+        × (r .left ≡ leftReleased (now (wait .entry)) (now (left .entry)) (now (cost .entry)) i)
+        × (now (wait .exit) ≡ set (now (wait .entry)) i (r .wait - 1)) × (now (left .exit) ≡ set (now (left .entry)) i (r .left)) ⌝ }
 {
     let w = wait[i];
     if w == 0 {
@@ -271,7 +273,8 @@ pub fn serve(
     n: usize,
 ) -> Seen
     requires { ⌜ n ≤ taskLimit ⌝ }
-    ensures { λ r. ⌜ Served (now (wait .entry)) (now (left .entry)) (now (period .entry)) (now (cost .entry)) (now (slack .entry)) (now (rank .entry)) n (now (wait .exit)) (now (left .exit)) r ⌝ }
+    ensures { λ r. ⌜ Served (now (wait .entry)) (now (left .entry)) (now (period .entry)) (now (cost .entry)) (now (slack .entry))
+        (now (rank .entry)) n (now (wait .exit)) (now (left .exit)) r ⌝ }
 {
     let mut owner = NO_TASK;
     let mut least = NO_KEY;

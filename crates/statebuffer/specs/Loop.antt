@@ -17,12 +17,14 @@ use Rattle.values.specs.declared.Turn.{Turn}
 use Rattle.model.specs.Limits.{taskLimit, wordLimit, budgetLimit, slotCountLimit}
 use Rattle.model.specs.Notation.{count}
 use Rattle.model.specs.Tasks.{judged}
-use Rattle.model.specs.TableFile.{eight, formOf}
+use Rattle.model.specs.TableFile.{four, eight, formOf}
 use Rattle.model.specs.Run.{tieOrder}
-use Rattle.model.specs.Dispatcher.{State, givenOf, started, stepped, turn, turnBy}
+use Rattle.model.specs.Dispatcher.{State, givenOf, started, stepped, turn, turnBy, isLate}
 use Rattle.model.specs.History.{stateAt, stateAtBy, ownerAt}
 use Rattle.model.specs.Report.{Exported}
 use Rattle.model.specs.StateBuffer.{countsAt, stateBytes, bufferOf, stateIn, quiet, startWritten, stepWritten, onFile, startExported, stepExported, handed}
+use Rattle.counting.specs.Bits.{bits-lt}
+use Rattle.counting.specs.Search.{first-le}
 use Rattle.counting.specs.Count.{count-bound, one-of-iff}
 use Rattle.counting.specs.Fill.{fill-passed}
 use Rattle.wellformed.specs.Ranges.{Ranged}
@@ -31,7 +33,7 @@ use Rattle.backlog.specs.Taken.{known}
 use Rattle.backlog.specs.Stepping.{sound, past-none}
 use Rattle.backlog.specs.Accounts.{empty-is, given-is}
 use Rattle.backlog.specs.NeverRefused.{never-refused}
-use Rattle.statebuffer.specs.RoundTrip.{Fits, state-back, buffer-size}
+use Rattle.statebuffer.specs.RoundTrip.{turn-back, Fits, state-back, buffer-size}
 
 -- Every state of a history fits its buffer.
 module _ (t : Table) (r : Ranged t) (done : ℕ → Bool) where
@@ -79,6 +81,16 @@ module _ (t : Table) (r : Ranged t) (done : ℕ → Bool) where
     last-fits = last-small n;
   }
 
+-- What a step says fits into words.
+told-small : (t : Table) (d : State) (done : Bool) → let u = turn t d done in
+    (u .late < wordLimit) × (u .closed < wordLimit) × (u .lowest < wordLimit)
+unfolding turnBy
+told-small t d done = (
+  bits-lt (isLate t d done) taskLimit,
+  omega (arith, count-bound (isLate t d done) taskLimit),
+  omega (arith, first-le (isLate t d done) 0 taskLimit),
+)
+
 -- A file whose form is good and a buffer of the right length lead to the table.
 pub on-table : (bytes : ℕ) (file buffer : List ℕ) (t : Table) (go : Table → Exported) → formOf file .admission ≡ Admission.Admitted
     → formOf file .table ≡ t → length buffer ≡ bytes → onFile bytes file buffer go ≡ go t
@@ -95,7 +107,8 @@ module _ (file : List ℕ) (t : Table) (m : Measure) (formed : formOf file .admi
 
   pub starts : startExported file lent ≡ record { number = 0; buffer = bufferOf (stateAt t reports 0) quiet }
   unfolding started stateAtBy
-  starts = on-table stateBytes file lent t (λ k. startWritten lent (started k .state) (started k .admission)) formed held size ∙ rw well refl
+  starts =
+      on-table stateBytes file lent t (λ k. let d = started k (stateIn lent) in startWritten lent (d .state) (d .admission)) formed held size ∙ rw well refl
 
   abbrev told : ℕ → Turn
   told n = turn t (stateAt t reports n) (reports n)
@@ -116,6 +129,18 @@ module _ (file : List ℕ) (t : Table) (m : Measure) (formed : formOf file .admi
       ≡ record { number = ownerAt t reports n; buffer = bufferOf (stateAt t reports (suc n)) (turn t (stateAt t reports n) (reports n)) }
   unfolding turnBy
   steps n h = let (u, e) = holds n (omega arith) in stepped-in n h (handed file lent done n) u e
+
+  -- What the host reads of step n: the late set, its count and its lowest task.
+  pub said : (n : ℕ) → n < slotCountLimit → let u = turn t (stateAt t reports n) (reports n) in
+      let b = handed file lent done (suc n) in
+      (four b (8 * taskLimit + 4) ≡ u .late) × (four b (8 * taskLimit + 8) ≡ u .closed) × (four b (8 * taskLimit + 12) ≡ u .lowest)
+  unfolding handed
+  said n h =
+      let e : handed file lent done (suc n) ≡ bufferOf (stateAt t reports (suc n)) (told n) = ap (λ (x : Exported). x .buffer) (steps n h) in
+      rw e (turn-back (stateAt t reports (suc n)) (told n) (fits t r reports (suc n) h) (small .0) (small .1) (small .2))
+    where
+      small : (told n .late < wordLimit) × (told n .closed < wordLimit) × (told n .lowest < wordLimit)
+      small = told-small t (stateAt t reports n) (reports n)
 
   -- After n steps the counts in the buffer are those of the history of owners.
   pub counts : (n : ℕ) → n ≤ slotCountLimit → let b = handed file lent done n in

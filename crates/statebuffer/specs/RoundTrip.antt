@@ -117,10 +117,13 @@ module _ (d : State) (u : Turn) (fits : Fits d) where
       ∙ List·getD-append (d .wait ++ d .left) told 0 (taskLimit + i) (simp length-append (omega (arith, fits .waits, fits .lefts)))
       ∙ rw (← fits .waits) (getD-append-add (d .wait) (d .left) i 0)
 
+  told-word : (i : ℕ) → i < 4 → getD (words d u) (taskLimit + taskLimit + i) 0 ≡ getD told i 0
+  told-word i l =
+      let both : taskLimit + taskLimit ≡ length (d .wait ++ d .left) = simp length-append (omega (arith, fits .waits, fits .lefts)) in
+      front-word (taskLimit + taskLimit + i) (omega arith) ∙ rw both (getD-append-add (d .wait ++ d .left) told i 0)
+
   last-word : getD (words d u) (taskLimit + taskLimit) 0 ≡ d .last
-  last-word =
-      let both : taskLimit + taskLimit ≡ length (d .wait ++ d .left) + 0 = simp length-append (omega (arith, fits .waits, fits .lefts)) in
-      front-word (taskLimit + taskLimit) (omega arith) ∙ rw both (getD-append-add (d .wait ++ d .left) told 0 0)
+  last-word = told-word 0 (omega arith)
 
   given-word : (i : ℕ) → i < 2 * taskLimit → getD (words d u) (taskLimit + taskLimit + 4 + i) 0 ≡ getD (halves (d .given)) i 0
   given-word i l =
@@ -140,6 +143,19 @@ module _ (d : State) (u : Turn) (fits : Fits d) where
       let first = read i at (omega arith) e (omega arith) in
       let second = read (i + 1) (at + 4) l (omega arith) (omega arith) in
       omega arith
+
+  -- What a step said: the late set, its count and its lowest task.
+  pub turn-back : u .late < wordLimit → u .closed < wordLimit → u .lowest < wordLimit
+      → (four (bufferOf d u) (8 * taskLimit + 4) ≡ u .late) × (four (bufferOf d u) (8 * taskLimit + 8) ≡ u .closed)
+      × (four (bufferOf d u) (8 * taskLimit + 12) ≡ u .lowest)
+  turn-back late closed lowest = (
+    word 1 (omega arith) (omega (arith, told-word 1 (omega arith))),
+    word 2 (omega arith) (omega (arith, told-word 2 (omega arith))),
+    word 3 (omega arith) (omega (arith, told-word 3 (omega arith))),
+  )
+    where
+      word : (i : ℕ) → i < 4 → getD (words d u) (taskLimit + taskLimit + i) 0 < wordLimit → four (bufferOf d u) (8 * taskLimit + 4 * i) ≡ getD told i 0
+      word i l h = read (taskLimit + taskLimit + i) (8 * taskLimit + 4 * i) (omega arith) (omega arith) h ∙ told-word i l
 
   pub state-back : stateIn (bufferOf d u) ≡ d
   unfolding stateIn

@@ -60,10 +60,11 @@ module _ (Taken : Exported → Type 0) (bytes : ℕ) (file buffer : List ℕ) (g
 pub start-apart : (file buffer : List ℕ) → Apart TakenStart buffer (startExported file buffer)
 unfolding started
 start-apart file buffer =
-    file-apart TakenStart stateBytes file buffer (λ t. startWritten buffer (started t .state) (started t .admission))
+    file-apart TakenStart stateBytes file buffer (λ t. let d = started t (stateIn buffer) in startWritten buffer (d .state) (d .admission))
     (by (formOf file .table) (judged (formOf file .table)) (judged-tellable (formOf file .table)))
   where
-    by : (t : Table) (j : Judgement) → JudgementTellable j → let s = startJudged t j in Apart TakenStart buffer (startWritten buffer (s .state) (s .admission))
+    by : (t : Table) (j : Judgement) → JudgementTellable j → let s = startJudged t (stateIn buffer) j in
+        Apart TakenStart buffer (startWritten buffer (s .state) (s .admission))
     by t (Judgement.Refused r) n = inr (r, refl, n)
     by t (Judgement.WellFormed m) n = inl refl
 

@@ -24,8 +24,9 @@ due-eased = record {
   in-order = λ i k l m. l;
   of-before = λ i l. l;
   each = λ i. elim i [
-    | zero ↦ λ l. record { same-offset = refl; same-period = refl; lower-cost = lit≤ tt; longer-deadline = lit≤ tt }
+    | zero ↦ λ l. record { same-sort = refl; same-offset = refl; same-period = refl; lower-cost = lit≤ tt; longer-deadline = lit≤ tt }
     | suc k ↦ λ l. record {
+      same-sort = refl;
       same-offset = refl;
       same-period = refl;
       lower-cost = omega arith;

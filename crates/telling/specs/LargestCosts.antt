@@ -9,6 +9,7 @@ use lib.Dec.{ltb, lit<}
 use borrow.Author.Tests.{ltb-true}
 use Rattle.values.specs.declared.Table.{Table}
 use Rattle.values.specs.declared.Refusal.{Refusal}
+use Rattle.values.specs.declared.Measure.{Measure}
 use Rattle.values.specs.declared.Judgement.{Judgement}
 use Rattle.values.specs.declared.Verdict.{Verdict}
 use Rattle.values.specs.declared.LargestCost.{LargestCost}
@@ -18,7 +19,6 @@ use Rattle.model.specs.Tasks.{judged}
 use Rattle.model.specs.Verdict.{verdict}
 use Rattle.model.specs.Report.{refusalNumber}
 use Rattle.model.specs.Largest.{largestCost, costTold, costJudged, costAnswer, costNumber}
-use Rattle.wellformed.specs.Ranges.{Ranged}
 use Rattle.wellformed.specs.WellFormed.{well-formed}
 use Rattle.wellformed.specs.Refused.{Tellable, JudgementTellable, judged-tellable}
 use Rattle.backlog.specs.Largest.{largest-cost}
@@ -38,22 +38,23 @@ module _ (t : Table) (i budget c : ℕ) where
   by-verdict Verdict.Undecided e = let z : _≡_ {A = ℕ} 0 1 = cc in absurd (omega arith)
 
   by-judgement : (j : Judgement) → judged t ≡ j → costJudged t i budget j ≡ LargestCost.Cost c
-      → (i < t .count) × (verdict t budget ≡ Verdict.Passes) × Ranged t × (largestCost t i budget ≡ c)
+      → (i < t .count) × (verdict t budget ≡ Verdict.Passes) × ((m : Measure) × (judged t ≡ Judgement.WellFormed m)) × (largestCost t i budget ≡ c)
   by-judgement (Judgement.Refused r) w e = let z : _≡_ {A = ℕ} 0 1 = cc in absurd (omega arith)
   by-judgement (Judgement.WellFormed m) w e =
       let (n, told) = by-number (ltb i (t .count)) (costTold t i budget (verdict t budget)) (refusal 12 i) c e in
       let (pass, same) = by-verdict (verdict t budget) told in
-      (ltb-true i (t .count) n, pass, well-formed t m w .ranged, same)
+      (ltb-true i (t .count) n, pass, (m, w), same)
 
   pub cost-case : costAnswer t i budget ≡ LargestCost.Cost c
-      → (i < t .count) × (verdict t budget ≡ Verdict.Passes) × Ranged t × (largestCost t i budget ≡ c)
+      → (i < t .count) × (verdict t budget ≡ Verdict.Passes) × ((m : Measure) × (judged t ≡ Judgement.WellFormed m)) × (largestCost t i budget ≡ c)
   unfolding costAnswer
   cost-case = by-judgement (judged t) refl
 
   -- A cost that is told is 1 to 60,000.
   pub cost-in-range : costAnswer t i budget ≡ LargestCost.Cost c → (1 ≤ c) × (c ≤ slotLimit)
   cost-in-range e =
-      let (l, pass, r, same) = cost-case e in
+      let (l, pass, (m, well), same) = cost-case e in
+      let r = well-formed t m well .ranged in
       let (least, most, passes, none) = largest-cost t r i l budget pass in
       let k = r .each i l in
       (omega (arith, k .cost-pos), omega (arith, k .deadline-le, k .period-le))

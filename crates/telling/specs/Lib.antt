@@ -6,6 +6,11 @@ pub mod FileTold
 pub mod Reported
 pub mod Steps
 pub mod PressSteps
+-- A report determines what it tells, and says that a table passes exactly if the verdict is that.
+pub mod Apart
+pub mod Determined
+pub mod Passes
+pub mod ReadOff
 -- The exact test's answers.
 pub mod Answers
 pub mod Passed

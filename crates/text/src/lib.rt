@@ -16,7 +16,8 @@ pub fn put_pair(
     second: u64,
 ) -> usize
     requires { ⌜ at + length (now name) + length (now between) + 2 * numberBytes + 1 ≤ length (now buffer) ⌝ }
-    ensures { λ r. ⌜ Put (line (now (name .entry) ++ decimal first ++ now (between .entry) ++ decimal second)) at (now (buffer .entry)) (now (buffer .exit)) r ⌝ }
+    ensures { λ r. ⌜ Put (line (now (name .entry) ++ decimal first ++ now (between .entry) ++ decimal second)) at (now (buffer .entry))
+        (now (buffer .exit)) r ⌝ }
     ensures { λ r. ⌜ r ≤ at + length (now (name .entry)) + length (now (between .entry)) + 2 * numberBytes + 1 ⌝ }
 {
     let at = put_number(buffer, at, name, first);

@@ -5,6 +5,7 @@ use dispatch::Dispatcher;
 use slots::NO_TASK;
 use values::Admission;
 use values::SlotAnswer;
+use values::State;
 use values::TASK_LIMIT;
 use values::Table;
 use values::Turn;
@@ -27,9 +28,22 @@ fn step_g(vector: &[u8], d: Dispatcher, done: bool) -> Dispatcher {
     step(vector, d, tables::g(), done)
 }
 
+// What stands in a dispatcher before its start does not matter.
+fn anything() -> Dispatcher {
+    Dispatcher {
+        state: State {
+            wait: [7u32; TASK_LIMIT],
+            left: [7u32; TASK_LIMIT],
+            last: 7,
+            given: [7u64; TASK_LIMIT],
+            empty: 7,
+        },
+    }
+}
+
 fn start(vector: &[u8], t: Table) -> Dispatcher {
     say::about(b"start", vector);
-    let started = Dispatcher::start(t);
+    let started = anything().start(t);
     let admission = started.admission;
     let d = started.dispatcher;
     say_admission(admission);

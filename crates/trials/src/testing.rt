@@ -42,7 +42,8 @@ fn test(vector: &[u8], t: Table, budget: u64) {
     say::words(b", budget ");
     say::number(budget);
     say::words(b": ");
-    say_answer(exact::test(t, budget, true));
+    let answers = exact::by_both_engines(t, budget);
+    say_answer(answers.plain);
     say::words(b"\n");
 }
 

@@ -1,7 +1,7 @@
 -- Each return rewrites with what the form turned out to be.
 use borrow.Author.Needs.{needs}
 use Rattle.model.specs.Dispatcher.{started}
-use Rattle.model.specs.StateBuffer.{stateBytes, startWritten}
+use Rattle.model.specs.StateBuffer.{stateBytes, stateIn, startWritten}
 use Rattle.numbers.specs.Form.{on-form, right-length}
 use Rattle.cameracalls.proofs.start.Statement.{statement}
 use Rattle.cameracalls.proofs.start.Tie as tie
@@ -20,7 +20,7 @@ returns c =
     let s = form .before .before .before .args in
     rw (
       on-form stateBytes (s .file .now) (s .state .now) (form .form-for .ensures)
-          (λ t. startWritten (s .state .now) (started t .state) (started t .admission)),
+          (λ t. let d = started t (stateIn (s .state .now)) in startWritten (s .state .now) (d .state) (d .admission)),
       known .admission .given .1,
       c .refusal-number .ensures,
     )
@@ -33,7 +33,7 @@ returns-2 c =
     let s = form .before .before .before .args in
     rw (
       on-form stateBytes (s .file .now) (s .state .now) (form .form-for .ensures)
-          (λ t. startWritten (s .state .now) (started t .state) (started t .admission)),
+          (λ t. let d = started t (stateIn (s .state .now)) in startWritten (s .state .now) (d .state) (d .admission)),
       told .enum-told .given .1,
     ) (called .start-table .ensures)
 

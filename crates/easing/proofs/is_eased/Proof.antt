@@ -1,7 +1,7 @@
 -- Each return by the comparison that led to it.
 use native.Mathlib.Omega.{arith}
 use borrow.Author.Needs.{needs}
-use Rattle.easing.specs.Searching.{not-eased, is-eased}
+use Rattle.easing.specs.Searching.{not-eased, eased-by}
 use Rattle.easing.proofs.is_eased.Statement.{statement}
 use Rattle.easing.proofs.is_eased.Tie as tie
 
@@ -32,14 +32,10 @@ returns-4 c =
 
 returns-5 : tie.Need-returns-5
 returns-5 c =
-    let b = c .before .before .before .before .before .before .before .before .before .before in
+    let b = c .before .before .before .before .before .before .before .before .before .before .before in
     let s = b .before .before .args in
-    is-eased (s .old) (s .new) (record {
-      same-offset = omega (arith, b .offset-of2 .ensures, b .before .offset-of .ensures);
-      same-period = omega arith;
-      lower-cost = omega arith;
-      longer-deadline = omega arith;
-    })
+    eased-by (s .old) (s .new) _ (c .same-sort .ensures) (omega (arith, b .offset-of2 .ensures, b .before .offset-of .ensures)) (omega arith)
+    (omega arith) (omega arith)
 
 pub is-eased-spec : {M : Type 1} → statement M
-is-eased-spec = tie.close (tie.spec (λ c κs. search needs) (λ c κs. search needs) returns returns-2 returns-3 returns-4 returns-5)
+is-eased-spec = tie.close (tie.spec (λ c κs. search needs) (λ c κs. search needs) returns returns-2 returns-3 returns-4 (λ c κs. search needs) returns-5)

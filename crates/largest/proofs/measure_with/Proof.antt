@@ -2,7 +2,8 @@
 use Prim.Native.Nat.{_-_}
 use native.Mathlib.Omega.{arith}
 use borrow.Author.Needs.{needs}
-use Rattle.largest.specs.Halving.{ranged-of, well-with, more-le}
+use Rattle.largest.specs.Halving.{ranged-of, more-le}
+use Rattle.backlog.specs.Largest.{well-with}
 use Rattle.largest.proofs.measure_with.Statement.{statement}
 use Rattle.largest.proofs.measure_with.Tie as tie
 
@@ -33,7 +34,8 @@ returns : tie.Need-returns
 returns c =
     let s = c .before .before .before .before .before .before in
     rw (c .before .before .before .to-u64 .ensures .0, c .before .before .to-u642 .ensures .0)
-    (well-with (s .args .t1) (s .args .m) (s .pre .0) (s .args .i) (s .args .cost) (s .pre .1 .0) (s .pre .1 .1 .0) (s .pre .1 .1 .1))
+    (well-with (s .args .t1) (ranged-of (s .args .t1) (s .args .m) (s .pre .0)) (s .args .i) (s .pre .1 .0) (s .args .m) (s .pre .0) (s .args .cost)
+    (s .pre .1 .1 .0) (s .pre .1 .1 .1))
 
 pub measure-with-spec : {M : Type 1} → statement M
 measure-with-spec =

@@ -1,4 +1,4 @@
--- A line of a report determines the numbers in it, and what follows it.
+-- LINES APART (`line-number`): a line of a report determines the numbers in it, and what follows it.
 use mathlib.Core.Path.{_≡_, refl, sym, ap, _∙_}
 use mathlib.Core.Bool.{Bool, true, false, _&&_}
 use mathlib.Core.List.{List, [], _∷_, _++_, append-assoc, append-cancel-left, head-eq-of-cons-eq, tail-eq-of-cons-eq}

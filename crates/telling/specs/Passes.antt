@@ -1,4 +1,4 @@
--- A report says that the table passes exactly if the verdict is that (`says-passes`): no other line is like its line.
+-- VERDICT PASSES (`says-passes`): a report says so exactly if the verdict is that; no other line is like its line.
 use mathlib.Core.Path.{_≡_, refl, sym, ap, _∙_}
 use mathlib.Core.Logic.{_↔_}
 use mathlib.Core.Bool.{Bool, true, false, not, _&&_}
@@ -16,8 +16,8 @@ use Rattle.model.specs.Report.{line, quickWord, worstLines, details, reportOf}
 use Rattle.model.specs.ReportRead.{hasLine, saysPasses}
 use Rattle.plaintext.specs.Numbers.{digit-range}
 use Rattle.plaintext.specs.Canonical.{means}
-use Rattle.readback.specs.Apart.{both}
-use Rattle.readback.specs.Determined.{fromSettled, fromVerdict, grouped}
+use Rattle.telling.specs.Apart.{both}
+use Rattle.telling.specs.Determined.{fromSettled, fromVerdict, grouped}
 
 -- ---- The lines of a text
 

@@ -1,4 +1,4 @@
--- A report determines what it tells (`report-tells`), also in a buffer that it was written into (`written-tells`).
+-- A REPORT DETERMINES WHAT IT TELLS (`report-tells`), also in a buffer that it was written into (`written-tells`).
 use mathlib.Core.Path.{_≡_, refl, sym, ap, _∙_}
 use mathlib.Core.Bool.{Bool, true, false}
 use mathlib.Core.List.{List, [], _++_, append-assoc}
@@ -11,7 +11,7 @@ use Rattle.values.specs.declared.Verdict.{Verdict}
 use Rattle.values.specs.declared.Answer.{Answer}
 use Rattle.model.specs.Notation.{text, decimal}
 use Rattle.model.specs.Report.{line, verdictWord, quickWord, worstLines, details, reportOf, written}
-use Rattle.readback.specs.Apart.{number-apart, line-number, line-numbers}
+use Rattle.telling.specs.Apart.{number-apart, line-number, line-numbers}
 
 -- Two answers have the same worst response of each of n tasks, and the same first idle instant.
 pub record SameResponses (n : ℕ) (a a′ : Answer) : Type 0 where

@@ -1,5 +1,5 @@
--- What a host reads off what a check returned and left is the report (`read-off`), and the exported call says 1 of it
--- exactly if it says that the table passes (`one-exactly`).
+-- READ OFF (`read-off`): what a host reads off what a check returned and left is the report, and the exported call says 1 of
+-- it exactly if it says that the table passes (`one-exactly`).
 use mathlib.Core.Path.{_≡_, refl}
 use mathlib.Core.Logic.{_↔_}
 use mathlib.Core.Bool.{Bool, true, false, cond}
