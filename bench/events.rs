@@ -1,10 +1,20 @@
-// Two programs that decide what the walks of walk.rs decide, but go from one release or finish to the next. They are written
-// for the comparison with the proved leaps. A deadline with the period behind it is one number: one comparison orders two jobs.
+//! Two Rust programs that go from one release or finish to the next, and stop where the run repeats, as the proved test does.
+//! A deadline with the period behind it is one number, so that one comparison orders two jobs.
+
 use std::cmp::Reverse;
 use std::collections::BinaryHeap;
 
-use crate::calls::{Task, TASKS};
+use crate::calls::TASKS;
+use crate::tables::{largest_offset, round, Task};
 use crate::walk::{End, Walk};
+
+pub type Program = fn(&[Task], u64, u64) -> Walk;
+pub const PROGRAMS: [Program; 2] = [arrays, heaps];
+
+/// From here on a run without an open job repeats what it did a round before.
+pub fn again(tasks: &[Task]) -> u64 {
+    largest_offset(tasks) + round(tasks)
+}
 
 const PERIOD_BITS: u32 = 16;
 const TASK_BITS: u32 = 5;
@@ -14,30 +24,31 @@ fn job(k: &Task, released: u64) -> u64 {
     (released + k.deadline as u64) << PERIOD_BITS | k.period as u64
 }
 
-// With arrays: the next release and the open job of each task, and one pass over the tasks an event.
+/// With arrays: the next release and the open job of each task, and one pass over the tasks an event.
 #[inline(never)]
-pub fn arrays(tasks: &[Task], end: u64) -> Walk {
-    in_arrays(tasks, end).0
+pub fn arrays(tasks: &[Task], end: u64, again: u64) -> Walk {
+    in_arrays(tasks, end, again).0
 }
 
-// The releases and finishes up to the end or the late deadline.
+/// The releases and finishes up to where the programs stop.
 #[inline(never)]
-pub fn events(tasks: &[Task], end: u64) -> u64 {
-    in_arrays(tasks, end).1
+pub fn events(tasks: &[Task], end: u64, again: u64) -> u64 {
+    in_arrays(tasks, end, again).1
 }
 
 // Inlined, so that nothing is counted where the count is not asked for.
 #[inline(always)]
-fn in_arrays(tasks: &[Task], end: u64) -> (Walk, u64) {
+fn in_arrays(tasks: &[Task], end: u64, again: u64) -> (Walk, u64) {
     // said once, so that no place in an array is checked in the loop
     assert!(tasks.len() <= TASKS);
     let mut state = Arrays { next: [0; TASKS], open: [NO_JOB; TASKS], left: [0; TASKS] };
+    state.next.iter_mut().zip(tasks).for_each(|(next, k)| *next = k.offset as u64);
     let mut worst = [0u32; TASKS];
     let (mut jobs, mut idle, mut at, mut events) = (0, 0, 0, 0);
-    for (next, k) in state.next.iter_mut().zip(tasks) {
-        *next = k.offset as u64;
-    }
     loop {
+        if jobs == 0 && at >= again {
+            return (Walk { end: End::Reached(end), worst, idle }, events);
+        }
         let Some(seen) = state.pass(tasks, at, end) else {
             return (Walk { end: End::Late(at), worst, idle }, events);
         };
@@ -106,9 +117,9 @@ impl Arrays {
     }
 }
 
-// With two binary heaps: the next releases, and the open jobs by deadline, period and number.
+/// With two binary heaps: the next releases, and the open jobs by deadline, period and number.
 #[inline(never)]
-pub fn heaps(tasks: &[Task], end: u64) -> Walk {
+pub fn heaps(tasks: &[Task], end: u64, again: u64) -> Walk {
     let first = |(i, k): (usize, &Task)| Reverse((k.offset as u64) << TASK_BITS | i as u64);
     let mut releases: BinaryHeap<Reverse<u64>> = tasks.iter().enumerate().map(first).collect();
     let mut open = BinaryHeap::with_capacity(tasks.len());
@@ -120,8 +131,8 @@ pub fn heaps(tasks: &[Task], end: u64) -> Walk {
         if due <= at {
             return Walk { end: End::Late(at), worst, idle };
         }
-        if at == end {
-            return Walk { end: End::Reached(at), worst, idle };
+        if at == end || (due == NO_JOB && at >= again) {
+            return Walk { end: End::Reached(end), worst, idle };
         }
         let soon = release(tasks, at, &mut releases, &mut open, &mut left).min(end);
         let Some(&Reverse(top)) = open.peek() else {
@@ -153,7 +164,13 @@ fn number(top: u64) -> usize {
 
 // Opens the jobs that are released now, and hands back the next release.
 #[inline(always)]
-fn release(tasks: &[Task], at: u64, releases: &mut BinaryHeap<Reverse<u64>>, open: &mut BinaryHeap<Reverse<u64>>, left: &mut [u64; TASKS]) -> u64 {
+fn release(
+    tasks: &[Task],
+    at: u64,
+    releases: &mut BinaryHeap<Reverse<u64>>,
+    open: &mut BinaryHeap<Reverse<u64>>,
+    left: &mut [u64; TASKS],
+) -> u64 {
     loop {
         let mut top = releases.peek_mut().unwrap();
         let (time, i) = (top.0 >> TASK_BITS, number(top.0));

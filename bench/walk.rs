@@ -1,9 +1,7 @@
-// The plain walk that the proved one is compared with: slot by slot, the released job with the earliest deadline, ties to the
-// shorter period and then to the lower number; worst responses, the first idle instant after 0, and the first deadline that a job
-// misses. It is written in two ways. No program uses all of it.
-#![allow(dead_code)]
+//! The Rust walk of single slots: the earliest deadline, ties to the shorter period and then to the lower number.
 
-use crate::calls::{Task, TASKS};
+use crate::calls::TASKS;
+use crate::tables::Task;
 
 #[derive(Clone, Copy, Debug, PartialEq)]
 pub enum End {
@@ -18,7 +16,7 @@ pub struct Walk {
     pub idle: u64,
 }
 
-// The part of a report that a walk decides, as the walk would say it; of a late table's interval only the end.
+/// The part of a report that a walk decides, as the walk would say it; of a late table's interval only the end.
 pub fn said_by(walk: &Walk, tasks: usize, at_horizon: bool) -> Vec<String> {
     match walk.end {
         End::Late(at) => vec!["verdict late".into(), format!("settled {at}"), format!("interval .. {at}")],
@@ -33,114 +31,95 @@ pub fn said_by(walk: &Walk, tasks: usize, at_horizon: bool) -> Vec<String> {
 }
 
 pub fn said_by_report(report: &str) -> Vec<String> {
-    report
-        .lines()
-        .skip(4)
-        .map(|line| match line.split(' ').collect::<Vec<_>>()[..] {
-            ["interval", _, to, "demand", _] => format!("interval .. {to}"),
-            _ => line.to_string(),
-        })
-        .collect()
+    let line = |line: &str| match line.split(' ').collect::<Vec<_>>()[..] {
+        ["interval", _, to, "demand", _] => format!("interval .. {to}"),
+        _ => line.to_string(),
+    };
+    report.lines().skip(4).map(line).collect()
 }
 
-// Late jobs are looked for in the pass that makes the slot, as the proved walk does it.
+/// Late jobs are looked for in the pass that makes the slot, as the proved walk does it.
 #[inline(never)]
 pub fn one_pass(tasks: &[Task], end: u64) -> Walk {
-    let n = tasks.len();
-    let mut wait = [0u32; TASKS];
-    let mut left = [0u32; TASKS];
-    let mut slack = [0u32; TASKS];
-    let mut worst = [0u32; TASKS];
-    let mut idle = 0;
-    for i in 0..n {
-        wait[i] = tasks[i].offset;
-        slack[i] = tasks[i].period - tasks[i].deadline;
-    }
-    let mut at = 0;
+    walk::<false>(tasks, end)
+}
+
+/// Late jobs are looked for first, and then the slot is made.
+#[inline(never)]
+pub fn two_passes(tasks: &[Task], end: u64) -> Walk {
+    walk::<true>(tasks, end)
+}
+
+#[inline(always)]
+fn walk<const APART: bool>(tasks: &[Task], end: u64) -> Walk {
+    // said once, so that no place in an array is checked in the loop
+    assert!(tasks.len() <= TASKS);
+    let mut slots = Slots::new(tasks);
+    let (mut worst, mut idle, mut at) = ([0u32; TASKS], 0, 0);
     loop {
-        let mut owner = None;
-        let mut first = u64::MAX;
-        for i in 0..n {
-            if left[i] > 0 && wait[i] == slack[i] {
-                return Walk { end: End::Late(at), worst, idle };
-            }
-            if wait[i] == 0 {
-                wait[i] = tasks[i].period;
-                left[i] = tasks[i].cost;
-            }
-            if left[i] > 0 {
-                let key = u64::from(wait[i] - slack[i]) << 32 | u64::from(tasks[i].period);
-                if key < first {
-                    first = key;
-                    owner = Some(i);
-                }
-            }
-            wait[i] -= 1;
-        }
-        if at == end {
+        let late = if APART { slots.late() } else { false };
+        if APART && at == end && !late {
             return Walk { end: End::Reached(at), worst, idle };
         }
-        if let Some(i) = owner {
-            left[i] -= 1;
-            if left[i] == 0 {
-                worst[i] = worst[i].max(tasks[i].period - wait[i]);
+        let Some(owner) = (if late { None } else { slots.pass::<APART>() }) else {
+            return Walk { end: End::Late(at), worst, idle };
+        };
+        if !APART && at == end {
+            return Walk { end: End::Reached(at), worst, idle };
+        }
+        if owner < TASKS {
+            slots.left[owner] -= 1;
+            if slots.left[owner] == 0 {
+                worst[owner] = worst[owner].max(tasks[owner].period - slots.wait[owner]);
             }
         }
         at += 1;
-        if idle == 0 && left[..n].iter().all(|&slots| slots == 0) {
+        if idle == 0 && slots.left[..tasks.len()].iter().all(|&left| left == 0) {
             idle = at;
         }
     }
 }
 
-// Late jobs are looked for first, and then the slot is made.
-#[inline(never)]
-pub fn two_passes(tasks: &[Task], end: u64) -> Walk {
-    let n = tasks.len();
-    let mut wait = [0u32; TASKS];
-    let mut left = [0u32; TASKS];
-    let mut slack = [0u32; TASKS];
-    let mut worst = [0u32; TASKS];
-    let mut idle = 0;
-    for i in 0..n {
-        wait[i] = tasks[i].offset;
-        slack[i] = tasks[i].period - tasks[i].deadline;
+struct Slots<'a> {
+    tasks: &'a [Task],
+    wait: [u32; TASKS],
+    left: [u32; TASKS],
+    slack: [u32; TASKS],
+}
+
+impl Slots<'_> {
+    fn new(tasks: &[Task]) -> Slots<'_> {
+        let mut slots = Slots { tasks, wait: [0; TASKS], left: [0; TASKS], slack: [0; TASKS] };
+        for (i, k) in tasks.iter().enumerate() {
+            (slots.wait[i], slots.slack[i]) = (k.offset, k.period - k.deadline);
+        }
+        slots
     }
-    let mut at = 0;
-    loop {
-        for i in 0..n {
-            if left[i] > 0 && wait[i] == slack[i] {
-                return Walk { end: End::Late(at), worst, idle };
+
+    #[inline(always)]
+    fn late(&self) -> bool {
+        (0..self.tasks.len()).any(|i| self.left[i] > 0 && self.wait[i] == self.slack[i])
+    }
+
+    // The slot's owner, or TASKS for none; nothing, if a job is late and that was not looked for apart.
+    #[inline(always)]
+    fn pass<const APART: bool>(&mut self) -> Option<usize> {
+        let (mut owner, mut first) = (TASKS, u64::MAX);
+        for (i, k) in self.tasks.iter().enumerate() {
+            if !APART && self.left[i] > 0 && self.wait[i] == self.slack[i] {
+                return None;
             }
-        }
-        if at == end {
-            return Walk { end: End::Reached(at), worst, idle };
-        }
-        let mut owner = None;
-        let mut first = u64::MAX;
-        for i in 0..n {
-            if wait[i] == 0 {
-                wait[i] = tasks[i].period;
-                left[i] = tasks[i].cost;
+            if self.wait[i] == 0 {
+                (self.wait[i], self.left[i]) = (k.period, k.cost);
             }
-            if left[i] > 0 {
-                let key = u64::from(wait[i] - slack[i]) << 32 | u64::from(tasks[i].period);
+            if self.left[i] > 0 {
+                let key = u64::from(self.wait[i] - self.slack[i]) << 32 | u64::from(k.period);
                 if key < first {
-                    first = key;
-                    owner = Some(i);
+                    (first, owner) = (key, i);
                 }
             }
-            wait[i] -= 1;
+            self.wait[i] -= 1;
         }
-        if let Some(i) = owner {
-            left[i] -= 1;
-            if left[i] == 0 {
-                worst[i] = worst[i].max(tasks[i].period - wait[i]);
-            }
-        }
-        at += 1;
-        if idle == 0 && left[..n].iter().all(|&slots| slots == 0) {
-            idle = at;
-        }
+        Some(owner)
     }
 }

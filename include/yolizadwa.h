@@ -191,7 +191,7 @@ uint64_t yolizadwa_to_text(const uint8_t *file, size_t file_len, uint8_t *text, 
  * what is said of the worst responses hold.
  *
  * The budget bounds the time of a check, with one exception: the quick test takes no notice of it. The quick test takes microseconds for
- * nearly every table, and on the slowest one that was found 44 s: see yolizadwa_quick. All else in a check takes a time that grows with the
+ * nearly every table, and on the slowest one that was found 45 s: see yolizadwa_quick. All else in a check takes a time that grows with the
  * releases and finishes up to `settled`, which is at most the budget and at most 2,000,000,060,000; for a table that passes, only with those
  * up to about the largest offset and one round. The time of start and step does not depend on the budget.
  *
@@ -202,13 +202,9 @@ uint64_t yolizadwa_to_text(const uint8_t *file, size_t file_len, uint8_t *text, 
  * late, the last check ends at the late deadline, and the smaller ones may take up to eight sevenths of its time. Each check repeats the
  * quick test.
  *
- * Measured (docs/PERFORMANCE.md) on an Arm machine (Neoverse V1): a release or finish took 3 to 12 ns with up to 16 tasks and 16 to 18
- * with 32; the search for a late table's interval took at most three quarters of the time up to its deadline; a step took 0.5
- * microseconds with 16 tasks and 0.8 with 32. On an x86-64 machine (AMD EPYC) a whole check took 0.3 microseconds with one task of period
- * 1, 10 with 16 tasks and 28 with 32 (periods 9,600 to 60,000), and 145 with two tasks of periods 60,000 and 59,996. Before a check ended
- * early, the Arm machine took 2.9 seconds for tables/slow.txt, with a release every fourth slot of 1,799,880,002 and a large budget, and
- * for tables of 32 tasks with a round near the limit 64 seconds (periods from 20,000 on) and 219 (from 4,000 on); such tables now take
- * about half.
+ * Measured on an x86-64 machine (AMD EPYC; docs/PERFORMANCE.md has all figures): a whole check took 0.3 microseconds with one task of
+ * period 1, 10 with 16 tasks and 28 with 32 (periods 9,600 to 60,000), 1.0 second for tables/slow.txt, and 28 to 95 seconds for tables of
+ * 32 tasks with a round near its limit. A release or finish took 2 to 15 ns. A step took 0.23 microseconds with 1 task and 0.48 with 32.
  *
  * Refusals: 30; 20 to 27; 1 and 3 to 7; 11.
  */
@@ -217,8 +213,7 @@ uint64_t yolizadwa_check(const uint8_t *file, size_t file_len, uint8_t *report, 
 /*
  * The same check by the plain engine, which walks slot by slot where yolizadwa_check leaps from one release or finish to the
  * next. For every file and report buffer the two return the same number and leave the same bytes: that is proved, so this call
- * is there for comparison alone. The quick test in it is the same. On the Arm machine a slot took 2 to 3 ns with 1 task and 19 to 42 ns
- * with 16.
+ * is there for comparison alone. The quick test in it is the same. A slot took 2 ns with 1 task and 42 with 32 on that machine.
  */
 uint64_t yolizadwa_check_plainly(const uint8_t *file, size_t file_len, uint8_t *report, size_t report_len);
 
@@ -254,7 +249,7 @@ uint64_t yolizadwa_passes(const uint8_t *report, size_t length);
  * No slot is walked. What the jobs due by an instant ask for is one sum over the tasks. Mostly some ten instants are looked at, and none
  * where every deadline is the period. They may be many, here and in a check whatever its budget, only if the load is 1 to within a
  * millionth, the round is long and some deadlines are shorter than their periods. The slowest table that was found has 14 tasks with
- * periods from 70 to 1,582 and a round of 450,838,288,810 slots, and takes 44.3 s on an x86-64 machine (AMD EPYC; docs/PERFORMANCE.md). No
+ * periods from 70 to 1,582 and a round of 450,838,288,810 slots, and takes 45 s on an x86-64 machine (AMD EPYC; docs/PERFORMANCE.md). No
  * call can stop it.
  *
  * Refusals: 20 to 27; 1 and 3 to 7; 11.

@@ -281,6 +281,7 @@ fn refused_files() -> Vec<(Vec<u8>, u64, u64)> {
         (second((60_001, 1, 4, 5)), 6, 1),
         (file_of(9, &table_of(TOO_LONG)), 7, 0),
         (file_of(9, &table_of(TOO_LONG_TOO)), 7, 0),
+        (file_of(9, &[table_of(TOO_LONG), table_of(&[(0, 1, 1, 0)])].concat()), 3, TOO_LONG.len() as u64),
         (b[..8].to_vec(), 20, 0),
         (b[..25].to_vec(), 20, 9),
         ([&b[..9], &[5][..]].concat(), 21, 9),

@@ -6,7 +6,6 @@ ghost use lib.Dec.{ltb, eqb};
 ghost use Rattle.model.specs.Limits.{taskLimit};
 ghost use Rattle.model.specs.Values.{refusal};
 ghost use Rattle.model.specs.Tasks.{offset};
-ghost use Rattle.model.specs.Dispatcher.{firstStrange};
 ghost use Rattle.belonging.specs.Strange.{strangeAt};
 ghost use Rattle.belonging.specs.Room.{roomFor, belonging};
 use slots::NO_TASK;
@@ -35,15 +34,17 @@ pub fn belonging(d: State, t: Table) -> Room
     requires { ⌜ t .count ≤ taskLimit ⌝ }
     ensures { λ r. ⌜ r ≡ belonging t d ⌝ }
 {
-    let stranger = first_strange(d, t);
-    if stranger < t.count {
-        return strange_state(stranger as u32);
+    let n = t.count;
+    for i in 0..n {
+        if is_strange(t.tasks[i], d.wait[i], d.left[i]) {
+            return strange_state(i as u32);
+        }
     }
-    if last_strange(d.last, t.count) {
+    if last_strange(d.last, n) {
         return strange_state(NO_TASK);
     }
     let given = d.given;
-    room_for(&given, d.empty, t.count)
+    room_for(&given, d.empty, n)
 }
 
 // The state does not belong to the table: this task is the first that does not, or no task is.
@@ -70,19 +71,6 @@ fn room_for(given: &Counts, empty: u64, n: usize) -> Room
         room = room - slots;
     }
     Room::Slots(room)
-}
-
-fn first_strange(d: State, t: Table) -> usize
-    requires { ⌜ t .count ≤ taskLimit ⌝ }
-    ensures { λ r. ⌜ r ≡ firstStrange t d ⌝ }
-{
-    let n = t.count;
-    for i in 0..n {
-        if is_strange(t.tasks[i], d.wait[i], d.left[i]) {
-            return i;
-        }
-    }
-    n
 }
 
 fn is_strange(task: Task, wait: u32, left: u32) -> bool

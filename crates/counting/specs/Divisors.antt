@@ -128,6 +128,14 @@ gcd-ahead a b p q = elim (euclid-ahead b a b (le-refl b)) [ inl h ↦ h | inr h 
 unfoldable pub lcm : ℕ → ℕ → ℕ
 lcm a b = a / gcd a b * b
 
+-- By any way to the greatest common divisor; and of a multiple it is that one.
+pub lcm-by : {a b g : ℕ} → IsGcd a b g → a / g * b ≡ lcm a b
+unfolding lcm
+lcm-by {a} {b} d = rw (gcd-unique d (gcd-is a b))
+
+pub lcm-multiple : (a b : ℕ) → a % b ≡ 0 → a ≡ lcm a b
+lcm-multiple a b e = sym (div-mul-cancel b (dvd-iff-mod-eq-zero b .1 e)) ∙ lcm-by (gcd-step (rw e (gcd-zero b)))
+
 -- A factor of both numbers can be taken out.
 gcd-mul : (m a b : ℕ) → 0 < m → gcd (m * a) (m * b) ∣ m * gcd a b
 gcd-mul m a b pos =
@@ -201,10 +209,10 @@ pub lcmAll-none : (f : ℕ → ℕ) → 1 ≡ lcmAll 0 f
 unfolding lcmAll
 lcmAll-none f = refl
 
--- A turn of that loop, with any way to the greatest common divisor.
-pub lcmAll-more : (f : ℕ → ℕ) (i : ℕ) {l g r : ℕ} → l ≡ lcmAll i f → IsGcd l (f i) g → r ≡ l / g * f i → r ≡ lcmAll (i + 1) f
-unfolding lcmAll lcm
-lcmAll-more f i {l} e d q = rw (add-one, ← e, q, gcd-unique d (gcd-is l (f i)))
+-- A turn of a loop over the numbers.
+pub lcmAll-next : (f : ℕ → ℕ) (i : ℕ) {l : ℕ} → l ≡ lcmAll i f → lcm l (f i) ≡ lcmAll (i + 1) f
+unfolding lcmAll
+lcmAll-next f i e = rw (add-one, e)
 
 -- f 0 · f 1 · .. · f (n - 1).
 unfoldable pub product : ℕ → (ℕ → ℕ) → ℕ

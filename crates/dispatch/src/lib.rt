@@ -8,11 +8,11 @@ ghost use lib.ListN.{getD};
 ghost use Rattle.values.specs.declared.Table.{Table};
 ghost use Rattle.model.specs.Limits.{taskLimit, slotCountLimit};
 ghost use Rattle.model.specs.Notation.{bit};
+ghost use Rattle.model.specs.Values.{refusal};
 ghost use Rattle.model.specs.Dispatcher.{refuseStep, started, stepped};
 ghost use Rattle.wellformed.specs.Ranges.{Ranged};
 ghost use Rattle.slots.specs.Slot.{closed};
 ghost use Rattle.dispatch.specs.State.{startedOf, steppedOf};
-ghost use Rattle.belonging.specs.Room.{belonging};
 ghost use Rattle.dispatch.specs.Accounts.{counted};
 ghost use Rattle.dispatch.specs.Step.{Unpacked, Unrefused, stateWith, Advanced, taken, stepWellFormed, turnOf};
 use belonging::Counts;
@@ -22,7 +22,6 @@ use slots::Numbers;
 use slots::Ranks;
 use values::Admission;
 use values::FULL_STATE;
-use values::Judgement;
 use values::Refusal;
 use values::SlotAnswer;
 use values::State;
@@ -49,12 +48,12 @@ impl Dispatcher {
     pub fn start(self, t: Table) -> Started
         ensures { λ r. ⌜ startedOf r ≡ started t (self .state) ⌝ }
     {
-        match table::judge(t) {
-            Judgement::Refused(refusal) => Started {
+        match table::admit(t) {
+            Admission::Refused(refusal) => Started {
                 admission: Admission::Refused(refusal),
                 dispatcher: self,
             },
-            Judgement::WellFormed(_) => Started {
+            Admission::Admitted => Started {
                 admission: Admission::Admitted,
                 dispatcher: Dispatcher {
                     state: State {
@@ -73,9 +72,9 @@ impl Dispatcher {
         ensures { λ r. ⌜ steppedOf r ≡ stepped t (self .state) done ⌝ }
     {
         let state = self.state;
-        match table::judge(t) {
-            Judgement::Refused(why) => handed_back(state, why),
-            Judgement::WellFormed(_) => step_well_formed(state, t, done),
+        match table::admit(t) {
+            Admission::Refused(why) => handed_back(state, why),
+            Admission::Admitted => step_well_formed(state, t, done),
         }
     }
 }
@@ -89,37 +88,34 @@ fn handed_back(d: State, why: Refusal) -> Stepped
     }
 }
 
+// A state that belongs to the table is refused by 9 if it can count no slot more.
 fn step_well_formed(d: State, t: Table, done: bool) -> Stepped
     requires { ⌜ Ranged t ⌝ }
     ensures { λ r. ⌜ steppedOf r ≡ stepWellFormed t d done ⌝ }
 {
     match belonging::belonging(d, t) {
         Room::Refused(why) => handed_back(d, why),
-        Room::Slots(room) => step_admitted(d, t, room, done),
+        Room::Slots(room) => {
+            if room == 0 {
+                return handed_back(d, full_state());
+            }
+            let columns = slots::unpack(t);
+            let period = columns.period;
+            let cost = columns.cost;
+            let slack = columns.slack;
+            let rank = columns.rank;
+            step_taken(d, &period, &cost, &slack, &rank, t.count, done)
+        }
     }
 }
 
-// A state that belongs to the table: refused by 9 if it can count no slot more.
-fn step_admitted(d: State, t: Table, room: u64, done: bool) -> Stepped
-    requires { ⌜ Ranged t ⌝ }
-    requires { ⌜ belonging t d ≡ Room.Slots room ⌝ }
-    ensures { λ r. ⌜ steppedOf r ≡ stepWellFormed t d done ⌝ }
+fn full_state() -> Refusal
+    ensures { λ r. ⌜ r ≡ refusal 9 0 ⌝ }
 {
-    if room == 0 {
-        return handed_back(
-            d,
-            Refusal {
-                number: FULL_STATE,
-                place: 0,
-            },
-        );
+    Refusal {
+        number: FULL_STATE,
+        place: 0,
     }
-    let columns = slots::unpack(t);
-    let period = columns.period;
-    let cost = columns.cost;
-    let slack = columns.slack;
-    let rank = columns.rank;
-    step_taken(d, &period, &cost, &slack, &rank, t.count, done)
 }
 
 // The four rules of a step that nothing refuses, on a table that is unpacked, and the slot counted.

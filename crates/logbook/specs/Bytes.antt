@@ -11,13 +11,11 @@ use lib.Dec.{eqb, ltb}
 use lib.ListN.{length, getD, take, drop, take-append-drop}
 use lib.Seq.{take-suc, take-all}
 use Rattle.values.specs.declared.Table.{Table}
-use Rattle.values.specs.declared.Judgement.{Judgement}
 use Rattle.values.specs.declared.Admission.{Admission}
 use Rattle.values.specs.declared.Finding.{Finding}
 use Rattle.model.specs.Limits.{taskLimit, logLimit}
-use Rattle.model.specs.Tasks.{measure}
-use Rattle.model.specs.Dispatcher.{State, admittedBy, after}
-use Rattle.model.specs.Log.{Log, dueOwner, slotRead, taskRead, kindRead, readBy, readByte, readAll, logAdmittedBy, logAdmitted}
+use Rattle.model.specs.Dispatcher.{State, after}
+use Rattle.model.specs.Log.{Log, dueOwner, slotRead, taskRead, kindRead, readBy, readByte, readAll, logAdmitted}
 use Rattle.model.specs.LogMeaning.{Final}
 use Rattle.counting.specs.Count.{one-of-iff}
 use Rattle.wellformed.specs.Ranges.{Ranged}
@@ -27,10 +25,6 @@ use Rattle.logbook.specs.declared.Reading.{Reading}
 use Rattle.logbook.specs.State.{joined}
 use Rattle.logbook.specs.Fits.{Sized, Fits, log-admitted-iff, fits-byte}
 use Rattle.logbook.specs.Cuts.{read-joined, stays}
-
--- Whether a log of a well-formed table is admitted.
-abbrev pub logBelonging : Table → Log → Admission
-logBelonging t l = logAdmittedBy t l (admittedBy t (l .state) (Judgement.WellFormed (measure t)))
 
 -- What a byte may be read on.
 pub record Readable (t : Table) (l : Log) : Type 0 where

@@ -6,12 +6,12 @@ ghost use lib.Dec.{ltb, eqb};
 ghost use Rattle.values.specs.declared.Table.{Table};
 ghost use Rattle.values.specs.declared.Admission.{Admission};
 ghost use Rattle.values.specs.declared.Finding.{Finding};
-ghost use Rattle.model.specs.Limits.{taskLimit, logLimit};
+ghost use Rattle.model.specs.Limits.{logLimit};
 ghost use Rattle.model.specs.Log.{Log as LogState, unread, logStarted, fed, logFinished, logAdmitted, atEnd, readAll};
 ghost use Rattle.model.specs.LogMeaning.{Final};
 ghost use Rattle.dispatch.specs.Step.{Unpacked, stateWith};
 ghost use Rattle.logbook.specs.State.{joined, logStateOf, fedOf};
-ghost use Rattle.logbook.specs.Bytes.{Readable, ReadTo, endsSlot, isDue, slotOn, stoppedAt, passedOn, doneHeard, kindHeard, otherRead, logBelonging};
+ghost use Rattle.logbook.specs.Bytes.{Readable, ReadTo, endsSlot, isDue, slotOn, stoppedAt, passedOn, doneHeard, kindHeard, otherRead};
 use belonging::Counts;
 use belonging::Room;
 use dispatch::Dispatcher;
@@ -21,7 +21,6 @@ use slots::Ranks;
 use slots::Seen;
 use values::Admission;
 use values::Finding;
-use values::Judgement;
 use values::LOG_AFTER_END;
 use values::LOG_BAD_DONE;
 use values::LOG_LIMIT;
@@ -132,36 +131,30 @@ fn unread(state: State) -> Log
     }
 }
 
-// Whether the log belongs to the table.
+// Whether the log belongs to the table: the table's refusals, then the places of 8, the dispatcher's and that of the counts.
 fn admission(log: Log, t: Table) -> Admission
     ensures { λ r. ⌜ r ≡ logAdmitted t (logStateOf log) ⌝ }
 {
-    match table::judge(t) {
-        Judgement::Refused(why) => Admission::Refused(why),
-        Judgement::WellFormed(_) => belonging(log, t),
-    }
-}
-
-// The places of 8, in their order: the dispatcher's, and then that of the counts.
-fn belonging(log: Log, t: Table) -> Admission
-    requires { ⌜ t .count ≤ taskLimit ⌝ }
-    ensures { λ r. ⌜ r ≡ logBelonging t (logStateOf log) ⌝ }
-{
-    let state = log.state;
-    match belonging::belonging(state, t) {
-        Room::Refused(why) => Admission::Refused(why),
-        Room::Slots(room) => {
-            if miscounted(
-                log.reading.slots,
-                log.reading.bytes,
-                SLOT_COUNT_LIMIT - room,
-            ) {
-                return Admission::Refused(Refusal {
-                    number: STRANGE_STATE,
-                    place: COUNT_PLACE,
-                });
+    match table::admit(t) {
+        Admission::Refused(why) => Admission::Refused(why),
+        Admission::Admitted => {
+            let state = log.state;
+            match belonging::belonging(state, t) {
+                Room::Refused(why) => Admission::Refused(why),
+                Room::Slots(room) => {
+                    if miscounted(
+                        log.reading.slots,
+                        log.reading.bytes,
+                        SLOT_COUNT_LIMIT - room,
+                    ) {
+                        return Admission::Refused(Refusal {
+                            number: STRANGE_STATE,
+                            place: COUNT_PLACE,
+                        });
+                    }
+                    Admission::Admitted
+                }
             }
-            Admission::Admitted
         }
     }
 }

@@ -1,7 +1,7 @@
 -- Tasks, their ranges, and well-formed tables.
 use Rattle.model.specs.Notation.{Bool, true, false, cond, not, _&&_, ℕ, _+_, _*_, _/_, _%_, _^_, leb, ltb, eqb}
 use Rattle.model.specs.Notation.{getD, sum, largest, every, first}
-use Rattle.model.specs.Values.{Sort, Task, Table, Measure, Judgement, refusal}
+use Rattle.model.specs.Values.{Sort, Task, Table, Measure, Judgement, Admission, refusal}
 use Rattle.model.specs.Limits.{taskLimit, slotLimit, roundLimit}
 
 -- What stands past the end of a list of tasks.
@@ -96,3 +96,8 @@ periodicOnly t (Judgement.WellFormed m) =
 
 unfoldable pub judged : Table → Judgement
 judged t = periodicOnly t (judgedMixed t)
+
+-- Whether a judgement admits its table.
+abbrev pub admissionOf : Judgement → Admission
+admissionOf (Judgement.Refused r) = Admission.Refused r
+admissionOf (Judgement.WellFormed m) = Admission.Admitted

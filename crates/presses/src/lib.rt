@@ -10,7 +10,6 @@ use slots::NO_TASK;
 use slots::Numbers;
 use values::Admission;
 use values::FULL_STATE;
-use values::Judgement;
 use values::Refusal;
 use values::SlotAnswer;
 use values::State;
@@ -39,12 +38,12 @@ impl Presses {
     pub fn start(self, t: Table) -> Started
         ensures { λ r. ⌜ startedOf r ≡ startedMixed t (self .state) ⌝ }
     {
-        match table::judge_mixed(t) {
-            Judgement::Refused(refusal) => Started {
+        match table::admit_mixed(t) {
+            Admission::Refused(refusal) => Started {
                 admission: Admission::Refused(refusal),
                 presses: self,
             },
-            Judgement::WellFormed(_) => Started {
+            Admission::Admitted => Started {
                 admission: Admission::Admitted,
                 presses: Presses {
                     state: State {
@@ -64,9 +63,9 @@ impl Presses {
         ensures { λ r. ⌜ pressedOf r ≡ steppedPressed t (self .state) done pressed ⌝ }
     {
         let state = self.state;
-        match table::judge_mixed(t) {
-            Judgement::Refused(why) => handed_back(state, why, pressed),
-            Judgement::WellFormed(_) => step_well_formed(state, t, done, pressed),
+        match table::admit_mixed(t) {
+            Admission::Refused(why) => handed_back(state, why, pressed),
+            Admission::Admitted => step_well_formed(state, t, done, pressed),
         }
     }
 }

@@ -1,12 +1,14 @@
 // Judges any table: refusals 1 to 7, and 11 where only periodic tasks are allowed, or what a well-formed table measures.
 ghost use mathlib.Core.Path.{_≡_};
-ghost use Prim.Native.Nat.{_≤_};
-ghost use Rattle.values.specs.declared.Judgement.{Judgement};
+ghost use Prim.Native.Nat.{_≤_, _<_};
 ghost use Rattle.model.specs.Values.{refusal};
-ghost use Rattle.model.specs.Limits.{taskLimit};
-ghost use Rattle.model.specs.Tasks.{within, taskFault, firstFaulty, firstButton, load, horizon, judgedMixed, judged};
+ghost use Rattle.model.specs.Limits.{taskLimit, slotLimit, roundLimit};
+ghost use Rattle.model.specs.Tasks.{within, taskFault, measure, judgedMixed, judged, admissionOf};
+ghost use Rattle.counting.specs.Divisors.{lcm};
 ghost use Rattle.wellformed.specs.Ranges.{Ranged};
-ghost use Rattle.wellformed.specs.Round.{RoundTold, RoundKept};
+ghost use Rattle.wellformed.specs.Round.{RoundKept};
+ghost use Rattle.table.specs.Survey.{Surveyed};
+use values::Admission;
 use values::BAD_COST;
 use values::BAD_DEADLINE;
 use values::BAD_OFFSET;
@@ -28,14 +30,13 @@ use values::Task;
 pub fn judge(t: Table) -> Judgement
     ensures { λ r. ⌜ r ≡ judged t ⌝ }
 {
-    match judge_mixed(t) {
-        Judgement::Refused(why) => Judgement::Refused(why),
-        Judgement::WellFormed(measure) => {
-            let button = first_button(t);
+    match survey(t) {
+        Found::Refused(why) => Judgement::Refused(why),
+        Found::Kept { round, button } => {
             if button < t.count {
-                return refuse(HAS_BUTTON, button as u32);
+                return Judgement::Refused(has_button(button));
             }
-            Judgement::WellFormed(measure)
+            Judgement::WellFormed(measure_of(t, round))
         }
     }
 }
@@ -44,58 +45,89 @@ pub fn judge(t: Table) -> Judgement
 pub fn judge_mixed(t: Table) -> Judgement
     ensures { λ r. ⌜ r ≡ judgedMixed t ⌝ }
 {
+    match survey(t) {
+        Found::Refused(why) => Judgement::Refused(why),
+        Found::Kept { round, button: _ } => Judgement::WellFormed(measure_of(t, round)),
+    }
+}
+
+// The judge's refusal alone: what a step needs of it.
+pub fn admit(t: Table) -> Admission
+    ensures { λ r. ⌜ r ≡ admissionOf (judged t) ⌝ }
+{
+    match survey(t) {
+        Found::Refused(why) => Admission::Refused(why),
+        Found::Kept { round: _, button } => {
+            if button < t.count {
+                return Admission::Refused(has_button(button));
+            }
+            Admission::Admitted
+        }
+    }
+}
+
+pub fn admit_mixed(t: Table) -> Admission
+    ensures { λ r. ⌜ r ≡ admissionOf (judgedMixed t) ⌝ }
+{
+    match survey(t) {
+        Found::Refused(why) => Admission::Refused(why),
+        Found::Kept {
+            round: _,
+            button: _,
+        } => Admission::Admitted,
+    }
+}
+
+fn has_button(button: usize) -> Refusal
+    requires { ⌜ button < taskLimit ⌝ }
+    ensures { λ r. ⌜ r ≡ refusal 11 button ⌝ }
+{
+    Refusal {
+        number: HAS_BUTTON,
+        place: button as u32,
+    }
+}
+
+// A refusal, or the round and the first button: the count if there is none.
+pub enum Found {
+    Refused(Refusal),
+    Kept { round: u64, button: usize },
+}
+
+fn refused(number: u32, place: u32) -> Found
+    ensures { λ r. ⌜ r ≡ Found.Refused (refusal number place) ⌝ }
+{
+    Found::Refused(Refusal { number, place })
+}
+
+// One pass: a table handed to a call is copied.
+fn survey(t: Table) -> Found
+    ensures { λ r. ⌜ Surveyed t r ⌝ }
+{
     let n = t.count;
     if n == 0 {
-        return refuse(NO_TASKS, 0);
+        return refused(NO_TASKS, 0);
     }
     if n > TASK_LIMIT {
-        return refuse(TOO_MANY_TASKS, TASK_LIMIT as u32);
+        return refused(TOO_MANY_TASKS, TASK_LIMIT as u32);
     }
-    let faulty = first_faulty(t);
-    if faulty < n {
-        return refuse(task_fault(t.tasks[faulty]), faulty as u32);
-    }
-    let round = round_of(t);
-    if round > ROUND_LIMIT {
-        return refuse(LONG_ROUND, 0);
-    }
-    Judgement::WellFormed(Measure {
-        round,
-        load: load_of(t, round),
-        horizon: horizon_of(t, round),
-    })
-}
-
-pub fn first_button(t: Table) -> usize
-    requires { ⌜ t .count ≤ taskLimit ⌝ }
-    ensures { λ r. ⌜ r ≡ firstButton t ⌝ }
-{
-    let n = t.count;
+    let mut round: u64 = 1;
+    let mut button = n;
     for i in 0..n {
-        if sorts::is_button(t.tasks[i]) {
-            return i;
+        let task = t.tasks[i];
+        let fault = task_fault(task);
+        if fault != 0 {
+            return refused(fault, i as u32);
+        }
+        round = common_multiple(round, task.period as u64);
+        if button == n && sorts::is_button(task) {
+            button = i;
         }
     }
-    n
-}
-
-fn refuse(number: u32, place: u32) -> Judgement
-    ensures { λ r. ⌜ r ≡ Judgement.Refused (refusal number place) ⌝ }
-{
-    Judgement::Refused(Refusal { number, place })
-}
-
-fn first_faulty(t: Table) -> usize
-    requires { ⌜ t .count ≤ taskLimit ⌝ }
-    ensures { λ r. ⌜ r ≡ firstFaulty t ⌝ }
-{
-    let n = t.count;
-    for i in 0..n {
-        if task_fault(t.tasks[i]) != 0 {
-            return i;
-        }
+    if ROUND_LIMIT < round {
+        return refused(LONG_ROUND, 0);
     }
-    n
+    Found::Kept { round, button }
 }
 
 fn task_fault(k: Task) -> u32
@@ -122,49 +154,39 @@ fn within(least: u32, most: u32, x: u32) -> bool
     least <= x && x <= most
 }
 
-// It stops above the limit: a least common multiple never falls with more periods, and so nothing wraps.
-fn round_of(t: Table) -> u64
-    requires { ⌜ Ranged t ⌝ }
-    ensures { λ r. ⌜ RoundTold t r ⌝ }
+// Above its limit a round stays as it is: with more periods it never falls below, and so nothing wraps.
+fn common_multiple(round: u64, period: u64) -> u64
+    requires { ⌜ (0 < period) × (period ≤ slotLimit) ⌝ }
+    ensures { λ r. ⌜ (round ≤ roundLimit → r ≡ lcm round period) × (roundLimit < round → r ≡ round) ⌝ }
 {
-    let n = t.count;
-    let mut multiple: u64 = 1;
-    for i in 0..n {
-        let period = t.tasks[i].period as u64;
-        multiple = multiple / divisor::divisor(multiple, period) * period;
-        if multiple > ROUND_LIMIT {
-            return multiple;
-        }
+    if round > ROUND_LIMIT {
+        return round;
     }
-    multiple
+    if round % period == 0 {
+        return round;
+    }
+    round / divisor::divisor(round, period) * period
 }
 
-fn load_of(t: Table, round: u64) -> u64
+fn measure_of(t: Table, round: u64) -> Measure
     requires { ⌜ Ranged t ⌝ }
     requires { ⌜ RoundKept t round ⌝ }
-    ensures { λ r. ⌜ r ≡ load t ⌝ }
+    ensures { λ r. ⌜ r ≡ measure t ⌝ }
 {
     let n = t.count;
     let mut load: u64 = 0;
+    let mut latest: u32 = 0;
     for i in 0..n {
         let task = t.tasks[i];
         load += task.cost as u64 * (round / task.period as u64);
-    }
-    load
-}
-
-fn horizon_of(t: Table, round: u64) -> u64
-    requires { ⌜ Ranged t ⌝ }
-    requires { ⌜ RoundKept t round ⌝ }
-    ensures { λ r. ⌜ r ≡ horizon t ⌝ }
-{
-    let n = t.count;
-    let mut latest: u64 = 0;
-    for i in 0..n {
-        let offset = sorts::offset_of(t.tasks[i]) as u64;
+        let offset = sorts::offset_of(task);
         if offset > latest {
             latest = offset;
         }
     }
-    latest + 2 * round
+    Measure {
+        round,
+        load,
+        horizon: latest as u64 + 2 * round,
+    }
 }

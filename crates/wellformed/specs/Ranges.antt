@@ -57,7 +57,7 @@ kept-test : (p : Bool) (n : ℕ) {m : ℕ} → T p → cond (not p) n m ≡ m
 kept-test true n t = refl
 
 -- A task without a fault keeps its ranges.
-faultless : (k : Task) → taskFault k ≡ 0 → InRange k
+pub faultless : (k : Task) → taskFault k ≡ 0 → InRange k
 unfolding taskFault
 faultless k e =
     let (period, e₁) = kept (within 1 slotLimit (k .period)) 2 e in

@@ -7,13 +7,8 @@ use Rattle.values.specs.declared.Table.{Table}
 use Rattle.model.specs.Limits.{taskLimit, slotLimit, roundLimit}
 use Rattle.model.specs.Tasks.{task, round, load}
 use Rattle.counting.specs.Sum.{sum-bound}
-use Rattle.counting.specs.Divisors.{lcmAll, lcmAll-least, lcmAll-mono, lcmAll-pos, lcmAll-le-product, product-le, divides-lcmAll, first-multiple}
+use Rattle.counting.specs.Divisors.{lcmAll, lcmAll-least, lcmAll-pos, lcmAll-le-product, product-le, divides-lcmAll, first-multiple}
 use Rattle.wellformed.specs.Ranges.{Ranged}
-
--- r is H where H keeps its limit, and is above the limit where H is.
-pub record RoundTold (t : Table) (r : ℕ) : Type 0 where
-  pub exact : r ≤ roundLimit → r ≡ round t
-  pub above : roundLimit < r → roundLimit < round t
 
 -- r is H, and keeps its limit.
 pub record RoundKept (t : Table) (r : ℕ) : Type 0 where
@@ -48,14 +43,6 @@ module _ (t : Table) (ranged : Ranged t) where
   -- No number above 0 that each period divides is smaller.
   pub round-least : (x : ℕ) → 0 < x → ((i : ℕ) → i < t .count → period t i ∣ x) → round t ≤ x
   round-least x pos h = rw round-lcm (lcmAll-least (t .count) (period t) x pos h)
-
-  -- The least common multiple of all periods tells H.
-  pub told-all : {r : ℕ} → r ≡ lcmAll (t .count) (period t) → RoundTold t r
-  told-all e = record { exact = λ l. e ∙ sym round-lcm; above = λ l. omega (arith, round-lcm) }
-
-  -- So does that of some of them, once it is above the limit: with more of them it does not fall.
-  pub told-above : (i : ℕ) {r : ℕ} → i ≤ t .count → r ≡ lcmAll i (period t) → roundLimit < r → RoundTold t r
-  told-above i l e h = record { exact = λ k. absurd (omega arith); above = λ k. omega (arith, round-lcm, lcmAll-mono i (t .count) (period t) l periods-pos) }
 
 -- Tables with the same periods have the same H.
 pub round-same : (t u : Table) → Ranged t → Ranged u → u .count ≡ t .count → ((i : ℕ) → i < t .count → period u i ≡ period t i) → round u ≡ round t

@@ -11,10 +11,12 @@ use Rattle.values.specs.declared.Table.{Table}
 use Rattle.values.specs.declared.Refusal.{Refusal}
 use Rattle.values.specs.declared.Measure.{Measure}
 use Rattle.values.specs.declared.Judgement.{Judgement}
+use Rattle.values.specs.declared.Admission.{Admission}
 use Rattle.model.specs.Notation.{largest, Least}
 use Rattle.model.specs.Values.{refusal}
 use Rattle.model.specs.Limits.{taskLimit, slotLimit, roundLimit}
-use Rattle.model.specs.Tasks.{task, isButton, offset, taskFault, firstFaulty, firstButton, round, load, horizon, measure, judgedMixed, periodicOnly, judged}
+use Rattle.model.specs.Tasks.{task, isButton, offset, taskFault, firstFaulty, firstButton, round, load, horizon, measure, judgedMixed, periodicOnly}
+use Rattle.model.specs.Tasks.{judged, admissionOf}
 use Rattle.counting.specs.Count.{is-true, is-false}
 use Rattle.counting.specs.Search.{le-largest, largest-le, first-before, first-is, first-none}
 use Rattle.wellformed.specs.Ranges.{Ranged, ranged, none-faulty}
@@ -163,6 +165,15 @@ judged-iff t m = (
   λ e. let (w, none) = periodic-iff t m .0 e in let (r, h, same) = mixed-iff t m .0 w in (r, h, same, none),
   λ (r, h, same, none). periodic-iff t m .1 (mixed-iff t m .1 (r, h, same), none),
 )
+
+-- What is admitted is well-formed, and what is not is refused as it is judged.
+pub refused-is : (j : Judgement) (r : Refusal) → admissionOf j ≡ Admission.Refused r → j ≡ Judgement.Refused r
+refused-is (Judgement.Refused q) r e = let same : q ≡ r = cc in ap Judgement.Refused same
+refused-is (Judgement.WellFormed m) r e = let z : _≡_ {A = ℕ} 0 1 = cc in absurd (omega arith)
+
+pub admitted-is : (j : Judgement) → admissionOf j ≡ Admission.Admitted → (m : Measure) × (j ≡ Judgement.WellFormed m)
+admitted-is (Judgement.Refused q) e = let z : _≡_ {A = ℕ} 0 1 = cc in absurd (omega arith)
+admitted-is (Judgement.WellFormed m) e = (m, refl)
 
 -- What holds of a well-formed table.
 pub well-mixed : (t : Table) (m : Measure) → judgedMixed t ≡ Judgement.WellFormed m → WellFormed t m

@@ -1,0 +1,2 @@
+-- One pass over a table that is judged.
+pub mod Survey
