@@ -2,11 +2,11 @@
 #include "command.h"
 
 /*
- * Before the check with the table's own budget come some with an eighth of its slots, a sixty-fourth and so on: together at most a seventh
- * of them, so that all take 8/7 of its time. (If the table is late, that check ends at the late deadline, and the others may take 8/7 of its
- * time themselves.) The first has so few slots that they take well under a millisecond, slot by slot with 32 tasks too. But every check
- * makes the quick test anew, whatever its budget: if that is slow, so is the first check, and then only the last one follows. Such a table
- * takes twice the time of its quick test.
+ * First comes a check with a budget of 1, which tells the horizon. Before the one with the table's own budget come some with an eighth of its
+ * slots, a sixty-fourth and so on: together at most a seventh of them, so that all take 8/7 of its time. (If the table is late, that check
+ * ends at the late deadline, and the others may take 8/7 of its time themselves. Late and undecided tables are checked once more for the
+ * text.) But every check makes the quick test anew, whatever its budget: if that is slow, so is the first check, and then only the
+ * last one follows.
  */
 enum { GROWTH = 8, FIRST_SLOTS = 4096 };
 static const double slow_seconds = 0.02;
@@ -34,14 +34,13 @@ static uint64_t smaller(uint64_t one, uint64_t other)
 }
 
 /* By leaps a check ends with no job open a round after the largest offset; slot by slot it goes to the horizon. */
-static struct way way_of(const struct table *table, int plainly)
+static struct way way_of(const struct table *table, const struct yolizadwa_numbers *numbers, int plainly)
 {
-    struct measure measure = measure_of(table);
-    uint64_t budget = budget_of(table), end = measure.horizon;
+    uint64_t budget = budget_of(table), end = numbers->horizon;
     if (!plainly) {
-        end = measure.horizon - measure.round + (uint64_t)idle_within(table, (double)measure.round);
+        end = numbers->horizon - numbers->round + (uint64_t)idle_within(table, (double)numbers->round);
     }
-    return (struct way){measure.horizon, smaller(budget, measure.horizon), smaller(budget, end)};
+    return (struct way){numbers->horizon, smaller(budget, numbers->horizon), smaller(budget, end)};
 }
 
 static uint64_t first_budget(const struct way *way)
@@ -59,12 +58,20 @@ struct trial {
     double seconds;
 };
 
-static struct trial try_budget(const struct table *table, uint64_t budget, int plainly, struct report *report)
+/* What is asked for: numbers alone, or the text too, made by leaps or slot by slot. */
+enum asked { NUMBERS, TEXT, PLAIN_TEXT };
+
+/* Slot by slot is slower by far, so it alone counts. */
+static struct trial try_budget(const struct table *table, uint64_t budget, enum asked asked, struct report *report)
 {
     struct table part = *table;
     double began = seconds_now();
     replace_budget(&part, budget);
-    check_once(&part, plainly, report);
+    answer_once(&part, &report->numbers);
+    if (asked == PLAIN_TEXT) {
+        began = seconds_now();
+        write_report(&part, 1, report);
+    }
     return (struct trial){budget, seconds_now() - began};
 }
 
@@ -85,26 +92,58 @@ static void tell_settled(const struct way *way, const struct trial *first, const
     tell_progress(now, stopped, seconds_of_last(way, first, latest));
 }
 
-/* Any verdict but undecided is the same with every larger budget, and so is its report. */
-static void check_growing(const struct table *table, int plainly, struct report *report)
+/* Any verdict but undecided is the same with every larger budget, and so are its numbers and its report. Tells the budget that decides, or 0. */
+static uint64_t decide_early(const struct table *table, enum asked asked, struct report *report)
 {
-    struct way way = way_of(table, plainly);
-    struct trial first = {0, 0};
-    uint64_t most = way.slots / GROWTH;
-    for (uint64_t budget = first_budget(&way); 0 < budget && budget <= most && first.seconds < slow_seconds; budget *= GROWTH) {
-        struct trial latest = try_budget(table, budget, plainly, report);
-        if (!report_verdict(report, "undecided")) {
-            return;
+    struct trial first = try_budget(table, 1, asked, report);
+    struct way way = way_of(table, &report->numbers, asked == PLAIN_TEXT);
+    uint64_t most = way.slots / GROWTH, tried = 1;
+    for (uint64_t budget = first_budget(&way); report->numbers.verdict == YOLIZADWA_UNDECIDED; budget *= GROWTH) {
+        if (budget == 0 || budget > most || first.seconds >= slow_seconds) {
+            return 0;
         }
-        first = first.budget == 0 ? latest : first;
+        struct trial latest = try_budget(table, budget, asked, report);
+        tried = budget;
         tell_settled(&way, &first, &latest);
     }
-    check_once(table, plainly, report);
+    return tried;
+}
+
+/* A text that passes says all that its word prints, so the numbers are not asked for a second time. */
+static void decide_last(const struct table *table, enum asked asked, struct report *report)
+{
+    if (asked != NUMBERS) {
+        write_report(table, asked == PLAIN_TEXT, report);
+    }
+    if (asked == TEXT && report_passes(report)) {
+        report->numbers.verdict = YOLIZADWA_PASSES;
+    } else {
+        answer_once(table, &report->numbers);
+    }
+}
+
+static void check_growing(const struct table *table, enum asked asked, struct report *report)
+{
+    struct table part = *table;
+    begin_progress();
+    uint64_t budget = decide_early(table, asked, report);
+    if (budget == 0) {
+        decide_last(table, asked, report);
+    } else if (asked == TEXT) {
+        replace_budget(&part, budget);
+        write_report(&part, 0, report);
+    }
+    end_progress();
+}
+
+void answer_table(const struct table *table, struct yolizadwa_numbers *numbers)
+{
+    struct report report;
+    check_growing(table, NUMBERS, &report);
+    *numbers = report.numbers;
 }
 
 void check_table(const struct table *table, int plainly, struct report *report)
 {
-    begin_progress();
-    check_growing(table, plainly, report);
-    end_progress();
+    check_growing(table, plainly ? PLAIN_TEXT : TEXT, report);
 }

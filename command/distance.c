@@ -1,5 +1,5 @@
 /* The word distance: the library's answer from the smallest distances of the tasks, and what it means, for tasks and for buttons. */
-#include "command.h"
+#include "json.h"
 
 static const char *overload_words(int buttons)
 {
@@ -57,15 +57,44 @@ int distance_status(uint64_t answer)
     }
 }
 
+/* Says which buttons are meant, if they have names. */
+static void say_buttons(const struct table *table)
+{
+    struct words words;
+    unsigned said = 0;
+    for (unsigned number = 0; any_name(table) && number < task_count(table); number++) {
+        if (task_at(table, number).button) {
+            printf("%s%s", said++ == 0 ? "the table has " : ", ", task_words(table, number, &words));
+        }
+    }
+    fputs(said == 0 ? "" : "\n", stdout);
+}
+
+static void distance_as_json(const struct request *request, const struct table *table, uint64_t answer)
+{
+    static const char *const names[] = {"none", "pass", "overload"};
+    json_begin(request, 0, distance_status(answer));
+    json_changes(table);
+    json_text("distance", names[answer]);
+    json_number("buttons", button_count(table));
+    json_end();
+}
+
 int distance(const struct request *request)
 {
     struct table table;
-    int status = open_table(request->files[0], stdout, &table);
+    int status = open_table(request, 0, stdout, &table);
     if (status != DONE) {
         return status;
     }
     uint64_t answer = ask_distance(&table);
+    if (request->json) {
+        distance_as_json(request, &table, answer);
+        return distance_status(answer);
+    }
+    say_what_if(&table);
     int judge_tells = answer == YOLIZADWA_DISTANCE_NONE && button_count(&table) == 0;
     printf("%s%s\n", distance_words(&table, answer), judge_tells ? ": judge tells" : "");
+    say_buttons(&table);
     return distance_status(answer);
 }

@@ -1,10 +1,7 @@
 /* The word eased: whether a table is an easing of another, and in words what has become of each task. */
 #include <string.h>
 
-#include "command.h"
-
-/* The numbers of a task in the order in which they are looked at; ALIKE: none stands in the way. */
-enum { PERIOD, OFFSET, COST, DEADLINE, ALIKE };
+#include "easing.h"
 
 /* Tells how many changes have been said, with those before. */
 static int say_change(const char *name, uint64_t was, uint64_t is, int others)
@@ -16,11 +13,13 @@ static int say_change(const char *name, uint64_t was, uint64_t is, int others)
     return others + 1;
 }
 
-static void say_kept(unsigned now, const struct task *is, unsigned then, const struct task *was)
+static void say_kept(const struct table *after, unsigned now, const struct table *before, unsigned then)
 {
-    printf("task %u was old task %u:", now, then);
-    int changes = say_change("cost", was->cost, is->cost, 0);
-    changes = say_change("deadline", was->deadline, is->deadline, changes);
+    struct task is = task_at(after, now), was = task_at(before, then);
+    struct words new_words, old_words;
+    printf("%s was old %s:", task_words(after, now, &new_words), task_words(before, then, &old_words));
+    int changes = say_change("cost", was.cost, is.cost, 0);
+    changes = say_change("deadline", was.deadline, is.deadline, changes);
     puts(changes == 0 ? " unchanged" : "");
 }
 
@@ -41,123 +40,133 @@ static unsigned lowered_alone(const struct table *before, const struct table *af
     return lower;
 }
 
-static int say_eased(const struct table *before, const struct table *after, uint64_t kept)
+static void say_eased(const struct table *before, const struct table *after, uint64_t kept)
 {
     unsigned now = 0;
+    struct words words;
     printf("eased yes\n\nyes: if the old table passes, so does the new one with any budget that reaches its horizon, and needs no new test\n");
     if (lowered_alone(before, after) > 0) {
         printf("with costs alone lowered no worst response grows\n");
     }
     for (unsigned then = 0; then < task_count(before); then++) {
         if (kept >> then & 1) {
-            struct task is = task_at(after, now), was = task_at(before, then);
-            say_kept(now++, &is, then, &was);
+            say_kept(after, now++, before, then);
         } else {
-            printf("old task %u is left out\n", then);
+            printf("old %s is left out\n", task_words(before, then, &words));
         }
     }
-    return DONE;
 }
 
-/* Tells which old tasks the new tasks before this one were: the library says that of a table of these alone. */
-static uint64_t kept_before(const struct table *before, const struct table *after, unsigned task)
+static void say_number(const struct table *before, const struct obstacle *found, const struct task *is)
 {
-    struct table first = *after;
-    if (task == 0) {
-        return 0;
-    }
-    keep_first(&first, task);
-    return yolizadwa_eased_value(yolizadwa_eased(before->file, before->len, first.file, first.len));
-}
-
-static int in_the_way(const struct task *was, const struct task *is)
-{
-    if (was->period != is->period) {
-        return PERIOD;
-    }
-    if (was->offset != is->offset) {
-        return OFFSET;
-    }
-    if (was->cost < is->cost) {
-        return COST;
-    }
-    return was->deadline > is->deadline ? DEADLINE : ALIKE;
-}
-
-/* An old task that the new one may be, and what stands in the way; way -1: there is none. */
-struct candidate {
-    unsigned number;
-    struct task was;
-    int way;
-};
-
-/* Of the old tasks that are not taken yet finds the one in which the most numbers fit, the first of several. */
-static struct candidate nearest(const struct table *before, unsigned from, unsigned to, uint64_t taken, const struct task *is)
-{
-    struct candidate found = {.way = -1};
-    for (unsigned number = from; number < to; number++) {
-        struct task was = task_at(before, number);
-        int way = in_the_way(&was, is);
-        if (!(taken >> number & 1) && way > found.way) {
-            found = (struct candidate){number, was, way};
-        }
-    }
-    return found;
-}
-
-static void say_number(const struct candidate *old, const struct task *is)
-{
-    static const char *const names[] = {"period", "offset", "cost", "deadline"};
     static const char *const rules[] = {"a period has to stay", "an offset has to stay", "a cost may only be lowered",
                                         "a deadline may only be lengthened"};
-    const uint64_t then[] = {old->was.period, old->was.offset, old->was.cost, old->was.deadline};
-    const uint64_t now[] = {is->period, is->offset, is->cost, is->deadline};
-    printf("the nearest is old task %u: %s %" PRIu64 " -> %" PRIu64 ", but %s\n", old->number, names[old->way], then[old->way],
-           now[old->way], rules[old->way]);
+    static const char *const ends[] = {" has its name", " stands at its place", " is nearest"};
+    struct task was = task_at(before, found->old);
+    struct words words;
+    printf("old %s%s: %s %" PRIu64 " -> %" PRIu64 ", but %s\n", task_words(before, found->old, &words), ends[found->why],
+           field_names[found->way], field_of(&was, found->way), field_of(is, found->way), rules[found->way]);
 }
 
-/* The nearest old task comes too early: a new task before this one was a later old task. */
-static void say_too_early(const struct candidate *old, const struct task *is, unsigned task, unsigned last)
+static void say_too_early(const struct table *before, const struct obstacle *found, const struct task *is, unsigned task)
 {
-    if (old->way == ALIKE) {
-        printf("it could be old task %u, but task %u was old task %u, and tasks have to keep their order\n", old->number, task - 1, last);
+    struct words words;
+    if (found->way == ALIKE) {
+        printf("it could be old %s, but task %u was old task %u, and tasks have to keep their order\n",
+               task_words(before, found->old, &words), task - 1, found->last);
     } else {
-        say_number(old, is);
-        printf("and task %u was old task %u already: tasks have to keep their order\n", task - 1, last);
+        say_number(before, found, is);
+        printf("and task %u was old task %u already: tasks have to keep their order\n", task - 1, found->last);
     }
 }
 
-static unsigned after_last(uint64_t set)
-{
-    unsigned after = 0;
-    while (set >> after != 0) {
-        after++;
-    }
-    return after;
-}
-
-static int say_not_eased(const struct table *before, const struct table *after, unsigned task)
+static void say_not_eased(const struct table *before, const struct table *after, unsigned task)
 {
     struct task is = task_at(after, task);
-    uint64_t kept = kept_before(before, after, task);
-    unsigned from = after_last(kept);
-    struct candidate earlier = nearest(before, 0, from, kept, &is), later = nearest(before, from, task_count(before), kept, &is);
-    printf("eased no\n\nno: task %u is no old task made easier, so the new table needs a test: judge tells\n", task);
-    if (earlier.way > later.way) {
-        say_too_early(&earlier, &is, task, from - 1);
-    } else if (later.way >= 0) {
-        say_number(&later, &is);
+    struct words words;
+    struct obstacle found = obstacle_of(before, after, task);
+    printf("eased no\n\nno: %s is no old task made easier, so the new table needs a test: judge tells\n", task_words(after, task, &words));
+    if (found.too_early) {
+        say_too_early(before, &found, &is, task);
+    } else if (found.way >= 0) {
+        say_number(before, &found, &is);
     } else {
         printf("no task of the old table is left for it\n");
     }
-    return UNDECIDED;
 }
 
-static int open_one(const char *name, const char *which, struct table *table)
+static void json_old(const struct table *before, unsigned old)
 {
-    int status = open_periodic(name, stdout, "eased", table);
-    if (status == REFUSED) {
-        printf("that is the %s table, %s\n", which, shown_name(name));
+    json_number("old", old);
+    json_name("old_name", &before->names[old]);
+}
+
+static void json_was_and_is(const char *key, uint64_t was, uint64_t is)
+{
+    json_open(key, '{');
+    json_number("was", was);
+    json_number("is", is);
+    json_close('}');
+}
+
+static void json_kept(const struct table *before, const struct table *after, uint64_t kept)
+{
+    unsigned now = 0;
+    json_open("tasks", '[');
+    for (unsigned then = 0; then < task_count(before); then++) {
+        struct task was = task_at(before, then);
+        json_open(NULL, '{');
+        json_old(before, then);
+        json_truth("kept", kept >> then & 1);
+        if (kept >> then & 1) {
+            struct task is = task_at(after, now);
+            json_number_and_name(after, now++);
+            json_was_and_is("cost", was.cost, is.cost);
+            json_was_and_is("deadline", was.deadline, is.deadline);
+        }
+        json_close('}');
+    }
+    json_close(']');
+}
+
+static void json_in_the_way(const struct table *before, const struct table *after, unsigned task)
+{
+    struct task is = task_at(after, task);
+    struct obstacle found = obstacle_of(before, after, task);
+    json_number_and_name(after, task);
+    if (found.way < 0) {
+        json_null("in_the_way");
+        return;
+    }
+    struct task was = task_at(before, found.old);
+    json_open("in_the_way", '{');
+    json_old(before, found.old);
+    json_truth("too_early", found.too_early);
+    if (found.way != ALIKE) {
+        json_was_and_is(field_names[found.way], field_of(&was, found.way), field_of(&is, found.way));
+    }
+    json_close('}');
+}
+
+static void eased_as_json(const struct request *request, const struct table *before, const struct table *after, uint64_t answer)
+{
+    int yes = yolizadwa_eased_case(answer) == YOLIZADWA_EASED;
+    json_begin(request, 0, yes ? DONE : UNDECIDED);
+    json_changes(after);
+    json_truth("eased", yes);
+    if (yes) {
+        json_kept(before, after, yolizadwa_eased_value(answer));
+    } else {
+        json_in_the_way(before, after, (unsigned)yolizadwa_eased_value(answer));
+    }
+    json_end();
+}
+
+static int open_one(const struct request *request, unsigned which, struct table *table)
+{
+    int status = open_periodic(request, which, stdout, "eased", table);
+    if (status == REFUSED && !request->json) {
+        printf("that is the %s table, %s\n", which == 0 ? "old" : "new", shown_name(request->files[which]));
     }
     return status;
 }
@@ -166,17 +175,27 @@ int eased(const struct request *request)
 {
     struct table before, after;
     if (strcmp(request->files[0], "-") == 0 && strcmp(request->files[1], "-") == 0) {
-        return trouble("only one of the two tables can be standard input");
+        trouble("only one of the two tables can be standard input");
+        return json_trouble(request, 0);
     }
-    int status = open_one(request->files[0], "old", &before);
+    int status = open_one(request, 0, &before);
     if (status == DONE) {
-        status = open_one(request->files[1], "new", &after);
+        status = open_one(request, 1, &after);
     }
     if (status != DONE) {
         return status;
     }
     uint64_t answer = yolizadwa_eased(before.file, before.len, after.file, after.len);
-    uint64_t value = yolizadwa_eased_value(answer);
-    return yolizadwa_eased_case(answer) == YOLIZADWA_EASED ? say_eased(&before, &after, value)
-                                                           : say_not_eased(&before, &after, (unsigned)value);
+    int yes = yolizadwa_eased_case(answer) == YOLIZADWA_EASED;
+    if (request->json) {
+        eased_as_json(request, &before, &after, answer);
+        return yes ? DONE : UNDECIDED;
+    }
+    say_what_if(&after);
+    if (yes) {
+        say_eased(&before, &after, yolizadwa_eased_value(answer));
+    } else {
+        say_not_eased(&before, &after, (unsigned)yolizadwa_eased_value(answer));
+    }
+    return yes ? DONE : UNDECIDED;
 }

@@ -10,18 +10,49 @@
 
 #include "command.h"
 
+static char last[512];
+
+const char *last_trouble(void)
+{
+    return last;
+}
+
+/* What is shown is never longer than the text. */
+static const char *shown_text(const char *text)
+{
+    static char *shown;
+    const struct name name = {(const uint8_t *)text, strlen(text)};
+    char *to = realloc(shown, name.len + 5);
+    if (to == NULL) {
+        return "no memory";
+    }
+    shown = to;
+    *to = '\0';
+    for (size_t at = 0; at < name.len; to += strlen(to)) {
+        at += show_letter(&name, at, to);
+    }
+    return shown;
+}
+
+/* The words may have any bytes of an argument in them, and an argument may be long. */
 int trouble(const char *format, ...)
 {
     va_list words;
     va_start(words, format);
-    fputs("yolizadwa: ", stderr);
-    vfprintf(stderr, format, words);
-    fputc('\n', stderr);
+    int len = vsnprintf(last, sizeof last, format, words);
     va_end(words);
+    char *whole = len < 0 ? NULL : malloc((size_t)len + 1);
+    if (whole != NULL) {
+        va_start(words, format);
+        vsnprintf(whole, (size_t)len + 1, format, words);
+        va_end(words);
+    }
+    fprintf(stderr, "yolizadwa: %s\n", shown_text(whole != NULL ? whole : last));
+    free(whole);
     return TROUBLE;
 }
 
-static int cannot(const char *what, const char *name)
+int cannot(const char *what, const char *name)
 {
     return trouble("cannot %s %s: %s", what, name, strerror(errno));
 }
@@ -38,25 +69,36 @@ void keep_standard_files_apart(void)
 
 const char *shown_name(const char *name)
 {
-    return strcmp(name, "-") == 0 ? "standard input" : name;
+    return strcmp(name, "-") == 0 ? "standard input" : shown_text(name);
+}
+
+/* Some editors put a byte order mark in front of a text, which nobody sees. */
+void skip_mark(struct input *input)
+{
+    static const uint8_t mark[] = {0xEF, 0xBB, 0xBF};
+    if (input->len >= sizeof mark && memcmp(input->bytes, mark, sizeof mark) == 0) {
+        input->len -= sizeof mark;
+        memmove(input->bytes, input->bytes + sizeof mark, input->len);
+    }
 }
 
 static int read_all(FILE *in, struct input *input)
 {
     uint8_t *bytes = malloc((size_t)MOST_INPUT + 1);
     if (bytes == NULL) {
-        return cannot("read", input->name);
+        return cannot("read", shown_name(input->given));
     }
     errno = 0;
     input->len = fread(bytes, 1, (size_t)MOST_INPUT + 1, in);
     uint8_t *shorter = realloc(bytes, input->len + 1);
     input->bytes = shorter != NULL ? shorter : bytes;
     if (ferror(in)) {
-        return cannot("read", input->name);
+        return cannot("read", shown_name(input->given));
     }
     if (input->len > MOST_INPUT) {
-        return trouble("%s is longer than 16 MiB, so it is no table", input->name);
+        return trouble("%s is longer than 16 MiB, so it is no table", shown_name(input->given));
     }
+    skip_mark(input);
     return DONE;
 }
 
@@ -65,7 +107,6 @@ int read_input(const char *name, struct input *input)
     int standard = strcmp(name, "-") == 0;
     FILE *in = standard ? stdin : fopen(name, "rb");
     input->given = name;
-    input->name = shown_name(name);
     input->bytes = NULL;
     input->len = 0;
     if (in == NULL) {
@@ -96,8 +137,8 @@ static int write_standard(const uint8_t *bytes, size_t len)
     return DONE;
 }
 
-/* Tells whether a file is there that begins otherwise. A pipe without a writer must not make us wait. */
-static int begins_otherwise(const char *name, uint8_t low, uint8_t high)
+/* A pipe without a writer must not make us wait. */
+int begins_otherwise(const char *name, uint8_t low, uint8_t high)
 {
     uint8_t first;
     int number = open(name, O_RDONLY | O_NONBLOCK);
@@ -118,8 +159,8 @@ static ssize_t write_some(int number, const uint8_t *bytes, size_t len)
     return wrote;
 }
 
-/* Tells whether all of it could be written. A long log may go out in several parts. */
-static int write_all(int number, const uint8_t *bytes, size_t len)
+/* A long log may go out in several parts. */
+int write_all(int number, const uint8_t *bytes, size_t len)
 {
     while (len > 0) {
         ssize_t wrote = write_some(number, bytes, len);

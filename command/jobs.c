@@ -1,7 +1,7 @@
 /* Lists of jobs, and the jobs of a late interval. */
 #include <string.h>
 
-#include "command.h"
+#include "json.h"
 
 int columns_for(uint64_t largest)
 {
@@ -19,16 +19,40 @@ static int at_least(int columns, const char *heading)
     return columns < length ? length : columns;
 }
 
-void print_jobs_heading(const char *amount, int columns)
+void put_plain(const char *text)
 {
-    printf("  task  %*s  %*s  %*s  %7s\n", at_least(columns, "job"), "job", at_least(columns, "release"), "release",
-           at_least(columns, "due"), "due", amount);
+    fputs(text, stdout);
 }
 
-void print_job(const struct job *job, int columns)
+const char *name_heading(const struct table *table)
 {
-    printf("  %4u  %*" PRIu64 "  %*" PRIu64 "  %*" PRIu64 "  %7" PRIu64 "\n", job->task, at_least(columns, "job"), job->number,
+    return any_name(table) ? "  name" : "";
+}
+
+/* The name stands last, so that it needs no room of its own. */
+void end_row(const struct table *table, unsigned task, void (*put)(const char *text))
+{
+    struct words words;
+    if (table->names[task].len > 0) {
+        printf("  ");
+        put(name_of(table, task, MOST_LETTERS, &words));
+    }
+    putchar('\n');
+}
+
+void print_jobs_heading(const struct jobs *jobs, const char *amount)
+{
+    int columns = jobs->columns;
+    printf("  task  %*s  %*s  %*s  %7s%s\n", at_least(columns, "job"), "job", at_least(columns, "release"), "release",
+           at_least(columns, "due"), "due", amount, name_heading(jobs->table));
+}
+
+void print_job(const struct jobs *jobs, const struct job *job)
+{
+    int columns = jobs->columns;
+    printf("  %4u  %*" PRIu64 "  %*" PRIu64 "  %*" PRIu64 "  %7" PRIu64, job->task, at_least(columns, "job"), job->number,
            at_least(columns, "release"), job->release, at_least(columns, "due"), job->due, job->amount);
+    end_row(jobs->table, job->task, jobs->put);
 }
 
 /* The jobs released at start or later and due by end, in the order of their releases. */
@@ -62,6 +86,11 @@ static uint64_t due_by(const struct task *task, uint64_t first, uint64_t end)
     return earliest > end ? 0 : (end - earliest) / task->period + 1;
 }
 
+uint64_t jobs_within(const struct task *task, uint64_t start, uint64_t end)
+{
+    return due_by(task, first_from(task, start), end);
+}
+
 /* Tells how many jobs there are. */
 static uint64_t begin(struct interval *interval)
 {
@@ -87,29 +116,37 @@ static struct job take_next(struct interval *interval)
     return taken;
 }
 
-static void list_jobs(struct interval *interval, int all, const char *hint)
+static void list_jobs(struct interval *interval, const struct excess_list *list)
 {
-    uint64_t jobs = begin(interval);
-    uint64_t listed = all || jobs < JOBS_SHOWN ? jobs : JOBS_SHOWN;
-    int columns = columns_for(interval->end);
-    print_jobs_heading("cost", columns);
-    for (uint64_t count = 0; count < listed && !ferror(stdout); count++) {
+    uint64_t count = begin(interval), listed = list->all || count < JOBS_SHOWN ? count : JOBS_SHOWN;
+    struct jobs jobs = {interval->table, list->put, columns_for(interval->end)};
+    print_jobs_heading(&jobs, "cost");
+    for (uint64_t at = 0; at < listed && !ferror(stdout); at++) {
         struct job job = take_next(interval);
-        print_job(&job, columns);
+        print_job(&jobs, &job);
     }
-    if (listed < jobs) {
-        printf("  and %" PRIu64 " more%s\n", jobs - listed, hint);
+    if (listed < count) {
+        printf("  and %" PRIu64 " more%s\n", count - listed, list->hint);
     }
 }
 
-void list_excess(const struct table *table, const struct report *report, int all, const char *hint)
+void list_excess(const struct table *table, const struct yolizadwa_numbers *numbers, const struct excess_list *list)
 {
-    struct excess excess;
-    struct interval interval;
-    if (report_excess(report, &excess)) {
-        interval.table = table;
-        interval.start = excess.start;
-        interval.end = excess.end;
-        list_jobs(&interval, all, hint);
+    struct interval interval = {.table = table, .start = numbers->from, .end = numbers->to};
+    if (numbers->verdict == YOLIZADWA_LATE) {
+        list_jobs(&interval, list);
     }
+}
+
+void json_excess(const struct table *table, const struct yolizadwa_numbers *numbers, int all)
+{
+    struct interval interval = {.table = table, .start = numbers->from, .end = numbers->to};
+    uint64_t count = begin(&interval), listed = all || count < JOBS_SHOWN ? count : JOBS_SHOWN;
+    json_open("jobs", '[');
+    for (uint64_t at = 0; at < listed && !ferror(stdout); at++) {
+        struct job job = take_next(&interval);
+        json_job(table, &job, "cost");
+    }
+    json_close(']');
+    json_number("jobs_left", count - listed);
 }

@@ -1,19 +1,21 @@
 /* The word largest: how far each cost may grow before the table no longer passes, by the library's answers alone. */
-#include "command.h"
+#include <string.h>
 
-static void print_heading(void)
+#include "json.h"
+
+static void print_heading(const struct table *table)
 {
-    printf("  task   cost  largest   more  deadline\n");
+    printf("  task   cost  largest   more  deadline%s\n", name_heading(table));
 }
 
 static void print_row(const struct table *table, unsigned number, uint64_t largest)
 {
     struct task task = task_at(table, number);
-    printf("  %4u  %5" PRIu64 "  %7" PRIu64 "  %5" PRIu64 "  %8" PRIu64 "\n", number, task.cost, largest, largest - task.cost,
-           task.deadline);
+    printf("  %4u  %5" PRIu64 "  %7" PRIu64 "  %5" PRIu64 "  %8" PRIu64, number, task.cost, largest, largest - task.cost, task.deadline);
+    end_row(table, number, put_plain);
 }
 
-static void tell_tasks(unsigned done, unsigned all, double seconds)
+void tell_tasks(unsigned done, unsigned all, double seconds)
 {
     char words[64];
     snprintf(words, sizeof words, "tasks done: %u of %u", done, all);
@@ -35,45 +37,89 @@ uint64_t ask_largest(const struct table *table, uint32_t first, unsigned rows, u
     return answer;
 }
 
-static int say_none(const struct table *table, uint64_t answer)
+static void say_none(const struct table *table, uint64_t answer)
 {
     if (answer == YOLIZADWA_LARGEST_UNDECIDED) {
         printf("largest undecided\n\nundecided: the budget, %" PRIu64 ", ended before it was known whether the table passes; the horizon, %" PRIu64 ", is\n"
                "always enough\n",
-               budget_of(table), measure_of(table).horizon);
-        return UNDECIDED;
-    }
-    if (answer == YOLIZADWA_LARGEST_OVERLOAD) {
-        printf("largest overload\n\noverload: the table does not pass as it is: more slots are asked for than there are, so no cost can grow\n");
+               budget_of(table), horizon_of(table));
+    } else if (answer == YOLIZADWA_LARGEST_OVERLOAD) {
+        printf("largest overload\n\noverload: the table does not pass as it is: more slots are asked for than there are, so no cost can grow;\njudge tells what each task asks for and which cost mends it\n");
     } else {
-        printf("largest late\n\nlate: the table does not pass as it is, so no cost can grow; judge tells which jobs ask for too much\n");
+        printf("largest late\n\nlate: the table does not pass as it is, so no cost can grow; judge tells which jobs ask for too much, and\nwhich cost mends it\n");
     }
-    return LATE;
+}
+
+static void say_largest(const struct table *table, uint32_t first, unsigned rows, const uint64_t *told)
+{
+    print_heading(table);
+    for (unsigned row = 0; row < rows; row++) {
+        print_row(table, first + row, told[row]);
+    }
+    printf("\nthe table passes, and still does with %s up to its deadline%s\n",
+           rows == 1 ? "this cost at its largest, and with no larger one" : "any one cost at its largest, and with no larger one",
+           rows == 1 ? "" : "; with two it may not");
+}
+
+static void json_largest(const struct table *table, uint32_t first, unsigned rows, const uint64_t *told)
+{
+    json_open("largest", '[');
+    for (unsigned row = 0; row < rows; row++) {
+        struct task task = task_at(table, first + row);
+        json_open(NULL, '{');
+        json_number_and_name(table, first + row);
+        json_number("cost", task.cost);
+        json_number("largest", told[row]);
+        json_number("more", told[row] - task.cost);
+        json_number("deadline", task.deadline);
+        json_close('}');
+    }
+    json_close(']');
+}
+
+static int status_of(uint64_t answer)
+{
+    return answer == YOLIZADWA_LARGEST_UNDECIDED ? UNDECIDED : answer >= YOLIZADWA_LARGEST_OVERLOAD ? LATE : DONE;
+}
+
+static int tell_largest(const struct request *request, const struct table *table, uint32_t first, unsigned rows)
+{
+    uint64_t told[YOLIZADWA_TASKS];
+    uint64_t answer = ask_largest(table, first, rows, told);
+    if (yolizadwa_refused(answer)) {
+        return say_no_task(request, table, answer);
+    }
+    int status = status_of(answer);
+    if (request->json) {
+        json_begin(request, 0, status);
+        json_changes(table);
+        json_text("verdict", status == DONE ? "passes" : verdict_name((uint32_t)(answer - YOLIZADWA_LARGEST_OVERLOAD) + YOLIZADWA_OVERLOAD));
+        json_largest(table, first, status == DONE ? rows : 0, told);
+        json_end();
+        return status;
+    }
+    say_what_if(table);
+    if (status == DONE) {
+        say_largest(table, first, rows, told);
+    } else {
+        say_none(table, answer);
+    }
+    return status;
 }
 
 int largest(const struct request *request)
 {
     struct table table;
-    uint64_t told[YOLIZADWA_TASKS];
-    int status = open_periodic(request->files[0], stdout, "largest", &table);
+    int status = open_periodic(request, 0, stdout, "largest", &table);
     if (status != DONE) {
         return status;
     }
-    uint32_t first = request->one_task ? request->task : 0;
-    unsigned rows = request->one_task ? 1 : task_count(&table);
-    uint64_t answer = ask_largest(&table, first, rows, told);
-    if (yolizadwa_refused(answer)) {
-        return say_no_task(stdout, &table, first, answer);
+    uint32_t first = request->task;
+    if (request->task_name != NULL) {
+        first = task_named(&table, request->task_name, (int)strlen(request->task_name));
     }
-    if (answer >= YOLIZADWA_LARGEST_OVERLOAD) {
-        return say_none(&table, answer);
+    if (request->task_name != NULL && first == YOLIZADWA_TASKS) {
+        return json_trouble(request, 0);
     }
-    print_heading();
-    for (unsigned row = 0; row < rows; row++) {
-        print_row(&table, first + row, told[row]);
-    }
-    printf("\nthe table passes, and still does with %s up to its deadline%s\n",
-           rows == 1 ? "this cost at its largest, and with no larger one" : "any one cost at its largest, and with no larger one",
-           rows == 1 ? "" : "; with two it may not");
-    return DONE;
+    return tell_largest(request, &table, first, request->one_task ? 1 : task_count(&table));
 }

@@ -42,13 +42,17 @@ static int obey(char **arguments)
     if (word != NULL) {
         return do_word(word, arguments + 1);
     }
-    if (strcmp(first, "--help") == 0 || strcmp(first, "help") == 0) {
+    if (strcmp(first, "--help") == 0 || strcmp(first, "-h") == 0 || strcmp(first, "help") == 0) {
         return arguments[1] != NULL && arguments[2] != NULL ? too_many(arguments[2]) : help(arguments[1]);
     }
-    if (strcmp(first, "--version") == 0) {
+    if (strcmp(first, "--version") == 0 || strcmp(first, "version") == 0) {
         return arguments[1] != NULL ? too_many(arguments[1]) : version();
     }
-    return trouble("%s is none of %s, help; to judge a table: yolizadwa judge FILE", first, word_names());
+    const char *meant = word_like(first);
+    if (meant != NULL) {
+        return trouble("%s is none of %s, help, version; did you mean %s?", first, word_names(), meant);
+    }
+    return trouble("%s is none of %s, help, version; to judge a table: yolizadwa judge FILE", first, word_names());
 }
 
 /* A reader that goes away is an output that cannot be written, not a reason to be killed. */

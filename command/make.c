@@ -4,7 +4,7 @@
 int make(const struct request *request)
 {
     struct table table;
-    int status = open_table(request->files[0], stderr, &table);
+    int status = open_table(request, 0, stderr, &table);
     if (status == DONE && !table.was_text) {
         return trouble("%s is a table file already; its text is what show prints", request->files[0]);
     }

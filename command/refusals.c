@@ -1,9 +1,7 @@
-/* Refusals in words, and the line of a text that is meant. */
+/* Refusals in words, with the line of a text that is meant, or as JSON. */
 #include <string.h>
 
-#include "command.h"
-
-enum { CHARACTERS_SHOWN = 100, LAST_LINE_TOLD = 65535 };
+#include "json.h"
 
 /* What a number means. The place, or the line for a text's own faults, stands between the two parts. */
 struct meaning {
@@ -30,7 +28,7 @@ static const struct meaning meanings[] = {
     {YOLIZADWA_TEXT_NOT_A_NUMBER, "line ", " has a word that is no decimal number"},
     {YOLIZADWA_TEXT_LARGE_NUMBER, "line ", " has a number that is too large to be read"},
     {YOLIZADWA_TEXT_WRONG_COUNT, "line ", " has too few numbers or too many: budget slots, task offset cost deadline period, button cost deadline spacing"},
-    {YOLIZADWA_TEXT_NO_BUDGET, "up to line ", " there is no budget, which comes first, as in: budget 1000"},
+    {YOLIZADWA_TEXT_BUDGET_NOT_FIRST, "line ", " is a budget behind a task or button; a budget comes before all of them, or is left out"},
     {YOLIZADWA_TEXT_SECOND_BUDGET, "line ", " is a second budget"},
     {YOLIZADWA_TEXT_TOO_MANY_TASKS, "line ", " is a thirty-third task or button, and 32 is the most"},
 };
@@ -46,134 +44,148 @@ static const struct meaning *meaning_of(uint32_t number)
     return &none;
 }
 
-/* The line feed is no part of the line. */
-static size_t line_end(const struct input *text, size_t at)
-{
-    const uint8_t *feed = memchr(text->bytes + at, '\n', text->len - at);
-    return feed == NULL ? text->len : (size_t)(feed - text->bytes);
-}
+/* What is said of a refusal. Line 0: none is to blame. */
+struct refusal {
+    uint64_t result;
+    unsigned long line;
+    size_t begin; /* of the line */
+    char words[400];
+    const struct what_if *what_if; /* that is refused, or NULL */
+};
 
-/* A button is refused where the table is started, and not where its text is read. */
-static int same_up_to(const struct input *text, size_t end, uint64_t result)
+static void word_refusal(struct refusal *refusal, unsigned long meant)
 {
-    uint8_t file[YOLIZADWA_LONGEST_FILE];
-    struct yolizadwa_state state;
-    uint64_t read = yolizadwa_from_text(text->bytes, end, file, sizeof file);
-    return (yolizadwa_refused(read) ? read : yolizadwa_start(file, (size_t)read, (uint8_t *)&state, sizeof state)) == result;
-}
-
-/* Tells where the refused line begins: the lines up to it are refused alike and fewer are not, so the library finds it by halving. */
-static size_t refused_line(const struct input *text, uint64_t result)
-{
-    size_t low = 0, high = text->len;
-    while (low < high) {
-        size_t middle = low + (high - low) / 2;
-        if (same_up_to(text, line_end(text, middle), result)) {
-            high = middle;
-        } else {
-            low = middle + 1;
-        }
-    }
-    return low;
-}
-
-static unsigned long line_number(const struct input *text, size_t begin)
-{
-    unsigned long number = 1;
-    for (size_t at = 0; at < begin; at++) {
-        number += text->bytes[at] == '\n';
-    }
-    return number;
-}
-
-static int shown_as(uint8_t byte)
-{
-    return byte == '\t' ? ' ' : byte < ' ' || byte > '~' ? '?' : byte;
-}
-
-static void show_line(FILE *to, const struct input *text, size_t begin, unsigned long number)
-{
-    size_t end = line_end(text, begin);
-    end -= end > begin && text->bytes[end - 1] == '\r';
-    size_t shown = end - begin > CHARACTERS_SHOWN ? begin + CHARACTERS_SHOWN : end;
-    fprintf(to, "%s:%lu: ", text->name, number);
-    for (size_t at = begin; at < shown; at++) {
-        fputc(shown_as(text->bytes[at]), to);
-    }
-    fputs(shown < end ? " ...\n" : "\n", to);
-}
-
-static void say(FILE *to, uint64_t result, unsigned long meant)
-{
-    const struct meaning *meaning = meaning_of(yolizadwa_number(result));
-    fprintf(to, "refused %u at %u: ", (unsigned)yolizadwa_number(result), (unsigned)yolizadwa_place(result));
+    const struct meaning *meaning = meaning_of(yolizadwa_number(refusal->result));
     if (meaning->after == NULL) {
-        fprintf(to, "%s\n", meaning->before);
+        snprintf(refusal->words, sizeof refusal->words, "%s", meaning->before);
     } else {
-        fprintf(to, "%s%lu%s\n", meaning->before, meant, meaning->after);
+        snprintf(refusal->words, sizeof refusal->words, "%s%lu%s", meaning->before, meant, meaning->after);
     }
 }
 
-/* Some faults have no line: those of the whole table, and a missing budget so far down that the place ends before its line. */
-static int has_a_line(uint64_t result)
+static void tell_as_json(const struct source *source, const struct refusal *refusal)
+{
+    json_begin(source->request, source->which, REFUSED);
+    json_open("refused", '{');
+    json_text("file", source->request->files[source->which]);
+    json_number("number", yolizadwa_number(refusal->result));
+    json_number("place", yolizadwa_place(refusal->result));
+    json_text("words", refusal->words);
+    if (refusal->line > 0) {
+        json_number("line", refusal->line);
+    }
+    json_close('}');
+    if (refusal->what_if != NULL) {
+        json_what_if(refusal->what_if);
+    }
+    json_end();
+}
+
+/* More is empty, or a line that follows. */
+static int tell(const struct source *source, const struct refusal *refusal, const char *more)
+{
+    if (source->request->json) {
+        tell_as_json(source, refusal);
+        return REFUSED;
+    }
+    fprintf(source->refusals, "refused %u at %u: %s\n", (unsigned)yolizadwa_number(refusal->result),
+            (unsigned)yolizadwa_place(refusal->result), refusal->words);
+    if (refusal->line > 0 && refusal->begin < source->input.len) {
+        show_line(source->refusals, &source->input, refusal->begin);
+    }
+    fputs(more, source->refusals);
+    return REFUSED;
+}
+
+/* A table file has no lines, and the faults of the whole table have none. */
+static int has_a_line(const struct source *source, uint64_t result)
 {
     uint32_t number = yolizadwa_number(result);
-    if (number == YOLIZADWA_TEXT_NO_BUDGET && yolizadwa_place(result) == LAST_LINE_TOLD) {
+    if (is_table_file(&source->input)) {
         return 0;
     }
     return (number >= YOLIZADWA_BAD_PERIOD && number <= YOLIZADWA_BAD_OFFSET) || number == YOLIZADWA_ZERO_BUDGET ||
-           number >= YOLIZADWA_TEXT_UNKNOWN_WORD;
+           number == YOLIZADWA_HAS_BUTTON || number >= YOLIZADWA_TEXT_UNKNOWN_WORD;
 }
 
-/* Some editors put a byte order mark in front, which nobody sees and the library does not read. */
-static void hint_at_mark(FILE *to, const struct input *text)
+static void find_line(const struct source *source, struct refusal *refusal)
 {
-    if (text->len > 0 && (text->bytes[0] == 0xEF || text->bytes[0] >= 0xFE)) {
-        fputs("the file may begin with a byte order mark; save it as plain text, without one\n", to);
+    if (has_a_line(source, refusal->result)) {
+        refusal->begin = refused_line(&source->input, refusal->result);
+        refusal->line = line_number(&source->input, refusal->begin);
     }
 }
 
-int say_refusal(FILE *to, const struct input *input, uint64_t result)
+/* Names the word that is no number. */
+static void add_word(const struct source *source, struct refusal *refusal)
 {
-    uint32_t number = yolizadwa_number(result);
-    if (is_table_file(input) || !has_a_line(result)) {
-        say(to, result, yolizadwa_place(result));
-        return REFUSED;
+    struct words shown;
+    size_t length = strlen(refusal->words);
+    struct name word = not_a_number(&source->input, refusal->begin);
+    if (yolizadwa_number(refusal->result) == YOLIZADWA_TEXT_NOT_A_NUMBER && refusal->line > 0 && word.len > 0) {
+        snprintf(refusal->words + length, sizeof refusal->words - length, ": %s", shown_bytes(&word, MOST_LETTERS, &shown));
     }
-    size_t begin = refused_line(input, result);
-    unsigned long line = line_number(input, begin);
-    say(to, result, number >= YOLIZADWA_TEXT_UNKNOWN_WORD ? line : yolizadwa_place(result));
-    if (begin < input->len) {
-        show_line(to, input, begin, line);
+}
+
+/* Some editors write two bytes for each letter and put a byte order mark in front, which nobody sees. No text begins as a log does. */
+static const char *hint(const struct source *source)
+{
+    const struct input *input = &source->input;
+    int is_log = strcmp(source->request->word, "log") == 0;
+    if (is_table_file(input) || input->len == 0) {
+        return "";
     }
-    hint_at_mark(to, input);
-    return REFUSED;
+    if (input->bytes[0] >= YOLIZADWA_LOG_SLOT && input->bytes[0] <= YOLIZADWA_LOG_END) {
+        return is_log ? "the file begins as a log does; the table comes first, and then the log: yolizadwa log TABLE LOG\n"
+                      : "the file begins as a log does; a log is judged with its table: yolizadwa log TABLE LOG\n";
+    }
+    return input->bytes[0] >= 0xFE ? "the file may begin with a byte order mark; save it as plain text, in UTF-8\n" : "";
+}
+
+int say_refusal(const struct source *source, uint64_t result)
+{
+    struct refusal refusal = {.result = result};
+    find_line(source, &refusal);
+    word_refusal(&refusal, yolizadwa_number(result) >= YOLIZADWA_TEXT_UNKNOWN_WORD && refusal.line > 0 ? refusal.line : yolizadwa_place(result));
+    add_word(source, &refusal);
+    return tell(source, &refusal, hint(source));
+}
+
+/* No line of a text has the number that is refused. */
+int say_refused_change(const struct source *source, const struct what_if *what_if, uint64_t result)
+{
+    struct refusal refusal = {.result = result, .what_if = what_if};
+    word_refusal(&refusal, yolizadwa_place(result));
+    return tell(source, &refusal, "that is the table with what --set and --budget change\n");
+}
+
+/* As it is given to a word, where - is standard input. */
+static const char *shown_given(const struct source *source)
+{
+    const char *given = source->input.given;
+    return strcmp(given, "-") == 0 ? given : shown_name(given);
 }
 
 /* Shows the line of the first button, and which test takes it. */
-int say_button(FILE *to, const struct input *input, const char *what, uint64_t result)
+int say_button(const struct source *source, const char *what, uint64_t result)
 {
-    unsigned number = (unsigned)yolizadwa_place(result);
-    fprintf(to, "refused %u at %u: task %u is a button, and %s is for tables without buttons\n", (unsigned)yolizadwa_number(result), number,
-            number, what);
-    if (!is_table_file(input)) {
-        size_t begin = refused_line(input, result);
-        show_line(to, input, begin, line_number(input, begin));
-    }
-    fprintf(to, "the test for it is: yolizadwa distance %s\n", input->given);
-    return REFUSED;
+    struct refusal refusal = {.result = result};
+    char test[4200];
+    find_line(source, &refusal);
+    snprintf(refusal.words, sizeof refusal.words, "task %u is a button, and %s is for tables without buttons",
+             (unsigned)yolizadwa_place(result), what);
+    snprintf(test, sizeof test, "the test for it is: yolizadwa distance %s\n", shown_given(source));
+    return tell(source, &refusal, test);
 }
 
 /* Says the number as it was asked for, since a place ends at 65,535. No line of the table is wrong. */
-int say_no_task(FILE *to, const struct table *table, uint32_t task, uint64_t result)
+int say_no_task(const struct request *request, const struct table *table, uint64_t result)
 {
+    const struct source source = {.request = request, .refusals = stdout};
+    struct refusal refusal = {.result = result};
     unsigned tasks = task_count(table);
-    fprintf(to, "refused %u at %u: the table has no task %lu; ", (unsigned)yolizadwa_number(result), (unsigned)yolizadwa_place(result),
-            (unsigned long)task);
-    if (tasks == 1) {
-        fprintf(to, "its one task is task 0\n");
-    } else {
-        fprintf(to, "its tasks are numbered from 0 to %u\n", tasks - 1);
-    }
-    return REFUSED;
+    int length = snprintf(refusal.words, sizeof refusal.words, "the table has no task %lu; ", (unsigned long)request->task);
+    snprintf(refusal.words + length, sizeof refusal.words - (size_t)length,
+             tasks == 1 ? "its one task is task 0" : "its tasks are numbered from 0 to %u", tasks - 1);
+    return tell(&source, &refusal, "");
 }

@@ -1,10 +1,12 @@
-/* Asks the library for a report, looks up numbers in it, and says its verdict in a sentence. */
-#include <stdlib.h>
-#include <string.h>
-
+/* Asks the library for numbers and for a report, and says a verdict in a sentence. */
 #include "command.h"
 
-void check_once(const struct table *table, int plainly, struct report *report)
+uint64_t answer_once(const struct table *table, struct yolizadwa_numbers *numbers)
+{
+    return yolizadwa_answer(table->file, table->len, (uint8_t *)numbers, sizeof *numbers);
+}
+
+void write_report(const struct table *table, int plainly, struct report *report)
 {
     uint8_t *text = (uint8_t *)report->text;
     report->length = plainly ? yolizadwa_check_plainly(table->file, table->len, text, YOLIZADWA_REPORT_BYTES)
@@ -12,70 +14,38 @@ void check_once(const struct table *table, int plainly, struct report *report)
     report->text[yolizadwa_refused(report->length) ? 0 : report->length] = '\0';
 }
 
-/* Tells the number after these words in the report, or 0 if they do not stand there. */
-uint64_t report_number(const struct report *report, const char *words)
-{
-    const char *found = strstr(report->text, words);
-    return found == NULL ? 0 : strtoull(found + strlen(words), NULL, 10);
-}
-
 int report_passes(const struct report *report)
 {
     return !yolizadwa_refused(report->length) && yolizadwa_passes((const uint8_t *)report->text, (size_t)report->length) == 1;
 }
 
-/* The library has a call for passes alone; the other verdicts decide no more than words and status. */
-int report_verdict(const struct report *report, const char *verdict)
+const char *verdict_name(uint32_t verdict)
 {
-    static const char words[] = "\nverdict ";
-    const char *found = strstr(report->text, words);
-    size_t length = strlen(verdict);
-    return found != NULL && strncmp(found + sizeof words - 1, verdict, length) == 0 && found[sizeof words - 1 + length] == '\n';
+    static const char *const names[] = {"overload", "undecided", "late", "passes"};
+    return names[verdict - YOLIZADWA_OVERLOAD];
 }
 
-uint64_t report_quick(const struct report *report)
+int verdict_status(const struct yolizadwa_numbers *numbers)
 {
-    return strstr(report->text, "\nquick pass\n") != NULL ? YOLIZADWA_QUICK_PASS : YOLIZADWA_QUICK_NONE;
-}
-
-int report_excess(const struct report *report, struct excess *excess)
-{
-    const char *line = strstr(report->text, "\ninterval ");
-    excess->start = excess->end = excess->demand = 0;
-    return line != NULL &&
-           sscanf(line, "\ninterval %" SCNu64 " %" SCNu64 " demand %" SCNu64, &excess->start, &excess->end, &excess->demand) == 3;
-}
-
-int verdict_status(const struct report *report)
-{
-    return report_passes(report) ? DONE : report_verdict(report, "undecided") ? UNDECIDED : LATE;
-}
-
-static void word_late(const struct report *report, struct sentence *sentence)
-{
-    struct excess excess;
-    if (report_excess(report, &excess)) {
-        snprintf(sentence->text, sizeof sentence->text,
-                 "late: the jobs released at %" PRIu64 " or later and due by %" PRIu64 " ask for %" PRIu64 " slots and have %" PRIu64,
-                 excess.start, excess.end, excess.demand, excess.end - excess.start);
+    switch (numbers->verdict) {
+    case YOLIZADWA_PASSES: return DONE;
+    case YOLIZADWA_UNDECIDED: return UNDECIDED;
+    default: return LATE;
     }
 }
 
-/* Tells whether the report has a load: how many slots are asked for in how many. */
-static int report_load(const struct report *report, uint64_t *asked, uint64_t *round)
+static void word_late(const struct yolizadwa_numbers *numbers, struct sentence *sentence)
 {
-    const char *line = strstr(report->text, "\nload ");
-    *asked = *round = 0;
-    return line != NULL && sscanf(line, "\nload %" SCNu64 "/%" SCNu64, asked, round) == 2;
+    snprintf(sentence->text, sizeof sentence->text,
+             "late: the jobs released at %" PRIu64 " or later and due by %" PRIu64 " ask for %" PRIu64 " slots and have %" PRIu64,
+             numbers->from, numbers->to, numbers->demand, numbers->to - numbers->from);
 }
 
-static void word_overload(const struct report *report, struct sentence *sentence)
+static void word_overload(const struct yolizadwa_numbers *numbers, struct sentence *sentence)
 {
-    uint64_t asked, round;
-    if (report_load(report, &asked, &round)) {
-        snprintf(sentence->text, sizeof sentence->text,
-                 "overload: the jobs ask for %" PRIu64 " slots in every %" PRIu64 ", so some are late sooner or later", asked, round);
-    }
+    snprintf(sentence->text, sizeof sentence->text,
+             "overload: the jobs ask for %" PRIu64 " slots in every %" PRIu64 ", so some are late sooner or later", numbers->load,
+             numbers->round);
 }
 
 void foretell(struct sentence *sentence, const char *answer)
@@ -83,49 +53,57 @@ void foretell(struct sentence *sentence, const char *answer)
     snprintf(sentence->more, sizeof sentence->more, "and will give passes, as %s says", answer);
 }
 
-static void word_undecided(const struct table *table, const struct report *report, struct sentence *sentence)
+static void word_undecided(const struct table *table, const struct yolizadwa_numbers *numbers, struct sentence *sentence)
 {
     snprintf(sentence->text, sizeof sentence->text,
              "undecided: the budget, %" PRIu64 ", ended before the answer was known; the horizon, %" PRIu64 ", is always enough",
-             budget_of(table), report_number(report, "\nhorizon "));
-    if (report_quick(report) == YOLIZADWA_QUICK_PASS) {
+             budget_of(table), numbers->horizon);
+    if (numbers->quick == YOLIZADWA_QUICK_PASS) {
         foretell(sentence, "quick pass");
     }
 }
 
 /* Each sentence begins with the verdict. */
-void word_verdict(const struct table *table, const struct report *report, struct sentence *sentence)
+void word_verdict(const struct table *table, const struct yolizadwa_numbers *numbers, struct sentence *sentence)
 {
     sentence->text[0] = sentence->more[0] = '\0';
-    if (report_passes(report)) {
+    switch (numbers->verdict) {
+    case YOLIZADWA_PASSES:
         snprintf(sentence->text, sizeof sentence->text, "passes: every job meets its deadline for ever");
-    } else if (report_verdict(report, "undecided")) {
-        word_undecided(table, report, sentence);
-    } else if (report_verdict(report, "overload")) {
-        word_overload(report, sentence);
-    } else {
-        word_late(report, sentence);
+        break;
+    case YOLIZADWA_UNDECIDED: word_undecided(table, numbers, sentence); break;
+    case YOLIZADWA_OVERLOAD: word_overload(numbers, sentence); break;
+    default: word_late(numbers, sentence);
     }
 }
 
-/* Round and horizon depend on neither costs nor budget, so the check is of some that need no walk. */
-struct measure measure_of(const struct table *table)
+/* It does not depend on the budget, so the least will do. */
+uint64_t horizon_of(const struct table *table)
 {
-    struct table full = *table;
-    struct report report;
-    struct measure measure;
-    uint64_t asked;
-    overload(&full);
-    replace_budget(&full, 1);
-    check_once(&full, 0, &report);
-    measure.horizon = report_number(&report, "\nhorizon ");
-    report_load(&report, &asked, &measure.round);
-    return measure;
+    struct table least = *table;
+    struct yolizadwa_numbers numbers;
+    replace_budget(&least, 1);
+    begin_progress();
+    answer_once(&least, &numbers);
+    end_progress();
+    return numbers.horizon;
 }
 
-/* Longer or shorter runs than these are not good to look at. */
+/* Tells whether one task alone makes the horizon this long: its first release, and two rounds of one period at least. */
+static int reaches(const struct table *table, uint64_t slots)
+{
+    for (unsigned number = 0; number < task_count(table); number++) {
+        struct task task = task_at(table, number);
+        if (task.offset + 2 * task.period >= slots) {
+            return 1;
+        }
+    }
+    return 0;
+}
+
+/* Longer or shorter runs than these are not good to look at. The library is asked only where that matters, since it may take long. */
 unsigned long usual_slots(const struct table *table, unsigned long most)
 {
-    uint64_t horizon = measure_of(table).horizon;
+    uint64_t horizon = reaches(table, most) ? most : horizon_of(table);
     return horizon < LEAST_USUAL ? LEAST_USUAL : horizon > most ? most : (unsigned long)horizon;
 }

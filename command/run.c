@@ -1,41 +1,9 @@
-/* The word run: a strip chart of who had each slot and the accounts of it, from the dispatcher's answers and state alone. */
-#define _POSIX_C_SOURCE 200809L
-
+/* The word run: who had each slot and the accounts of it, from the dispatcher's answers and state alone. */
 #include <stdlib.h>
-#include <string.h>
 
-#include "command.h"
+#include "chart.h"
 
-enum { USUAL_COLUMNS = 80, LEAST_COLUMNS = 20, MOST_COLUMNS = 1000, LABEL_COLUMNS = 8 };
-enum { MOST_USUAL = 120, RULER_STEP = 5 };
-
-struct chart {
-    struct course course;
-    unsigned long slots;
-    unsigned wide;                /* slots of a block */
-    struct yolizadwa_state ended; /* after the last slot */
-    char rows[YOLIZADWA_TASKS][MOST_COLUMNS]; /* for each slot the instant before it, then the slot */
-    struct job late[JOBS_SHOWN];
-    unsigned long late_jobs;
-    uint8_t *log; /* NULL: none is kept */
-    size_t log_len;
-};
-
-static unsigned columns(void)
-{
-    const char *word = getenv("COLUMNS");
-    long told = word == NULL ? USUAL_COLUMNS : strtol(word, NULL, 10);
-    if (told <= 0) {
-        return USUAL_COLUMNS;
-    }
-    return told < LEAST_COLUMNS ? LEAST_COLUMNS : told > MOST_COLUMNS ? MOST_COLUMNS : (unsigned)told;
-}
-
-/* Whole steps of the ruler fit beside the label and the instant after the last slot. */
-static unsigned slots_of_a_block(void)
-{
-    return (columns() - LABEL_COLUMNS - 1) / 2 / RULER_STEP * RULER_STEP;
-}
+enum { MOST_USUAL = 120 };
 
 /* Tells whether instants that come every period from the first on fall on this one. */
 static int falls_on(uint64_t instant, uint64_t first, uint64_t period)
@@ -50,21 +18,6 @@ static char mark_of(const struct task *task, uint64_t instant, int late)
     return late ? '!' : released && due ? '|' : released ? '[' : due ? ']' : ' ';
 }
 
-static void note_late(struct chart *chart, unsigned number, uint64_t instant, uint32_t missing)
-{
-    const struct task *task = &chart->course.task[number];
-    if (chart->late_jobs < JOBS_SHOWN) {
-        struct job *job = &chart->late[chart->late_jobs];
-        job->task = number;
-        job->due = instant;
-        job->release = instant - task->deadline;
-        job->number = (job->release - task->offset) / task->period;
-        job->amount = missing;
-    }
-    chart->late_jobs++;
-}
-
-/* A job that the step closes late was missing what it had left before the step. */
 static void draw_slot(struct chart *chart, uint64_t instant, unsigned column)
 {
     struct course *course = &chart->course;
@@ -73,10 +26,8 @@ static void draw_slot(struct chart *chart, uint64_t instant, unsigned column)
         int late = course->state.late >> number & 1;
         chart->rows[number][column] = mark_of(&course->task[number], instant, late);
         chart->rows[number][column + 1] = owner == number ? '#' : course->state.left[number] > 0 ? '.' : ' ';
-        if (late) {
-            note_late(chart, number, instant, course->before.left[number]);
-        }
     }
+    note_late(&chart->late, course);
 }
 
 /* Writes what a camera does: the slot just drawn, and the done report that the next step is told. */
@@ -97,34 +48,6 @@ static void log_slot(struct chart *chart)
     chart->log_len = (size_t)(next - chart->log);
 }
 
-static void print_ruler(unsigned long begin, unsigned long end)
-{
-    printf("%-*s", LABEL_COLUMNS, "slot");
-    for (unsigned long slot = begin; slot < end; slot += RULER_STEP) {
-        printf("%-*lu", slot + RULER_STEP < end ? 2 * RULER_STEP : 0, slot);
-    }
-    putchar('\n');
-}
-
-static void print_row(unsigned number, const char *row, unsigned length)
-{
-    while (length > 0 && row[length - 1] == ' ') {
-        length--;
-    }
-    printf("task %-*u%.*s\n", length > 0 ? LABEL_COLUMNS - 5 : 0, number, (int)length, row);
-}
-
-static void print_block(struct chart *chart, unsigned long begin, unsigned long end, unsigned length)
-{
-    if (begin > 0) {
-        putchar('\n');
-    }
-    print_ruler(begin, end);
-    for (unsigned number = 0; number < chart->course.tasks; number++) {
-        print_row(number, chart->rows[number], length);
-    }
-}
-
 static void draw_block(struct chart *chart, unsigned long begin)
 {
     unsigned long left = chart->slots - begin;
@@ -138,44 +61,39 @@ static void draw_block(struct chart *chart, unsigned long begin)
         chart->ended = chart->course.state;
         draw_slot(chart, chart->slots, 2 * slots);
     }
-    print_block(chart, begin, begin + slots, 2 * slots + (left == slots));
+    if (!chart->quiet) {
+        print_block(chart, begin, begin + slots, 2 * slots + (left == slots));
+    }
 }
 
 static void list_late(const struct chart *chart)
 {
-    unsigned long listed = chart->late_jobs < JOBS_SHOWN ? chart->late_jobs : JOBS_SHOWN;
-    int wide = columns_for(chart->slots);
-    if (listed == 0) {
+    if (chart->late.count == 0) {
         printf("no job was closed late from 0 to %lu\n", chart->slots);
         return;
     }
     printf("closed late, with that many slots missing:\n");
-    print_jobs_heading("missing", wide);
-    for (unsigned long count = 0; count < listed; count++) {
-        print_job(&chart->late[count], wide);
-    }
-    if (listed < chart->late_jobs) {
-        printf("  and %lu more\n", chart->late_jobs - listed);
-    }
+    print_late(&chart->late, chart->course.table, chart->slots);
 }
 
 /* The share is in percent, rounded to tenths. */
 static void print_share(const char *whose, uint64_t had, unsigned long slots, int wide)
 {
-    uint64_t tenths = (1000 * had + slots / 2) / slots;
-    printf("  %5s  %*" PRIu64 "  %3" PRIu64 ".%" PRIu64 " %%\n", whose, wide, had, tenths / 10, tenths % 10);
+    printf("  %5s  %*" PRIu64 "  %7s", whose, wide, had, percent(had, slots));
 }
 
 static void print_accounts(const struct chart *chart)
 {
     char whose[12];
     int wide = columns_for(chart->slots) > 5 ? columns_for(chart->slots) : 5;
-    printf("\nwho had the slots, %lu in all:\n   task  %*s    share\n", chart->slots, wide, "slots");
+    printf("\nwho had the slots, %lu in all:\n   task  %*s    share%s\n", chart->slots, wide, "slots", name_heading(chart->course.table));
     for (unsigned number = 0; number < chart->course.tasks; number++) {
         snprintf(whose, sizeof whose, "%u", number);
         print_share(whose, chart->ended.given[number], chart->slots, wide);
+        end_row(chart->course.table, number, put_plain);
     }
     print_share("empty", chart->ended.empty, chart->slots, wide);
+    putchar('\n');
 }
 
 static void draw_chart(struct chart *chart)
@@ -183,10 +101,33 @@ static void draw_chart(struct chart *chart)
     for (unsigned long begin = 0; begin < chart->slots && !ferror(stdout); begin += chart->wide) {
         draw_block(chart, begin);
     }
+}
+
+static void sum_up(const struct chart *chart)
+{
     putchar('\n');
     list_late(chart);
     printf("\n# has the slot  . waits  [ released  ] due  | due and released  ! closed late\n");
     print_accounts(chart);
+}
+
+static void run_as_json(const struct request *request, const struct chart *chart, int status)
+{
+    const struct table *table = chart->course.table;
+    json_begin(request, 0, status);
+    json_changes(table);
+    json_number("slots", chart->slots);
+    json_late(&chart->late, table);
+    json_open("given", '[');
+    for (unsigned number = 0; number < chart->course.tasks; number++) {
+        json_open(NULL, '{');
+        json_number_and_name(table, number);
+        json_number("slots", chart->ended.given[number]);
+        json_close('}');
+    }
+    json_close(']');
+    json_number("empty", chart->ended.empty);
+    json_end();
 }
 
 /* A slot needs at most three bytes, and the end one. */
@@ -207,22 +148,38 @@ static int end_log(struct chart *chart, const char *name)
     return status;
 }
 
+static int tell_run(const struct request *request, struct chart *chart)
+{
+    if (!request->json) {
+        say_what_if(chart->course.table);
+    }
+    draw_chart(chart);
+    if (!request->json) {
+        sum_up(chart);
+    }
+    int status = end_log(chart, request->log);
+    status = status != DONE ? status : chart->late.count > 0 ? LATE : DONE;
+    if (status == TROUBLE) {
+        return json_trouble(request, 0);
+    }
+    if (request->json) {
+        run_as_json(request, chart, status);
+    }
+    return status;
+}
+
 int run(const struct request *request)
 {
     static struct chart chart;
     struct table table;
-    int status = open_periodic(request->files[0], stderr, "run", &table);
+    int status = open_periodic(request, 0, stderr, "run", &table);
     if (status != DONE) {
         return status;
     }
     begin_course(&chart.course, &table, request->early);
     chart.slots = request->slots > 0 ? request->slots : usual_slots(&table, MOST_USUAL);
-    chart.wide = slots_of_a_block();
+    chart.quiet = request->json;
+    measure_chart(&chart);
     status = begin_log(&chart, request->log);
-    if (status != DONE) {
-        return status;
-    }
-    draw_chart(&chart);
-    status = end_log(&chart, request->log);
-    return status != DONE ? status : chart.late_jobs > 0 ? LATE : DONE;
+    return status != DONE ? status : tell_run(request, &chart);
 }

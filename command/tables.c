@@ -2,7 +2,7 @@
 #include <stdlib.h>
 #include <string.h>
 
-#include "command.h"
+#include "json.h"
 
 enum { BUDGET_AT = 1, BUDGET_BYTES = 8, TASKS_AT = 9, TASK_BYTES = 17, BUTTON_BYTES = 13, WORD_BYTES = 4 };
 
@@ -16,10 +16,14 @@ uint64_t table_of(const struct input *input, struct table *table)
 {
     uint8_t text[YOLIZADWA_LONGEST_TEXT];
     uint64_t result;
+    memset(table->names, 0, sizeof table->names);
+    table->was = NULL;
+    table->bytes = NULL;
     table->was_text = !is_table_file(input);
     if (table->was_text) {
         result = yolizadwa_from_text(input->bytes, input->len, table->file, sizeof table->file);
         table->len = (size_t)result;
+        read_names(input->bytes, input->len, table->names);
         return result;
     }
     result = yolizadwa_to_text(input->bytes, input->len, text, sizeof text);
@@ -30,39 +34,69 @@ uint64_t table_of(const struct input *input, struct table *table)
     return result;
 }
 
-/* Every call that takes no button refuses one alike; a start takes the least time of them. */
-static uint64_t started(const struct table *table)
+static int is_standard(const char *name)
 {
-    struct yolizadwa_state state;
-    return yolizadwa_start(table->file, table->len, (uint8_t *)&state, sizeof state);
+    return name != NULL && strcmp(name, "-") == 0;
 }
 
-/* What: the test that takes no buttons, by its name; NULL: buttons are taken. */
-static int open_for(const char *name, FILE *refusals, const char *what, struct table *table)
+/* A what-if of two tables is about the new one. */
+static int is_changed(const struct request *request, unsigned which)
 {
-    struct input input;
-    int status = read_input(name, &input);
-    if (status != DONE) {
-        return status;
-    }
-    uint64_t result = table_of(&input, table);
+    return (request->settings > 0 || request->budget_told) && (which > 0 || !request->changes_new);
+}
+
+static int take_table(struct source *source, const char *what, struct table *table)
+{
+    const struct request *request = source->request;
+    struct yolizadwa_numbers numbers;
+    uint64_t result = table_of(&source->input, table);
     if (yolizadwa_refused(result)) {
-        status = say_refusal(refusals, &input, result);
-    } else if (what != NULL && yolizadwa_refused(result = started(table))) {
-        status = say_button(refusals, &input, what, result);
+        return say_refusal(source, result);
     }
-    free(input.bytes);
+    int status = lend_names(request->names, table);
+    if (status == DONE && is_changed(request, source->which)) {
+        status = change_table(source, table);
+    }
+    if (status == DONE && what != NULL && button_count(table) > 0) {
+        return say_button(source, what, answer_once(table, &numbers));
+    }
     return status;
 }
 
-int open_table(const char *name, FILE *refusals, struct table *table)
+void close_table(struct table *table)
 {
-    return open_for(name, refusals, NULL, table);
+    free(table->bytes);
 }
 
-int open_periodic(const char *name, FILE *refusals, const char *what, struct table *table)
+/* The names of a text stay where they were read, so its bytes are kept. What: the test that takes no buttons; NULL: they are taken. */
+static int open_for(const struct request *request, unsigned which, FILE *refusals, const char *what, struct table *table)
 {
-    return open_for(name, refusals, what, table);
+    struct source source = {.request = request, .which = which, .refusals = refusals};
+    int status = DONE;
+    if (is_standard(request->names) && is_standard(request->files[which])) {
+        status = trouble("only one of table and names can be standard input");
+    }
+    if (status == DONE) {
+        status = read_input(request->files[which], &source.input);
+    }
+    if (status == DONE) {
+        status = take_table(&source, what, table);
+        table->bytes = source.input.bytes;
+        if (status != DONE) {
+            close_table(table);
+        }
+    }
+    return status == TROUBLE ? json_trouble(request, which) : status;
+}
+
+int open_table(const struct request *request, unsigned which, FILE *refusals, struct table *table)
+{
+    return open_for(request, which, refusals, NULL, table);
+}
+
+int open_periodic(const struct request *request, unsigned which, FILE *refusals, const char *what, struct table *table)
+{
+    return open_for(request, which, refusals, what, table);
 }
 
 static uint64_t number_at(const uint8_t *bytes, size_t count)
@@ -79,11 +113,16 @@ uint64_t budget_of(const struct table *table)
     return number_at(table->file + BUDGET_AT, BUDGET_BYTES);
 }
 
+static void put_number(uint8_t *bytes, size_t count, uint64_t number)
+{
+    for (size_t at = 0; at < count; at++) {
+        bytes[at] = (uint8_t)(number >> 8 * at);
+    }
+}
+
 void replace_budget(struct table *table, uint64_t budget)
 {
-    for (unsigned at = 0; at < BUDGET_BYTES; at++) {
-        table->file[BUDGET_AT + at] = (uint8_t)(budget >> 8 * at);
-    }
+    put_number(table->file + BUDGET_AT, BUDGET_BYTES, budget);
 }
 
 static int is_button(const uint8_t *record)
@@ -107,20 +146,11 @@ static size_t record_at(const struct table *table, unsigned number)
     return at;
 }
 
-/* Tells where a number of a task stands: 0 offset, which a button does not have, 1 cost, 2 deadline, 3 period. */
-static uint8_t *number_of(struct table *table, unsigned task, unsigned which)
+/* The cost stands behind the offset, which a button does not have. */
+void replace_cost(struct table *table, unsigned number, uint64_t cost)
 {
-    uint8_t *record = table->file + record_at(table, task);
-    return record + 1 + WORD_BYTES * (which - (unsigned)is_button(record));
-}
-
-/* Whole periods as costs keep round and horizon, and of two tasks or more the library then says overload without a walk. */
-void overload(struct table *table)
-{
-    for (unsigned task = 0; task < task_count(table); task++) {
-        memcpy(number_of(table, task, 1), number_of(table, task, 3), WORD_BYTES);
-        memcpy(number_of(table, task, 2), number_of(table, task, 3), WORD_BYTES);
-    }
+    uint8_t *record = table->file + record_at(table, number);
+    put_number(record + 1 + (is_button(record) ? 0 : WORD_BYTES), WORD_BYTES, cost);
 }
 
 /* Leaves that many tasks, at least one. */

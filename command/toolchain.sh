@@ -1,14 +1,14 @@
 # Sourced by ./yolizadwa, examples/try and tests/run, used in the repository's root: how C is built here against the library, which is for x86-64.
 machine=$(uname -m)
-kit=$(dirname "$(dirname "$(readlink -f "$(command -v rt)")")")/on/$machine
-tools=$kit/toolchain
 target=x86_64-unknown-linux-gnu
 library=target/staticlib/libyolizadwa.a
 flags=(-O2 -Wall -Wextra -pedantic -Werror -Iinclude)
 
-# Programs for x86-64 run under this; empty where they run by themselves.
+# Programs for x86-64 run under the kit's emulator; where they run by themselves none is needed, nor the kit.
 emulator=()
 if [ "$machine" != x86_64 ]; then
+    kit=$(dirname "$(dirname "$(readlink -f "$(command -v rt)")")")/on/$machine
+    tools=$kit/toolchain
     emulator=("$tools/bin/qemu-x86_64" "$tools/lib/ld-linux-x86-64.so.2" --library-path "$tools/lib")
 fi
 

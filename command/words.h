@@ -4,21 +4,25 @@
 
 #include "command.h"
 
-enum { MOST_OPTIONS = 3 };
+enum { MOST_OPTIONS = 8 };
 
 struct word {
     const char *name, *form;           /* the form begins with the name, as the arguments do */
     const char *sums_up, *sums_up_more; /* a line of the overview, and a second one or NULL */
-    int files;
+    unsigned files;
+    int many; /* more of them may follow */
     int takes_task; /* the number of a task may follow the files */
+    int changes_new;
     const char *options[MOST_OPTIONS];
     int (*act)(const struct request *request);
-    const char *page, *goes_to; /* goes_to: where its page sends what it writes, or NULL */
+    const char *page;
 };
 
 const struct word *word_named(const char *name);
 const struct word *word_after(const struct word *word); /* of NULL the first, of the last NULL */
+const char *word_like(const char *name); /* the word that was meant, or NULL */
 const char *word_names(void);                           /* all of them, with commas between */
+const char *use_of(const struct word *word, const char *between); /* its form and the options that many words take, until it is asked again */
 
 /* Reads the arguments behind the word and does what they ask for. */
 int do_word(const struct word *word, char **arguments);

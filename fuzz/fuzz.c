@@ -8,7 +8,7 @@
 
 #include "yolizadwa.h"
 
-enum { REPORT = YOLIZADWA_REPORT_BYTES, STATE = YOLIZADWA_STATE_BYTES, LOG = YOLIZADWA_LOG_BYTES, REFUSED = 65536, NONE = YOLIZADWA_TASKS };
+enum { REPORT = YOLIZADWA_REPORT_BYTES, ANSWER = YOLIZADWA_ANSWER_BYTES, STATE = YOLIZADWA_STATE_BYTES, LOG = YOLIZADWA_LOG_BYTES, REFUSED = 65536, NONE = YOLIZADWA_TASKS };
 
 // Where the words behind the waits and the slots left stand in a state.
 enum { LAST = 8 * NONE, LATE = LAST + 4, CLOSED = LAST + 8, LOWEST = LAST + 12, COUNTS = LAST + 16 };
@@ -213,6 +213,27 @@ static void try_log(const uint8_t *file, size_t len, uint64_t checked, const uin
     free(log);
 }
 
+// A buffer of this size, filled with this byte: the check's refusal, or the lines of its report once more.
+static void try_answer(const uint8_t *file, size_t len, size_t bytes, int with, uint64_t checked, const char *report) {
+    static const char *const verdicts[] = {"", "overload", "undecided", "late", "passes"};
+    struct yolizadwa_numbers n;
+    char lines[200];
+    uint8_t *answer = block(bytes, with);
+    uint64_t r = yolizadwa_answer(file, len, answer, bytes);
+    if (bytes < ANSWER) HOLDS(r == (uint64_t)YOLIZADWA_SHORT_REPORT * REFUSED + bytes);
+    else HOLDS(r == (checked < REFUSED ? 0 : checked));
+    HOLDS(all(answer, r == 0 ? ANSWER : 0, bytes, with));
+    if (r == 0) {
+        memcpy(&n, answer, sizeof n);
+        HOLDS(n.verdict >= YOLIZADWA_OVERLOAD && n.verdict <= YOLIZADWA_PASSES && n.quick <= YOLIZADWA_QUICK_PASS && n.spare == 0);
+        snprintf(lines, sizeof lines, "tasks %u\nload %llu/%llu\nquick %s\nhorizon %llu\nverdict %s\nsettled %llu\n", n.tasks,
+                 (unsigned long long)n.load, (unsigned long long)n.round, n.quick ? "pass" : "none", (unsigned long long)n.horizon,
+                 verdicts[n.verdict], (unsigned long long)n.settled);
+        HOLDS(strncmp(report, lines, strlen(lines)) == 0);
+    }
+    free(answer);
+}
+
 static void try_file(const uint8_t *bytes, size_t len, const uint8_t *more, size_t more_len) {
     if (!affordable(bytes, len)) return;
     uint8_t *file = block(len, 0);
@@ -240,6 +261,9 @@ static void try_file(const uint8_t *bytes, size_t len, const uint8_t *more, size
     check(file, len, more_len ? more[0] : 0, 0xa5, 0);
 
     try_report((char *)text, more, more_len);
+    try_answer(file, len, ANSWER, 0xa5, r, (char *)text);
+    try_answer(file, len, ANSWER + 9, 0x3c, r, (char *)text);
+    try_answer(file, len, more_len ? more[0] % ANSWER : 0, 0xa5, r, (char *)text);
 
     // the quick test refuses alike, and says what the report says
     uint64_t q = yolizadwa_quick(file, len);

@@ -2,13 +2,14 @@
  * Yolizadwa for C (from C99 on) and C++: judge a table of tasks, then give out time slot by slot.
  * The rules are those of docs/SPECIFICATION.md; its section 9 has the calls.
  *
- * Fifteen calls, in the static library that `rt staticlib yolizadwa` writes for x86-64:
+ * Sixteen calls, in the static library that `rt staticlib yolizadwa` writes for x86-64:
  *
  *   yolizadwa_write          writes a table file from the numbers of its tasks
  *   yolizadwa_from_text      writes the table file of a table in plain text
  *   yolizadwa_to_text        writes the plain text of a table file
  *   yolizadwa_check          judges a table file and writes its report as text
  *   yolizadwa_check_plainly  does the same slot by slot
+ *   yolizadwa_answer         does the same and gives the answer as numbers
  *   yolizadwa_passes         tells whether a report says that the table passes
  *   yolizadwa_quick          judges it in short, with all tasks started at once: pass, or no answer
  *   yolizadwa_distance       judges it in short, with its offsets and with buttons: pass, overload, or no answer
@@ -20,7 +21,7 @@
  *   yolizadwa_log_feed       judges the next piece of it, cut anywhere
  *   yolizadwa_log_finish     says what is found of the whole log
  *
- * What holds for all fifteen:
+ * What holds for all sixteen:
  *   - They keep nothing between calls, allocate nothing, and may run in several threads at once on different buffers.
  *   - Of the C library they need memcpy and memset alone. The host tests hold the stack of each call to 16 KiB.
  *   - A result below 65,536 is an answer. Any other is a refusal: 65,536 x number + place. A refusal changes no byte.
@@ -44,6 +45,7 @@ extern "C" {
 
 #define YOLIZADWA_TASKS 32          /* the most tasks and buttons a table may have; as a task number: none */
 #define YOLIZADWA_REPORT_BYTES 1024 /* the least length of a report buffer; no report is longer */
+#define YOLIZADWA_ANSWER_BYTES 208  /* the least length of a buffer for an answer as numbers; it takes these bytes */
 #define YOLIZADWA_STATE_BYTES 536   /* the only length of a state buffer */
 #define YOLIZADWA_LOG_BYTES 568     /* the only length of a log's state buffer */
 #define YOLIZADWA_LONGEST_FILE 554  /* bytes of the longest file that is not refused */
@@ -99,7 +101,8 @@ enum yolizadwa_refusal {
     YOLIZADWA_FILE_TOO_MANY_TASKS = 25, /* a thirty-third task or button; place: where it begins */
     YOLIZADWA_FILE_NO_END = 26,         /* the file ends after a whole record, without an end record; place: its length */
     YOLIZADWA_ZERO_BUDGET = 27,         /* the budget is 0; place 0, in a text its line */
-    YOLIZADWA_SHORT_REPORT = 30,        /* the report buffer has fewer than 1,024 bytes; place: its length */
+    YOLIZADWA_SHORT_REPORT = 30,        /* the report buffer has fewer than 1,024 bytes, or the buffer for an answer fewer than 208;
+                                           place: its length */
     YOLIZADWA_SHORT_BUFFER = 31,        /* the buffer is shorter than what is to be written; place: its length */
     YOLIZADWA_STATE_LENGTH = 50,        /* the state buffer is not 536 bytes long, or a log's not 568; place: its length, at most 65,535 */
     YOLIZADWA_BROKEN_ROWS = 51,         /* the words of a table are not a whole number of rows; place: how many words, at most 65,535 */
@@ -110,8 +113,7 @@ enum yolizadwa_refusal {
     YOLIZADWA_TEXT_NOT_A_NUMBER = 61,   /* a word that should be a number has a byte that is no digit */
     YOLIZADWA_TEXT_LARGE_NUMBER = 62,   /* a number of a task or button is 2^32 or more, or the budget 2^64 or more */
     YOLIZADWA_TEXT_WRONG_COUNT = 63,    /* a line has too few numbers or too many */
-    YOLIZADWA_TEXT_NO_BUDGET = 64,      /* a task or button comes before the budget, or the text ends without one: then the place is
-                                           the line in which it ends, one more than it has line feeds */
+    YOLIZADWA_TEXT_BUDGET_NOT_FIRST = 64, /* a budget behind a task or button, in a text that has none before them */
     YOLIZADWA_TEXT_SECOND_BUDGET = 65,  /* a second budget */
     YOLIZADWA_TEXT_TOO_MANY_TASKS = 66  /* a thirty-third task or button */
 };
@@ -144,7 +146,8 @@ static inline uint32_t yolizadwa_place(uint64_t result) { return (uint32_t)(resu
 uint64_t yolizadwa_write(const uint32_t *words, size_t count, uint64_t budget, uint8_t *file, size_t file_len);
 
 /*
- * A table in plain text: one line for the budget, first and once, then a line for each task and each button.
+ * A table in plain text: one line for the budget, first and once, or none, then a line for each task and each button. Without a budget it
+ * is 2^64 - 1, so that a check looks as far as it must.
  *
  *   # the bench, Tuesday
  *   budget 1000
@@ -216,6 +219,41 @@ uint64_t yolizadwa_check(const uint8_t *file, size_t file_len, uint8_t *report, 
  * is there for comparison alone. The quick test in it is the same. A slot took 2 ns with 1 task and 42 with 32 on that machine.
  */
 uint64_t yolizadwa_check_plainly(const uint8_t *file, size_t file_len, uint8_t *report, size_t report_len);
+
+/*
+ * The answer of a check as numbers, so that no host takes the text of a report apart. They take 208 bytes, little-endian, at the buffer's
+ * beginning; the bytes behind them stay as they were. On x86-64 this struct is that layout. It needs no alignment:
+ *
+ *   struct yolizadwa_numbers numbers;
+ *   if (yolizadwa_answer(file, file_len, (uint8_t *)&numbers, sizeof numbers) == 0 && numbers.verdict == YOLIZADWA_PASSES) {
+ *       run(file, file_len);
+ *   }
+ *
+ * The result is 0. For every file, with buffers that are long enough, both calls tell one answer or refuse alike; this is proved. A number of
+ * which the verdict tells nothing is 0. The time is that of yolizadwa_check.
+ *
+ * Refusals: 30; 20 to 27; 1 and 3 to 7; 11.
+ */
+enum yolizadwa_verdict {
+    YOLIZADWA_OVERLOAD = 1,
+    YOLIZADWA_UNDECIDED = 2,
+    YOLIZADWA_LATE = 3,
+    YOLIZADWA_PASSES = 4
+};
+struct yolizadwa_numbers {
+    uint64_t round;                  /* slots of the round, and */
+    uint64_t load;                   /* slots asked for in it: `load 11/15` is load 11 and round 15 */
+    uint64_t horizon;                /* as in the report, as are all below */
+    uint64_t settled;
+    uint64_t idle;                   /* passes only */
+    uint64_t from, to, demand;       /* late only: the interval and what it asks for */
+    uint32_t tasks;
+    uint32_t quick;                  /* an enum yolizadwa_quick_answer */
+    uint32_t verdict;                /* an enum yolizadwa_verdict */
+    uint32_t spare;                  /* 0 */
+    uint32_t worst[YOLIZADWA_TASKS]; /* passes only: the worst response of each task; 0 behind the last task */
+};
+uint64_t yolizadwa_answer(const uint8_t *file, size_t file_len, uint8_t *answer, size_t answer_len);
 
 /*
  * Whether a report says that the table passes, so that no host searches its text by itself. The result is 1 if the bytes are at

@@ -20,7 +20,8 @@
     CALL(FILLS, LOG_START, yolizadwa_log_start)         \
     CALL(FEEDS, LOG_FEED, yolizadwa_log_feed)           \
     CALL(FILLS, LOG_FINISH, yolizadwa_log_finish)       \
-    CALL(LISTENS, PASSES, yolizadwa_passes)
+    CALL(LISTENS, PASSES, yolizadwa_passes)             \
+    CALL(FILLS, ANSWER, yolizadwa_answer)
 
 #define NAME(shape, name, function) name,
 enum call { CALLS(NAME) };

@@ -4,7 +4,7 @@
 
 use crate::logbook::LOG_BYTES;
 use crate::plain::LONGEST_TEXT;
-use crate::reference::{LONGEST_FILE, REPORT_BYTES, STATE_BYTES};
+use crate::reference::{ANSWER_BYTES, LONGEST_FILE, REPORT_BYTES, STATE_BYTES};
 
 macro_rules! calls {
     ($($call:ident $name:literal,)*) => {
@@ -34,6 +34,7 @@ calls! {
     LogFeed "log feed",
     LogFinish "log finish",
     Passes "passes",
+    Answer "answer",
 }
 
 #[derive(Clone, Debug)]
@@ -105,6 +106,11 @@ impl Request {
 
     pub fn log_finish(file: Vec<u8>, log: Vec<u8>) -> Request {
         Request { call: Call::LogFinish, file, buffer: log, number: 0 }
+    }
+
+    /// The answer of a check as numbers.
+    pub fn answer(file: Vec<u8>) -> Request {
+        Request { call: Call::Answer, file, buffer: vec![0xE7; ANSWER_BYTES + 8], number: 0 }
     }
 
     /// A report buffer, and what the check returned: the report's length, or a refusal, which is longer than the buffer.

@@ -18,7 +18,7 @@ pub const E: Rows = &[(1, 1, 1, 2), (0, 1, 1, 2)];
 pub const F: Rows = &[(0, 1, 1, 2), (0, 1, 1, 2)];
 pub const G: Rows = &[(0, 2, 4, 4), (0, 2, 4, 4)];
 const H: Rows = &[(4, 1, 1, 2), (0, 2, 3, 4)];
-const I: Rows = &[(0, 3, 5, 5), (2, 3, 5, 5)];
+pub const I: Rows = &[(0, 3, 5, 5), (2, 3, 5, 5)];
 pub const J: Rows = &[(4, 1, 1, 2)];
 /// The lamp's, where equal deadlines go to the shorter period.
 const LAMP: Rows = &[(0, 4, 6, 6), (3, 1, 3, 3)];

@@ -33,6 +33,7 @@ pub fn ask_all(bench: &mut Bench, file: &[u8]) {
     if affordable(file) {
         ask_largest(bench, file);
         bench.ask(Request::check(file.to_vec()));
+        bench.ask(Request::answer(file.to_vec()));
         bench.ask(Request::quick(file.to_vec()));
         bench.ask(Request::distance(file.to_vec()));
     }
@@ -172,7 +173,7 @@ pub fn buffers(bench: &mut Bench, rng: &mut Rng) {
     let files = [b.clone(), b[..20].to_vec(), Vec::new(), none, long, file_of(9, &with_a_button()[1])];
     let lengths = (0..=1_100).chain([4_096, 65_534, 65_535, 65_536, 65_537, 65_680, 70_000, 131_072]);
     for length in lengths {
-        for call in [Call::Check, Call::Start, Call::Step, Call::LogStart, Call::LogFinish] {
+        for call in [Call::Check, Call::Answer, Call::Start, Call::Step, Call::LogStart, Call::LogFinish] {
             let file = rng.pick(&[0, 0, 1, 2, 3, 4, 5]);
             let buffer = (0..length).map(|_| rng.below(3) as u8).collect();
             bench.ask(Request { call, file: files[file as usize].clone(), buffer, number: 0 });

@@ -6,6 +6,8 @@ use crate::command::{asked, sanitized, status_of, COMMAND, SANITIZED};
 use crate::inputs::*;
 use crate::judge::fed;
 use crate::markup::{self, Element};
+use crate::names::{names_of, shown};
+use crate::pages::is_paged;
 use crate::plain;
 use crate::program;
 use crate::reference::{self, Late, State, Task, Verdict, NONE};
@@ -16,8 +18,8 @@ use std::os::unix::ffi::OsStrExt;
 use std::path::Path;
 use std::process::{Command, Output};
 
-const XML: &str = "<?xml version=\"1.0\" encoding=\"UTF-8\"?>";
-const HTML: &str = "<!DOCTYPE html>";
+pub const XML: &str = "<?xml version=\"1.0\" encoding=\"UTF-8\"?>";
+pub const HTML: &str = "<!DOCTYPE html>";
 const AT_RANDOM: u64 = 80;
 const USUAL: u64 = 200;
 const LEAST: u64 = 35;
@@ -30,7 +32,8 @@ const MOST_SLOTS: u64 = 1_000_000;
 type Places = BTreeSet<(usize, u64)>;
 
 /// A window of a run: who has each slot, waits and misses it, and which of these are jobs of the late interval; what is released, due and
-/// closed late at each instant; of each late job, by its task and deadline, how many slots are missing; which instants are idle.
+/// closed late at each instant; of each late job, by its task and deadline, how many slots are missing; which slots are empty, and which
+/// instants are idle without one beside them.
 #[derive(Default, PartialEq, Debug)]
 struct Shown {
     has: Places,
@@ -43,10 +46,11 @@ struct Shown {
     released: Places,
     due: Places,
     closed: Places,
-    idle: BTreeSet<u64>,
+    empty: BTreeSet<u64>,
+    instants: BTreeSet<u64>,
 }
 
-struct Window {
+pub struct Window {
     from: u64,
     to: u64,
     early: bool,
@@ -123,12 +127,12 @@ impl Shown {
 
     /// An instant is idle if by then no earlier job is open: each is finished, or was closed late before.
     fn by_reference(tasks: &[Task], late: &Option<Late>, window: &Window) -> Shown {
-        let mut shown = Shown::default();
+        let (mut shown, mut idle) = (Shown::default(), BTreeSet::new());
         let (mut state, mut done) = (reference::start(tasks), false);
         for now in 0..=window.to {
             let open = |&number: &usize| state.left[number] > 0 && !(done && state.last as usize == number);
             if now > 0 && now >= window.from && !(0..tasks.len()).any(|number| open(&number)) {
-                shown.idle.insert(now);
+                idle.insert(now);
             }
             let next = reference::step(tasks, &state, done).expect("a state of the table");
             shown.note(tasks, late, window, now, &state, &next);
@@ -136,7 +140,17 @@ impl Shown {
             done = window.early && next.last != NONE && 2 * (tasks[last].cost - next.left[last]) >= tasks[last].cost;
             state = next;
         }
+        shown.note_idle(tasks.len(), &idle, window);
         shown
+    }
+
+    /// A slot is empty if no task has it and none waits. An empty slot tells of the instants at its ends that they are idle.
+    fn note_idle(&mut self, tasks: usize, idle: &BTreeSet<u64>, window: &Window) {
+        let open = |slot: u64| (0..tasks).any(|task| self.has.contains(&(task, slot)) || self.waits.contains(&(task, slot)));
+        let empty: BTreeSet<u64> = (window.from..window.to).filter(|&slot| !open(slot)).collect();
+        let beside = |now: u64| empty.contains(&now) || (now > 0 && empty.contains(&(now - 1)));
+        self.instants = idle.iter().copied().filter(|&now| !beside(now)).collect();
+        self.empty = empty;
     }
 }
 
@@ -192,12 +206,12 @@ fn task_of(element: &Element) -> Option<usize> {
     title_of(element)?.strip_prefix("task ")?.split([' ', ':', ',']).next()?.parse().ok()
 }
 
-/// What an element says of a late job: task, deadline, slots missing.
+/// What an element says of a late job: task, deadline, slots missing. The task's name may have these words too.
 fn lack_of(element: &Element) -> Option<(usize, u64, u64)> {
     let title = title_of(element)?;
-    let (task, rest) = title.strip_prefix("task ")?.split_once(", due at ")?;
+    let (_, rest) = title.rsplit_once(", due at ")?;
     let (due, rest) = rest.split_once(": late, and ")?;
-    Some((task.parse().ok()?, due.parse().ok()?, rest.strip_suffix(" missing")?.parse().ok()?))
+    Some((task_of(element)?, due.parse().ok()?, rest.strip_suffix(" missing")?.parse().ok()?))
 }
 
 /// The slots that a box stands under, or a line goes through.
@@ -266,11 +280,20 @@ fn marks(drawing: &Element, class: &str, axes: &[Axis]) -> Option<Places> {
     Some(shapes.collect::<Option<Vec<_>>>()?.into_iter().flatten().collect())
 }
 
-fn rings(drawing: &Element, axes: &[Axis]) -> Option<BTreeSet<u64>> {
-    let groups = drawing.of_class("idle");
-    let in_blocks =
-        groups.iter().zip(axes).flat_map(|(group, axis)| group.named("circle").into_iter().map(move |ring| (ring, axis)));
-    in_blocks.map(|(ring, axis)| axis.instant(ring.number("cx")?)).collect()
+/// The band below the axis: its slots, of which none may be drawn twice.
+fn band(drawing: &Element, axes: &[Axis]) -> Option<BTreeSet<u64>> {
+    let mut slots = BTreeSet::new();
+    for (shape, axis) in shapes(&drawing.of_class("empty"), axes) {
+        Some(()).filter(|()| span_of(axis, shape).is_some_and(|mut span| span.all(|slot| slots.insert(slot))))?;
+    }
+    Some(slots)
+}
+
+/// Two wide, an instant's place in the middle.
+fn instants(drawing: &Element, axes: &[Axis]) -> Option<BTreeSet<u64>> {
+    let marks = shapes(&drawing.of_class("instants"), axes);
+    let marks = marks.into_iter().filter(|(shape, _)| shape.name == "rect");
+    marks.map(|(shape, axis)| axis.instant(shape.number("x")? + 1).filter(|_| shape.number("width") == Some(2))).collect()
 }
 
 impl Shown {
@@ -291,7 +314,8 @@ impl Shown {
             released: marks(drawing, "released", axes)?,
             due: &due | &closed,
             closed,
-            idle: rings(drawing, axes)?,
+            empty: band(drawing, axes)?,
+            instants: instants(drawing, axes)?,
         };
         Some(shown).filter(|_| apart)
     }
@@ -312,19 +336,27 @@ fn jobs_apart(drawing: &Element, axes: &[Axis], released: &Places) -> bool {
 
 // What holds of every drawing.
 
-const ALLOWED: &[&str] = &["svg", "title", "desc", "defs", "pattern", "rect", "path", "g", "text", "circle"];
+const ALLOWED: &[&str] = &["svg", "title", "desc", "defs", "pattern", "rect", "path", "g", "text"];
+
+/// One element, or on a page the labels and the lanes of each block.
+fn sheets(drawing: &Element) -> Vec<&Element> {
+    drawing.named("svg").into_iter().filter(|svg| !svg.attribute("version").is_empty()).collect()
+}
 
 /// Plain shapes and texts, hatchings of its own, and nothing that runs or is fetched.
 fn is_plain(drawing: &Element) -> bool {
-    let all = drawing.all();
+    let all: Vec<&Element> = drawing.named("svg").into_iter().flat_map(Element::all).collect();
     let own = |value: &str| {
         let name = value.strip_prefix("url(#").and_then(|rest| rest.strip_suffix(')'));
         !value.contains("url") || all.iter().any(|element| Some(element.attribute("id")) == name)
     };
     let quiet = |name: &str| !name.starts_with("on") && !name.contains("href") && !["style", "src"].contains(&name);
-    drawing.attribute("xmlns") == "http://www.w3.org/2000/svg"
-        && drawing.attribute("version") == "1.1"
-        && drawing.attribute("font-family") == "sans-serif"
+    let good = |sheet: &Element| {
+        sheet.attribute("xmlns") == "http://www.w3.org/2000/svg"
+            && sheet.attribute("version") == "1.1"
+            && sheet.attribute("font-family") == "sans-serif"
+    };
+    sheets(drawing).into_iter().all(good)
         && all.iter().all(|element| ALLOWED.contains(&element.name.as_str()))
         && all.iter().flat_map(|element| &element.attributes).all(|(name, value)| quiet(name) && own(value))
 }
@@ -374,18 +406,28 @@ impl Style {
 }
 
 /// No text runs off the sheet.
-fn texts_fit(element: &Element, style: &Style, wide: f64) -> bool {
+fn texts_fit(element: &Element, style: &Style, sheet: &Range<f64>) -> bool {
     let style = style.within(element);
     let (left, right) = style.edges(element);
     if element.name == "text" {
-        return left >= 0.0 && right <= wide;
+        return left >= sheet.start && right <= sheet.end;
     }
-    element.elements().all(|child| texts_fit(child, &style, wide))
+    element.elements().all(|child| texts_fit(child, &style, sheet))
 }
 
-fn all_texts_fit(drawing: &Element) -> bool {
+pub fn all_texts_fit(drawing: &Element) -> bool {
     let style = Style { anchor: "start".to_string(), size: 0.0, bold: false, shift: 0.0 };
-    texts_fit(drawing, &style, drawing.number("width").unwrap_or(0) as f64)
+    let fits = |sheet: &Element| {
+        view_of(sheet).is_some_and(|[x, _, wide, _]| texts_fit(sheet, &style, &(x as f64..(x + wide) as f64)))
+    };
+    sheets(drawing).into_iter().all(fits)
+}
+
+/// What a sheet shows: from where, and how wide and high.
+fn view_of(sheet: &Element) -> Option<[u64; 4]> {
+    let view: Vec<u64> = sheet.attribute("viewBox").split(' ').map(str::parse).collect::<Result<_, _>>().ok()?;
+    let view: [u64; 4] = view.try_into().ok()?;
+    Some(view).filter(|view| sheet.number("width") == Some(view[2]) && sheet.number("height") == Some(view[3]))
 }
 
 /// The legend tells of what is drawn, and of nothing else.
@@ -403,19 +445,27 @@ fn legend_fits(drawing: &Element, shown: &Shown, late: &Option<Late>, horizon: b
         (!shown.missed_meant.is_empty(), "of the late interval: that many slots are missing"),
         (shaded, "the late interval"),
         (horizon, "the horizon"),
-        (!shown.idle.is_empty(), "idle: every earlier job is finished, or was closed late before"),
+        (!shown.empty.is_empty(), "idle: no job is open"),
+        (!shown.instants.is_empty(), "idle for an instant: every earlier job is finished, or was closed late before"),
     ];
     let told: Vec<String> =
-        drawing.of_class("legend").iter().flat_map(|legend| legend.named("text")).map(Element::text).collect();
+        drawing.of_class("legend").iter().flat_map(|legend| legend.of_class("key")).map(Element::text).collect();
     told.iter().eq(keys.iter().filter(|(seen, _)| *seen).map(|(_, words)| words))
 }
 
-/// No box, number or ring beyond the edges.
-fn is_whole(drawing: &Element) -> bool {
-    let (wide, high) = (drawing.number("width").unwrap_or(0), drawing.number("height").unwrap_or(0));
+/// No box and no number beyond the edges. What has no place of its own is a hatching or the paper.
+fn is_whole(sheet: &Element) -> bool {
+    let Some([x, y, wide, high]) = view_of(sheet) else {
+        return false;
+    };
     let edge = |element: &Element, at: &str, long: &str| element.number(at).unwrap_or(0) + element.number(long).unwrap_or(0);
-    let inside = |element: &&Element| edge(element, "x", "width") <= wide && edge(element, "y", "height") <= high;
-    drawing.attribute("viewBox") == format!("0 0 {wide} {high}") && drawing.all().iter().all(inside)
+    let inside = |element: &Element| {
+        element.number("x").is_none_or(|left| left >= x)
+            && element.number("y").is_none_or(|top| top >= y)
+            && edge(element, "x", "width") <= x + wide
+            && edge(element, "y", "height") <= y + high
+    };
+    sheet.all().into_iter().skip(1).all(inside)
 }
 
 /// In every block a row for each task: number, cost, deadline, period.
@@ -486,14 +536,14 @@ fn late_of(tasks: &[Task], budget: u64) -> Option<Late> {
 }
 
 /// Everything of a drawing against the reference.
-fn drawing_fits(drawing: &Element, tasks: &[Task], budget: u64, window: &Window) -> bool {
+pub fn drawing_fits(drawing: &Element, tasks: &[Task], budget: u64, window: &Window) -> bool {
     let late = late_of(tasks, budget);
     let Some(axes) = axes(drawing, window) else {
         return false;
     };
     let expected = Shown::by_reference(tasks, &late, window);
     is_plain(drawing)
-        && is_whole(drawing)
+        && sheets(drawing).into_iter().all(is_whole)
         && rulers_fit(drawing, &axes)
         && labels_fit(drawing, tasks)
         && shades_fit(drawing, &axes, &late)
@@ -502,19 +552,19 @@ fn drawing_fits(drawing: &Element, tasks: &[Task], budget: u64, window: &Window)
         && sum_fits(&expected, tasks, &late, window)
         && legend_fits(drawing, &expected, &late, horizon_within(tasks, window), window)
         && all_texts_fit(drawing)
-        && expected.closed.iter().all(|(_, now)| !expected.idle.contains(now))
+        && expected.closed.iter().all(|(_, now)| !expected.instants.contains(now))
         && Shown::in_drawing(drawing, &axes).map_or(false, |shown| shown == expected)
 }
 
-/// The window that the command chooses.
-fn usual_window(tasks: &[Task], budget: u64) -> Window {
+/// The window that the command chooses, of at most that many slots.
+pub fn usual_window(tasks: &[Task], budget: u64, most: u64) -> Window {
     let horizon = reference::horizon(tasks, reference::round(tasks).unwrap());
     let release = tasks.iter().map(|task| u64::from(task.offset)).min().unwrap_or(0).saturating_sub(AROUND);
-    let first = (release, horizon.clamp(release + LEAST, release + USUAL));
+    let first = (release, horizon.clamp(release + LEAST, release + most));
     let late = late_of(tasks, budget).filter(|late| late.end <= MOST_SLOTS);
     let (from, to) = late.map_or(first, |late| {
         let to = (late.end + AROUND).min(MOST_SLOTS);
-        let from = late.start.saturating_sub(AROUND).max(to.saturating_sub(USUAL)).min(MOST_SLOTS - LEAST);
+        let from = late.start.saturating_sub(AROUND).max(to.saturating_sub(most)).min(MOST_SLOTS - LEAST);
         (from, to.max(from + LEAST))
     });
     Window { from, to, early: false }
@@ -546,12 +596,20 @@ fn table_at(path: &Path) -> Result<(u64, Vec<Task>), reference::Refusal> {
     read.and_then(|(budget, tasks)| reference::judge(&tasks).map(|()| (budget, tasks)))
 }
 
+/// The names that a text has; a table file has none.
+fn names_at(path: &Path) -> Vec<String> {
+    let bytes = std::fs::read(path).expect("a table");
+    let is_text = bytes.first().map_or(true, |&first| first >= 9);
+    let names = if is_text { names_of(&bytes) } else { Vec::new() };
+    names.iter().map(|name| shown(name)).collect()
+}
+
 fn is_refused(output: &Output) -> bool {
     output.status.code() == Some(2) && output.stdout.is_empty() && output.stderr.starts_with(b"refused ")
 }
 
 /// What an undecided verdict will be, if an answer says so: a drawing goes by the quick one, a page by that of the distances too.
-fn foretold(tasks: &[Task], verdict: &Verdict, page: bool) -> Option<&'static str> {
+pub fn foretold(tasks: &[Task], verdict: &Verdict, page: bool) -> Option<&'static str> {
     match verdict {
         Verdict::Undecided if reference::quick(tasks) => Some("and will give passes, as quick pass says"),
         Verdict::Undecided if page && reference::by_distance(tasks) == 1 => {
@@ -561,7 +619,7 @@ fn foretold(tasks: &[Task], verdict: &Verdict, page: bool) -> Option<&'static st
     }
 }
 
-fn tells(text: &str, foretold: Option<&str>) -> bool {
+pub fn tells(text: &str, foretold: Option<&str>) -> bool {
     foretold.map_or(!text.contains("will give passes"), |words| text.ends_with(&format!(" {words}")))
 }
 
@@ -576,97 +634,9 @@ fn is_drawn(output: &Output, tasks: &[Task], budget: u64) -> bool {
     let (status, foretold) = (status_of(&verdict), foretold(tasks, &verdict, false));
     let drawing = markup::read(&output.stdout, XML);
     let fits = |drawing: Element| {
-        drawing_fits(&drawing, tasks, budget, &usual_window(tasks, budget)) && heading_fits(&drawing, foretold)
+        drawing_fits(&drawing, tasks, budget, &usual_window(tasks, budget, USUAL)) && heading_fits(&drawing, foretold)
     };
     output.status.code() == Some(status) && output.stderr.is_empty() && drawing.map_or(false, fits)
-}
-
-fn hex_of(page: &Element) -> Vec<u8> {
-    let sheets = page.named("pre");
-    let text = sheets.last().map_or(String::new(), |sheet| sheet.text());
-    let bytes = text.lines().flat_map(|line| line.split_whitespace().skip(1).map(|word| u8::from_str_radix(word, 16)));
-    bytes.collect::<Result<Vec<u8>, _>>().unwrap_or_default()
-}
-
-/// A row of the page's table: the task, and if the table passes its worst response and how many slots more it may take.
-fn row_of(number: usize, task: &Task, worst: Option<u64>, more: Option<u64>) -> Vec<String> {
-    let name = format!("{number}{}", if task.button { " (button)" } else { "" });
-    let offset = if task.button { String::new() } else { task.offset.to_string() };
-    let mut row = vec![name, offset, task.cost.to_string(), task.deadline.to_string(), task.period.to_string()];
-    if let Some(worst) = worst {
-        row.extend([worst.to_string(), format!("{worst} of {}", task.deadline)]);
-        row.extend(more.map(|more| more.to_string()));
-    }
-    row
-}
-
-/// The largest costs are held to the reference where that is not too long.
-fn rows_fit(page: &Element, tasks: &[Task], budget: u64, worst: &[u64]) -> bool {
-    let rows = page.named("tr");
-    let fits = |(number, task): (usize, &Task)| {
-        let told: Vec<String> = rows[number + 1].elements().map(|cell| cell.text()).collect();
-        let tried = !worst.is_empty() && triable(budget, tasks, number);
-        let more = tried.then(|| reference::largest(tasks, number, budget) - u64::from(task.cost));
-        let row = row_of(number, task, worst.get(number).copied(), more);
-        told.starts_with(&row) && told.len() == if worst.is_empty() { 5 } else { 8 }
-    };
-    rows.len() == tasks.len() + 1 && tasks.iter().enumerate().all(fits)
-}
-
-/// The bar is as long as the worst response, the frame as the deadline.
-fn bars_fit(page: &Element, tasks: &[Task], worst: &[u64]) -> bool {
-    let bars: Vec<&Element> = page.named("td").into_iter().flat_map(|cell| cell.named("svg")).collect();
-    let fits = |((bar, task), worst): ((&&Element, &Task), &u64)| {
-        let wide = bar.named("rect")[1].number("width").unwrap_or(0);
-        wide == 158 * worst / u64::from(task.deadline)
-    };
-    bars.len() == worst.len() && bars.iter().zip(tasks).zip(worst).all(fits)
-}
-
-/// What every page has: texts alone, and the bytes of the table file.
-fn is_a_page(page: &Element, budget: u64, tasks: &[Task]) -> bool {
-    let silent = page.all().iter().all(|element| !["script", "link", "img", "iframe"].contains(&element.name.as_str()));
-    silent
-        && page.name == "html"
-        && hex_of(page) == file_of(budget, tasks)
-        && page.text().contains(&format!("The budget is {budget}."))
-}
-
-fn page_fits(page: &Element, tasks: &[Task], budget: u64) -> bool {
-    let verdict = reference::decide(tasks, budget).verdict;
-    let worst = if let Verdict::Passes(worst, _) = &verdict { worst.clone() } else { Vec::new() };
-    let text = page.text();
-    let quick = if reference::quick(tasks) { "quick pass" } else { "quick none" };
-    let runs = page.of_class("run");
-    is_a_page(page, budget, tasks)
-        && page.named("pre")[0].text() == reference::report(tasks, budget)
-        && rows_fit(page, tasks, budget, &worst)
-        && bars_fit(page, tasks, &worst)
-        && tells(&page.of_class("verdict")[0].text(), foretold(tasks, &verdict, true))
-        && text.contains(quick)
-        && text.contains(&format!("distance {}", ["none", "pass", "overload"][reference::by_distance(tasks) as usize]))
-        && runs.len() == 1
-        && drawing_fits(runs[0].named("svg")[0], tasks, budget, &usual_window(tasks, budget))
-}
-
-/// Of a table with buttons: no run, the distance answer.
-fn button_page_fits(page: &Element, tasks: &[Task], budget: u64) -> bool {
-    let answer = ["distance none", "distance pass", "distance overload"][reference::by_distance(tasks) as usize];
-    let told = page.text().contains(answer) && page.named("svg").is_empty();
-    let proved = page.text().contains("Where it is pass, some way to\ngive out the slots keeps every deadline");
-    told && proved && is_a_page(page, budget, tasks) && rows_fit(page, tasks, budget, &[])
-}
-
-fn is_paged(output: &Output, tasks: &[Task], budget: u64) -> bool {
-    let Ok(page) = markup::read(&output.stdout, HTML) else {
-        return false;
-    };
-    let (fits, status) = if reference::has_button(tasks) {
-        (button_page_fits(&page, tasks, budget), [4, 0, 3][reference::by_distance(tasks) as usize])
-    } else {
-        (page_fits(&page, tasks, budget), status_of(&reference::decide(tasks, budget).verdict))
-    };
-    fits && output.stderr.is_empty() && output.status.code() == Some(status)
 }
 
 fn one_table(bench: &mut Bench, path: &Path) {
@@ -678,7 +648,7 @@ fn one_table(bench: &mut Bench, path: &Path) {
             Err(_) => is_refused(&output),
             Ok((_, tasks)) if word == "draw" && reference::has_button(tasks) => is_refused(&output),
             Ok((budget, tasks)) if word == "draw" => is_drawn(&output, tasks, *budget),
-            Ok((budget, tasks)) => is_paged(&output, tasks, *budget),
+            Ok((budget, tasks)) => is_paged(&output, tasks, *budget, &names_at(path)),
         };
         bench.count(good, || format!("{word} {path:?} ends with {}", output.status));
         bench.count(same_sanitized(&words, &output), || format!("{word} {path:?} under sanitizers"));
@@ -746,7 +716,7 @@ pub fn at_random(bench: &mut Bench, rng: &mut Rng) {
         bench.count(is_drawn(&asked(&["draw", "-"], &text), &tasks, budget), || {
             format!("draw of {tasks:?} and budget {budget}")
         });
-        bench.count(is_paged(&asked(&["page", "-"], &text), &tasks, budget), || {
+        bench.count(is_paged(&asked(&["page", "-"], &text), &tasks, budget, &[]), || {
             format!("page of {tasks:?} and budget {budget}")
         });
     }
@@ -769,7 +739,9 @@ const MISSING: [Task; 2] = [reference::periodic(0, 30, 40, 60), reference::perio
 fn one_choice(bench: &mut Bench, tasks: &[Task], budget: u64) {
     let text = plain::text_of(budget, tasks);
     bench.count(is_drawn(&asked(&["draw", "-"], &text), tasks, budget), || format!("draw of {tasks:?} and budget {budget}"));
-    bench.count(is_paged(&asked(&["page", "-"], &text), tasks, budget), || format!("page of {tasks:?} and budget {budget}"));
+    bench.count(is_paged(&asked(&["page", "-"], &text), tasks, budget, &[]), || {
+        format!("page of {tasks:?} and budget {budget}")
+    });
 }
 
 pub fn at_the_edges(bench: &mut Bench) {
@@ -799,6 +771,7 @@ const NAMES: &[(&[u8], &str)] = &[
     (b"\xed\xa0\x80\xef\xbf\xbe\xc2\x85\xf4\x90\x80\x80.txt", "????????????.txt"),
     (b"\xe2\x82", "??"),
     (b"two\nlines.txt", "two?lines.txt"),
+    (b"e\x1b[31m\xe2\x80\xaetxt.\xf3\xa0\x80\x81", "e?[31m???txt.????"),
 ];
 
 /// A comment that must not come through either.
@@ -818,9 +791,8 @@ fn shown_as(bench: &mut Bench, name: &[u8], shown: &str) {
     for (word, prologue) in [("draw", XML), ("page", HTML)] {
         let words = [OsStr::new(word), path.as_os_str()];
         let output = output_on(&words);
-        let titled = |root: &Element| {
-            root.named("title")[0].text() == format!("target/host/{shown}") && !root.text().contains("alert(2)")
-        };
+        let title = if word == "page" { shown.to_string() } else { format!("target/host/{shown}") };
+        let titled = |root: &Element| root.named("title")[0].text() == title && !root.text().contains("alert(2)");
         let fits = |root: &Element| word == "page" || (name_fits(root, shown) && all_texts_fit(root));
         let good = markup::read(&output.stdout, prologue)
             .map_or(false, |root| titled(&root) && fits(&root) && root.named("script").is_empty());

@@ -35,8 +35,8 @@ fn numbers<const N: usize>(words: &[&[u8]], limit: u128) -> Result<[u64; N], u64
 fn take_line(words: &[&[u8]], budget: &mut Option<u64>, tasks: &mut Vec<Task>) -> Result<(), u64> {
     let Some((&first, rest)) = words.split_first() else { return Ok(()) };
     match first {
-        b"task" | b"button" if budget.is_none() => return Err(64),
         b"budget" if budget.is_some() => return Err(65),
+        b"budget" if !tasks.is_empty() => return Err(64),
         b"task" | b"button" if tasks.len() == TASKS => return Err(66),
         b"budget" => match numbers(rest, 1 << 64)? {
             [0] => return Err(27),
@@ -55,14 +55,14 @@ fn take_line(words: &[&[u8]], budget: &mut Option<u64>, tasks: &mut Vec<Task>) -
     Ok(())
 }
 
-/// What follows the last line feed is a line too, if an empty one: a text without a budget is refused there.
+/// What follows the last line feed is a line too, if an empty one. A text without a budget has the largest.
 pub fn read_text(text: &[u8]) -> Result<(u64, Vec<Task>), Refusal> {
-    let (mut budget, mut tasks, mut place) = (None, Vec::new(), 0);
+    let (mut budget, mut tasks) = (None, Vec::new());
     for (index, line) in text.split(|&byte| byte == b'\n').enumerate() {
-        place = (index + 1).min(LARGEST_PLACE);
+        let place = (index + 1).min(LARGEST_PLACE);
         take_line(&words(line), &mut budget, &mut tasks).or_else(|fault| refuse(fault, place))?;
     }
-    budget.map_or(refuse(64, place), |budget| Ok((budget, tasks)))
+    Ok((budget.unwrap_or(u64::MAX), tasks))
 }
 
 fn task_line(task: &Task) -> String {

@@ -8,6 +8,8 @@ use crate::plain;
 pub const TASKS: usize = 32;
 pub const NONE: u32 = TASKS as u32;
 pub const REPORT_BYTES: usize = 1_024;
+/// Eight numbers of eight bytes, four of four, and a worst response of four for each task.
+pub const ANSWER_BYTES: usize = 8 * 8 + 4 * 4 + 4 * TASKS;
 /// Where the counts of slots begin in a state, behind the waits, the slots left and four words.
 const COUNTS_AT: usize = 4 * (2 * TASKS + 4);
 pub const STATE_BYTES: usize = COUNTS_AT + 8 * (TASKS + 1);
@@ -640,6 +642,24 @@ pub fn report_knowing(tasks: &[Task], budget: u64, quick: bool) -> String {
     )
 }
 
+/// The same answer as numbers, the lowest byte first.
+pub fn numbers(tasks: &[Task], budget: u64) -> Vec<u8> {
+    let round = round(tasks).unwrap();
+    let answer = decide(tasks, budget);
+    let (code, idle, interval, worst) = match answer.verdict {
+        Verdict::Overload => (1, 0, [0; 3], Vec::new()),
+        Verdict::Undecided => (2, 0, [0; 3], Vec::new()),
+        Verdict::Late(late) => (3, 0, [late.start, late.end, late.demand], Vec::new()),
+        Verdict::Passes(worst, idle) => (4, idle, [0; 3], worst),
+    };
+    let measures = [round, asked_in_round(tasks, round), horizon(tasks, round), answer.settled, idle];
+    let words = [tasks.len() as u64, u64::from(quick(tasks)), code, 0];
+    let mut bytes: Vec<u8> = measures.iter().chain(&interval).flat_map(|number| number.to_le_bytes()).collect();
+    bytes.extend(words.iter().chain(&worst).flat_map(|&word| (word as u32).to_le_bytes()));
+    bytes.resize(ANSWER_BYTES, 0);
+    bytes
+}
+
 /// Whether a report says that the table passes: one of its lines, which line feeds part, is `verdict passes`. Of more bytes than a report
 /// has none is looked at, nor need they be there.
 fn says_passes(bytes: &[u8], length: u64) -> bool {
@@ -788,6 +808,7 @@ fn check_buffer(request: &Request) -> Result<(), Refusal> {
     let length = request.buffer.len();
     match request.call {
         Call::Check | Call::CheckPlainly if length < REPORT_BYTES => refuse(30, length),
+        Call::Answer if length < ANSWER_BYTES => refuse(30, length),
         Call::Start | Call::Step if length != STATE_BYTES => refuse(50, length.min(LARGEST_PLACE)),
         Call::LogStart | Call::LogFeed | Call::LogFinish if length != LOG_BYTES => refuse(50, length.min(LARGEST_PLACE)),
         _ => Ok(()),
@@ -852,6 +873,10 @@ fn answered(request: &Request) -> Result<(u64, Vec<u8>), Refusal> {
             let (budget, tasks) = read_table(request)?;
             let text = report(&tasks, budget).into_bytes();
             Ok((text.len() as u64, text))
+        }
+        Call::Answer => {
+            let (budget, tasks) = read_table(request)?;
+            Ok((0, numbers(&tasks, budget)))
         }
         Call::Start => Ok((0, start(&read_table(request)?.1).to_bytes())),
         Call::Step => {

@@ -16,6 +16,9 @@ _Static_assert(YOLIZADWA_TEXT_UNKNOWN_WORD == 60 && YOLIZADWA_TEXT_TOO_MANY_TASK
 _Static_assert(YOLIZADWA_QUICK_NONE == 0 && YOLIZADWA_QUICK_PASS == 1, "as the tests have it");
 _Static_assert(YOLIZADWA_DISTANCE_NONE == 0 && YOLIZADWA_DISTANCE_PASS == 1 && YOLIZADWA_DISTANCE_OVERLOAD == 2, "as the tests have it");
 _Static_assert(YOLIZADWA_LARGEST_OVERLOAD == 60001 && YOLIZADWA_LARGEST_UNDECIDED == 60002 && YOLIZADWA_LARGEST_LATE == 60003, "as the tests have it");
+_Static_assert(YOLIZADWA_OVERLOAD == 1 && YOLIZADWA_UNDECIDED == 2 && YOLIZADWA_LATE == 3 && YOLIZADWA_PASSES == 4, "as the tests have it");
+_Static_assert(sizeof(struct yolizadwa_numbers) == YOLIZADWA_ANSWER_BYTES && offsetof(struct yolizadwa_numbers, idle) == 32 && offsetof(struct yolizadwa_numbers, demand) == 56, "as the library lays an answer out");
+_Static_assert(offsetof(struct yolizadwa_numbers, tasks) == 64 && offsetof(struct yolizadwa_numbers, verdict) == 72 && offsetof(struct yolizadwa_numbers, worst) == 80, "as the library lays an answer out");
 _Static_assert(sizeof(struct yolizadwa_state) == YOLIZADWA_STATE_BYTES && offsetof(struct yolizadwa_state, given) == 272, "as the library lays a state out");
 _Static_assert(sizeof(struct yolizadwa_log) == YOLIZADWA_LOG_BYTES, "as the library lays a log out");
 _Static_assert(offsetof(struct yolizadwa_log, opened) == YOLIZADWA_STATE_BYTES && offsetof(struct yolizadwa_log, slots) == 552, "as the library lays a log out");

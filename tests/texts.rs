@@ -32,6 +32,13 @@ const ALSO_B: &[&str] = &[
     "budget 00000000000000000000000000000001000\ntask 0008 005 0007 000000000000000000015\ntask 00 02 2 5\n",
 ];
 
+/// Table b without a budget, which is then the largest.
+const ENDLESS_B: &[&str] = &[
+    "task 8 5 7 15\ntask 0 2 2 5\n",
+    "# budget 5\n\ntask 8 5 7 15\r\n\ttask 0 2 2 5 # budget 5",
+    "budget 18446744073709551615\ntask 8 5 7 15\ntask 0 2 2 5\n",
+];
+
 /// A shutter button beside two tasks, in the words of the header and in others.
 const SHUTTER: &str = "budget 1000\ntask 0 2 10 10\nbutton 1 3 20\ntask 0 3 20 20\n";
 const ALSO_SHUTTER: &[&str] = &[
@@ -42,11 +49,15 @@ const ALSO_SHUTTER: &[&str] = &[
 
 /// Texts with number and place of their refusal.
 const REFUSED: &[(&str, u64, u64)] = &[
-    ("", 64, 1),
-    ("\n", 64, 2),
-    ("# budget 5\n\n", 64, 3),
-    ("task 8 5 7 15\nbudget 1000\n", 64, 1),
-    ("\ntask x\n", 64, 2),
+    ("", 1, 0),
+    ("\n", 1, 0),
+    ("# budget 5\n\n", 1, 0),
+    ("task 8 5 7 15\nbudget 1000\n", 64, 2),
+    ("task 8 5 7 15\n\nbudget\n", 64, 3),
+    ("task 8 5 7 15\nbudget x\n", 64, 2),
+    ("task 8 5 7 0\nbudget 5\nbudget 5\n", 64, 2),
+    ("\ntask x\n", 61, 2),
+    ("task 60001 1 1 1\n", 6, 0),
     ("budget 5\n", 1, 0),
     ("budget 5\nbudget 5\n", 65, 2),
     ("budget 5\n\nbudget\n", 65, 3),
@@ -78,7 +89,7 @@ const REFUSED: &[(&str, u64, u64)] = &[
     ("budget 0 x\n", 63, 1),
     ("budget 0x\n", 61, 1),
     ("budget -0\n", 61, 1),
-    ("task 0 1 1 1\nbudget 0\n", 64, 1),
+    ("task 0 1 1 1\nbudget 0\n", 64, 2),
     ("budget 5\nbudget 0\n", 65, 2),
     ("budget 1\n", 1, 0),
     ("budget 5\ntask 0 1 1\n", 63, 2),
@@ -92,8 +103,8 @@ const REFUSED: &[(&str, u64, u64)] = &[
     ("budget 5\ntask 0 1 1 0\ntask\n", 63, 3),
     ("budget 5\ntask 0 1 2 2\n\n\ntask 60001 1 2 2\n", 6, 1),
     ("budget 5\ntask 0 1 4093 4093\ntask 0 1 8779 8779\ntask 0 1 27830 27830\n", 7, 0),
-    ("button 1 3 20\nbudget 5\n", 64, 1),
-    ("\nbutton x\n", 64, 2),
+    ("button 1 3 20\nbudget 5\n", 64, 2),
+    ("\nbutton x\n", 61, 2),
     ("buttons 1 3 20\n", 60, 1),
     ("budget 5\nButton 1 3 20\n", 60, 2),
     ("budget 5\nbutto 1 3 20\n", 60, 2),
@@ -126,6 +137,10 @@ pub fn by_the_letter(bench: &mut Bench) {
     bench.ask_filled(Request::to_text(file.clone()), B.as_bytes());
     for text in ALSO_B {
         bench.ask_filled(Request::from_text(text.as_bytes().to_vec()), &file);
+    }
+    let endless = file_of(u64::MAX, &[periodic(8, 5, 7, 15), periodic(0, 2, 2, 5)]);
+    for text in ENDLESS_B {
+        bench.ask_filled(Request::from_text(text.as_bytes().to_vec()), &endless);
     }
     let shutter = file_of(1_000, &[periodic(0, 2, 10, 10), button(1, 3, 20), periodic(0, 3, 20, 20)]);
     bench.ask_filled(Request::to_text(shutter.clone()), SHUTTER.as_bytes());
@@ -185,7 +200,7 @@ fn every_line(bench: &mut Bench) {
         rows = std::iter::once(String::new()).chain(longer).collect();
     }
     for row in rows {
-        for before in ["", "budget 5\n", &most] {
+        for before in ["", "budget 5\n", "task 0 1 60 60\n", &most] {
             ["budget", "task", "button"].iter().for_each(|first| ask(bench, format!("{before}{first}{row}\ny")));
         }
     }
@@ -234,6 +249,7 @@ fn long_texts(bench: &mut Bench) {
                 "budget 0",
                 "budget 1\ntask 0 1 1 1",
                 "budget 1\ntask",
+                "task 0 1 1 1\nbudget 1",
                 "task",
                 "budget 1\nbutton",
                 "button",

@@ -83,6 +83,7 @@ pub fn stack(bench: &mut Bench) {
     let writes: Vec<Request> = hard_tables().iter().flat_map(|tasks| hard_writes(tasks)).collect();
     deepest(bench, "check", &checks);
     deepest(bench, "check plainly", &checks.into_iter().map(Request::plainly).collect::<Vec<_>>());
+    deepest(bench, "answer", &files.iter().cloned().map(Request::answer).collect::<Vec<_>>());
     deepest(bench, "passes", &passes::hard_ones());
     deepest(bench, "quick", &files.iter().cloned().map(Request::quick).collect::<Vec<_>>());
     deepest(bench, "distance", &files.iter().cloned().map(Request::distance).collect::<Vec<_>>());

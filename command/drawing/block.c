@@ -1,9 +1,12 @@
-/* A block of a drawing: where things stand in it, its axis, labels and shades. */
+/* A block of a drawing: where things stand in it, its axis and shades. */
 #include "block.h"
 
 /* Half of the longest number of the axis has room to the right of the lanes. */
 enum { ROOM = 770, MOST_OF_A_BLOCK = 110, MOST_OF_A_SLOT = 40 };
-enum { AXIS = 26, HORIZON = 16, GAP = 18, DIGIT = 8, BOLD = 9 };
+enum { AXIS = 30, HORIZON = 16, GAP = 18, DIGIT = 8, BOLD = 9 };
+
+/* Lanes of many tasks are lower; a name above the numbers of a label needs more. */
+enum { FEW = 4, SOME = 8, MANY = 16, HIGH_LANE = 36, LOWER_LANE = 32, LOW_LANE = 28, LOWEST_LANE = 18 };
 
 unsigned x_of(const struct block *block, uint64_t instant)
 {
@@ -20,7 +23,7 @@ unsigned floor_of(const struct block *block, unsigned number)
     return lane_top(block, number) + block->lane - block->lane / 9;
 }
 
-static unsigned axis_of(const struct block *block)
+unsigned axis_of(const struct block *block)
 {
     return lane_top(block, block->picture->tasks) + 6;
 }
@@ -44,11 +47,17 @@ static unsigned long slots_of_a_block(const struct picture *picture)
     return blocks == 1 ? even : (even + 9) / 10 * 10;
 }
 
+static unsigned lane_of(const struct picture *picture)
+{
+    int is_low = picture->tasks <= MANY || any_name(picture->table);
+    return picture->tasks <= FEW ? HIGH_LANE : picture->tasks <= SOME ? LOWER_LANE : is_low ? LOW_LANE : LOWEST_LANE;
+}
+
 struct block first_block(const struct picture *picture, unsigned top)
 {
     unsigned long slots = slots_of_a_block(picture);
-    unsigned wide = (unsigned)(ROOM / slots), lane = picture->tasks <= 8 ? 36 : picture->tasks <= 16 ? 28 : 18;
-    struct block block = {picture, picture->from, picture->from + slots, wide > MOST_OF_A_SLOT ? MOST_OF_A_SLOT : wide, lane, top};
+    unsigned wide = (unsigned)(ROOM / slots);
+    struct block block = {picture, picture->from, picture->from + slots, wide > MOST_OF_A_SLOT ? MOST_OF_A_SLOT : wide, lane_of(picture), top};
     return block;
 }
 
@@ -128,18 +137,44 @@ static void put_numbers(const struct block *block)
     unsigned long step = ruler_step(block);
     printf("<g class=\"ruler\" text-anchor=\"middle\">");
     for (unsigned long instant = (block->begin + step - 1) / step * step; instant <= block->end; instant += step) {
-        printf("<text x=\"%u\" y=\"%u\">%lu</text>", x_of(block, instant), axis_of(block) + 19, instant);
+        printf("<text x=\"%u\" y=\"%u\">%lu</text>", x_of(block, instant), axis_of(block) + 23, instant);
     }
     printf("</g>\n");
 }
 
-static void put_idle(const struct block *block)
+static unsigned long empty_end(const struct block *block, unsigned long from)
+{
+    unsigned long to = from;
+    while (to < block->end && block->picture->idle[to - block->picture->from] == EMPTY) {
+        to++;
+    }
+    return to;
+}
+
+static void put_empty(const struct block *block)
+{
+    unsigned long to;
+    printf("<g class=\"empty\" fill=\"" BAND "\">\n");
+    for (unsigned long from = block->begin; from < block->end; from = to + 1) {
+        to = empty_end(block, from);
+        if (to > from) {
+            printf("<rect x=\"%u\" y=\"%u\" width=\"%u\" height=\"%u\"><title>" EMPTY_WORDS ": ", x_of(block, from), axis_of(block),
+                   (unsigned)(to - from) * block->slot, (unsigned)BAND_HEIGHT);
+            put_slots(from, to);
+            printf("</title></rect>\n");
+        }
+    }
+    printf("</g>\n");
+}
+
+/* An instant between two jobs, as narrow as it is. */
+static void put_instants(const struct block *block)
 {
     const struct picture *picture = block->picture;
-    printf("<g class=\"idle\" fill=\"#fff\" stroke=\"#000\"><title>" IDLE "</title>\n");
+    printf("<g class=\"instants\" fill=\"" BAND "\"><title>" INSTANT_WORDS "</title>\n");
     for (unsigned long instant = block->begin; has_instant(block, instant); instant++) {
-        if (picture->idle[instant - picture->from]) {
-            printf("<circle cx=\"%u\" cy=\"%u\" r=\"2.5\"/>", x_of(block, instant), axis_of(block));
+        if (picture->idle[instant - picture->from] == INSTANT) {
+            printf("<rect x=\"%u\" y=\"%u\" width=\"2\" height=\"%u\"/>", x_of(block, instant) - 1, axis_of(block), (unsigned)BAND_HEIGHT);
         }
     }
     printf("</g>\n");
@@ -152,30 +187,9 @@ static void put_horizon(const struct block *block)
         unsigned x = x_of(block, horizon), axis = axis_of(block), wide = 90 + DIGIT * (unsigned)columns_for(horizon);
         printf("<g class=\"horizon\"><path d=\"M%u %uV%u\" stroke=\"#000\" stroke-width=\"2\" stroke-dasharray=\"2 4\"/>", x,
                block->top + CAPTIONS - 4, axis);
-        printf("<text x=\"%u\" y=\"%u\" text-anchor=\"%s\">horizon %" PRIu64 "</text></g>\n", x, axis + 36,
-               x + wide / 2 > WIDE ? "end" : "middle", horizon);
+        printf("<text x=\"%u\" y=\"%u\" text-anchor=\"%s\">horizon %" PRIu64 "</text></g>\n", x, axis + 40,
+               x + wide / 2 > WIDE ? "end" : x < LABELS + wide / 2 ? "start" : "middle", horizon);
     }
-}
-
-static void put_label(const struct block *block, unsigned number)
-{
-    const struct task *task = &block->picture->lanes[number].task;
-    unsigned y = floor_of(block, number) - 2;
-    printf("<text x=\"36\" y=\"%u\" font-weight=\"bold\">%u</text><text x=\"80\" y=\"%u\">%" PRIu64 "</text>"
-           "<text x=\"138\" y=\"%u\">%" PRIu64 "</text><text x=\"188\" y=\"%u\">%" PRIu64 "</text>\n",
-           y, number, y, task->cost, y, task->deadline, y, task->period);
-}
-
-static void put_labels(const struct block *block)
-{
-    unsigned y = block->top + CAPTIONS - 7;
-    printf("<g class=\"labels\" text-anchor=\"end\">\n<g font-size=\"12\"><text x=\"36\" y=\"%u\">task</text>"
-           "<text x=\"80\" y=\"%u\">cost</text><text x=\"138\" y=\"%u\">deadline</text><text x=\"188\" y=\"%u\">period</text></g>\n",
-           y, y, y, y);
-    for (unsigned number = 0; number < block->picture->tasks; number++) {
-        put_label(block, number);
-    }
-    printf("</g>\n");
 }
 
 static void put_floors(const struct block *block)
@@ -193,9 +207,9 @@ void put_block(const struct block *block)
     put_grid(block);
     put_floors(block);
     put_lanes(block);
+    put_empty(block);
+    put_instants(block);
     put_ticks(block);
     put_numbers(block);
-    put_idle(block);
     put_horizon(block);
-    put_labels(block);
 }

@@ -58,19 +58,30 @@ void put_slots(unsigned long from, unsigned long to)
     }
 }
 
+/* The beginning of what a browser says where the pointer rests. */
+static void put_task(const struct block *block, unsigned number)
+{
+    struct words words;
+    printf("<title>");
+    put_text(task_words(block->picture->table, number, &words));
+}
+
 static void put_box(const struct block *block, unsigned number, unsigned long from, unsigned long to)
 {
     unsigned height = box_height(block);
-    printf("<rect x=\"%u\" y=\"%u\" width=\"%u\" height=\"%u\"><title>task %u: ", x_of(block, from), floor_of(block, number) - height,
-           (unsigned)(to - from) * block->slot, height, number);
+    printf("<rect x=\"%u\" y=\"%u\" width=\"%u\" height=\"%u\">", x_of(block, from), floor_of(block, number) - height,
+           (unsigned)(to - from) * block->slot, height);
+    put_task(block, number);
+    printf(": ");
     put_slots(from, to);
     printf("</title></rect>\n");
 }
 
 static void put_wait(const struct block *block, unsigned number, unsigned long from, unsigned long to)
 {
-    printf("<path d=\"M%u %uH%u\"><title>task %u waits: ", x_of(block, from), floor_of(block, number) - box_height(block) / 2,
-           x_of(block, to), number);
+    printf("<path d=\"M%u %uH%u\">", x_of(block, from), floor_of(block, number) - box_height(block) / 2, x_of(block, to));
+    put_task(block, number);
+    printf(" waits: ");
     put_slots(from, to);
     printf("</title></path>\n");
 }
@@ -79,7 +90,8 @@ static void put_wait(const struct block *block, unsigned number, unsigned long f
 static void put_lack(const struct block *block, unsigned number, unsigned long instant)
 {
     struct lack lack = block->picture->lanes[number].lacks[instant - block->picture->from];
-    printf("<title>task %u, due at %lu: late, and %lu missing</title>", number, (unsigned long)lack.due, (unsigned long)lack.missing);
+    put_task(block, number);
+    printf(", due at %lu: late, and %lu missing</title>", (unsigned long)lack.due, (unsigned long)lack.missing);
 }
 
 /* It stands above the boxes, so that the next job's can still be seen. */
@@ -128,7 +140,9 @@ static void put_marks(const struct block *block, unsigned number, const char *wh
         }
     }
     if (marks > 0) {
-        printf("\"><title>task %u %s</title></path>\n", number, what);
+        printf("\">");
+        put_task(block, number);
+        printf(" %s</title></path>\n", what);
     }
 }
 

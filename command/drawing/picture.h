@@ -33,12 +33,23 @@ struct lane {
     struct lack lack;
 };
 
+/* The interval of a late verdict asks for more slots than it has. */
+struct excess {
+    uint64_t start, end, demand;
+};
+
+/* What the band below the axis shows of a slot, and of the instant before it where no empty slot tells the same. */
+enum idleness { EMPTY = 1, INSTANT = 2 };
+
 struct picture {
-    const char *name; /* of the table; NULL: the page around the drawing says it */
+    const struct table *table; /* which has the names of the lanes */
+    const char *name;          /* of the table, above a drawing */
+    const char *changes;       /* behind it, or empty */
     unsigned tasks;
     unsigned long from, to; /* to 0: not chosen yet */
     int early, is_late; /* is_late: there is an excess */
-    int any_idle;       /* in the window */
+    unsigned long most; /* slots that are shown without being asked for; 0: as many as are usual */
+    uint8_t any_idle;   /* in the window */
     uint8_t seen[256];  /* which sums of signs the window has */
     struct excess excess;
     uint64_t horizon;
@@ -49,15 +60,17 @@ struct picture {
 
 /* Call them in this order. take_window tells TROUBLE if the window of the request cannot be drawn. */
 int take_window(struct picture *picture, const struct request *request);
-void take_verdict(struct picture *picture, const struct table *table, const struct report *report);
+void take_verdict(struct picture *picture, const struct table *table, const struct yolizadwa_numbers *numbers);
 void trace_run(struct picture *picture, const struct table *table, int early);
 
-/* The drawing as an element of SVG, and the verdict as a text of it or of a page. */
+/* The drawing as one element of SVG; or for a page as a caption, blocks whose labels can stay in view, and a legend. */
 void put_drawing(const struct picture *picture);
+void put_run(const struct picture *picture);
 void put_verdict(const struct sentence *verdict);
 
 /* Any bytes as a text of XML: a question mark stands for what cannot be shown; put_lines keeps line feeds. */
 void put_text(const char *text);
 void put_lines(const char *text);
+void put_whole_name(const struct table *table, unsigned number);
 
 #endif

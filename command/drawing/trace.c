@@ -64,13 +64,25 @@ static void look_at_lane(struct picture *picture, const struct course *course, u
     picture->seen[signs] = 1;
 }
 
+/* An empty slot tells that the instants at its two ends are idle. */
+static void note_idle(struct picture *picture, uint64_t now, int is_idle, int is_empty)
+{
+    uint8_t *idle = picture->idle + (now - picture->from);
+    if (is_empty && now < picture->to) {
+        *idle = EMPTY;
+    } else if (is_idle && !(now > picture->from && idle[-1] == EMPTY)) {
+        *idle = INSTANT;
+    }
+    picture->any_idle |= *idle;
+}
+
 static void trace_slot(struct picture *picture, struct course *course)
 {
-    if (course->slots >= picture->from) {
-        picture->idle[course->slots - picture->from] = (uint8_t)is_idle(course);
-        picture->any_idle |= is_idle(course);
+    uint64_t now = course->slots;
+    int idle = is_idle(course), empty = take_slot(course) >= course->tasks;
+    if (now >= picture->from) {
+        note_idle(picture, now, idle, empty);
     }
-    take_slot(course);
     for (unsigned number = 0; number < picture->tasks; number++) {
         look_at_lane(picture, course, number);
     }
@@ -82,6 +94,7 @@ void trace_run(struct picture *picture, const struct table *table, int early)
     struct course course;
     begin_course(&course, table, early);
     picture->early = early;
+    picture->table = table;
     picture->tasks = course.tasks;
     for (unsigned number = 0; number < course.tasks; number++) {
         picture->lanes[number].task = course.task[number];

@@ -13,13 +13,19 @@ static unsigned long shortly_before(uint64_t instant)
     return (unsigned long)(instant > AROUND ? instant - AROUND : 0);
 }
 
+static unsigned long usual_window(const struct picture *picture)
+{
+    return picture->most > 0 ? picture->most : USUAL_WINDOW;
+}
+
 /* Shows the end of a long interval, since a job is late there. */
 static void show_excess(struct picture *picture)
 {
+    unsigned long usual = usual_window(picture);
     picture->from = shortly_before(picture->excess.start);
     picture->to = within_run(picture->excess.end + AROUND);
-    if (picture->to - picture->from > USUAL_WINDOW) {
-        picture->from = picture->to - USUAL_WINDOW;
+    if (picture->to - picture->from > usual) {
+        picture->from = picture->to - usual;
     }
     if (picture->to - picture->from < LEAST_USUAL) {
         picture->to = within_run(picture->from + LEAST_USUAL);
@@ -41,8 +47,9 @@ static uint64_t first_release(const struct table *table)
 static void show_first(struct picture *picture, const struct table *table)
 {
     uint64_t from = shortly_before(first_release(table)), slots = picture->horizon > from ? picture->horizon - from : 0;
+    uint64_t usual = usual_window(picture);
     picture->from = (unsigned long)from;
-    picture->to = (unsigned long)(from + (slots < LEAST_USUAL ? LEAST_USUAL : slots > USUAL_WINDOW ? USUAL_WINDOW : slots));
+    picture->to = (unsigned long)(from + (slots < LEAST_USUAL ? LEAST_USUAL : slots > usual ? usual : slots));
 }
 
 int take_window(struct picture *picture, const struct request *request)
@@ -62,11 +69,12 @@ int take_window(struct picture *picture, const struct request *request)
     return DONE;
 }
 
-void take_verdict(struct picture *picture, const struct table *table, const struct report *report)
+void take_verdict(struct picture *picture, const struct table *table, const struct yolizadwa_numbers *numbers)
 {
-    picture->is_late = report_excess(report, &picture->excess);
-    picture->horizon = report_number(report, "\nhorizon ");
-    word_verdict(table, report, &picture->verdict);
+    picture->is_late = numbers->verdict == YOLIZADWA_LATE;
+    picture->excess = (struct excess){numbers->from, numbers->to, numbers->demand};
+    picture->horizon = numbers->horizon;
+    word_verdict(table, numbers, &picture->verdict);
     if (picture->to > 0) {
         return;
     }

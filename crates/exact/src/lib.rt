@@ -29,7 +29,7 @@ fn brief(outcome: Outcome, measure: Measure, settled: u64) -> Answer
     }
 }
 
-fn refuse(why: Refusal) -> Answer
+pub fn refuse(why: Refusal) -> Answer
     ensures { λ r. ⌜ r ≡ refusedBy why ⌝ }
 {
     let nothing = Measure {

@@ -8,13 +8,13 @@ use lib.Seq.{take-append-seam}
 use Rattle.io.specs.Counts.{Counts}
 use Rattle.values.specs.declared.Table.{Table}
 use Rattle.model.specs.Tasks.{judged}
-use Rattle.model.specs.Report.{Exported, written, refusalLine}
+use Rattle.model.specs.Report.{Exported, reportOf, written, refusalLine}
 use Rattle.tablefile.specs.Told.{TableTold}
 use Rattle.report.specs.Put.{exported}
 
 -- What a table is told as, written from the front.
 abbrev pub TablePrinted : List ℕ → Table → ℕ → Exported → Type 0
-TablePrinted before t budget e = (piece : List ℕ) × (e ≡ written piece before) × TableTold refusalLine (λ report. report) t budget piece (judged t)
+TablePrinted before t budget e = (piece : List ℕ) × (e ≡ written piece before) × TableTold refusalLine reportOf t budget piece (judged t)
 
 pub front : {r : ℕ} {after : List ℕ} (piece before : List ℕ) → exported r after ≡ written piece before → take r after ≡ piece
 front {r} {after} piece before h =

@@ -4,7 +4,7 @@ ghost use Prim.Native.Nat.{suc, _≤_};
 ghost use lib.ListN.{length, take};
 ghost use Rattle.io.specs.Counts.{Counts};
 ghost use Rattle.model.specs.Limits.{taskLimit, reportBytes, longestFile};
-ghost use Rattle.model.specs.Report.{written, outcomeTold, refusalLine, Printed};
+ghost use Rattle.model.specs.Report.{reportOf, written, outcomeTold, refusalLine, Printed};
 ghost use Rattle.report.specs.Put.{exported};
 ghost use Rattle.judge.specs.Front.{TablePrinted};
 use libc::STDIN_FILENO;
@@ -29,7 +29,7 @@ fn write_outcome(
 ) -> usize
     requires { ⌜ tasks ≤ taskLimit ⌝ }
     requires { ⌜ reportBytes ≤ length (now buffer) ⌝ }
-    ensures { λ r. ⌜ exported r (now (buffer .exit)) ≡ written (outcomeTold refusalLine (λ report. report) tasks quick answer outcome) (now (buffer .entry)) ⌝ }
+    ensures { λ r. ⌜ exported r (now (buffer .exit)) ≡ written (outcomeTold refusalLine reportOf tasks quick answer outcome) (now (buffer .entry)) ⌝ }
     ensures { λ r. ⌜ r ≤ reportBytes ⌝ }
 {
     match outcome {

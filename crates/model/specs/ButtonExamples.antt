@@ -107,9 +107,9 @@ button-texts :
     (textRead (text "budget 7\nbutton 1 2 3\ntask 9 1 2 3\n")
     ≡ record { admission = Admission.Admitted; budget = 7; table = tableOf (button 1 2 3 ∷ of 9 1 2 3 ∷ []) })
     × (textOf 7 (button 1 2 3 ∷ of 9 1 2 3 ∷ []) ≡ text "budget 7\nbutton 1 2 3\ntask 9 1 2 3\n")
-    × (map textRefusal (text "button 1 2 3" ∷ text "budget 1\nbutton 1 2"
+    × (map textRefusal (text "button 1 2 3\nbudget 1" ∷ text "budget 1\nbutton 1 2"
     ∷ text "budget 1\nbutton 0 1 2 3" ∷ text "budget 1\nbutton 1 x" ∷ text "budget 1\nButton 1 2 3" ∷ [])
-    ≡ at 64 1 ∷ at 63 2 ∷ at 63 2 ∷ at 61 2 ∷ at 60 2 ∷ [])
+    ≡ at 64 2 ∷ at 63 2 ∷ at 63 2 ∷ at 61 2 ∷ at 60 2 ∷ [])
 unfolding textRead textForm readLines lineOf budgetLine taskLine numbersFault valueAfter allDigits same filled split
     text decimal digits taskTexts judgedMixed firstFaulty taskFault first round load horizon largest sum count
 button-texts = (refl, refl, refl)

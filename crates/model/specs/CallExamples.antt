@@ -1,11 +1,11 @@
 -- What the program prints and the calls from C return and write, by computing: the report, the quick test and the
--- distance test, the state buffer, and what a host reads off a report.
+-- distance test, the answer as numbers, the state buffer, and what a host reads off a report.
 use mathlib.Core.Path.{_≡_, refl}
 use mathlib.Core.List.{List, [], _∷_, _++_, map}
 use mathlib.Core.Bool.{true, false}
 use Prim.Native.Nat.{ℕ, _+_, _-_, _*_}
-use lib.ListN.{getD, replicate}
-use Rattle.model.specs.Values.{Verdict, Outcome, refusal}
+use lib.ListN.{getD, replicate, take}
+use Rattle.model.specs.Values.{Verdict, Outcome, verdictSaid, refusal}
 use Rattle.model.specs.Notation.{sum, largest, count, first, last, bits, fill, text, digits, decimal}
 use Rattle.model.specs.Limits.{taskLimit, reportBytes}
 use Rattle.model.specs.Tasks.{taskFault, firstFaulty, round, load, horizon, judgedMixed, firstButton, judged}
@@ -21,6 +21,7 @@ use Rattle.model.specs.Dispatcher.{ownerNowBy, afterBy, turnBy, steppedB
 use Rattle.model.specs.Report.{worstLines, reportOf, refused, written, Checked, quickExported, distanceExported}
 use Rattle.model.specs.Report.{Printed}
 use Rattle.model.specs.StateBuffer.{stateBytes, halves, bufferOf, stateIn, startExported, stepExported, handed}
+use Rattle.model.specs.AnswerBuffer.{numbersOf, answerBuffer, numbersIn, Answered}
 use Rattle.model.specs.PlainText.{split, same}
 use Rattle.model.specs.ReportRead.{hasLine, passesExported}
 use Rattle.model.specs.Examples.{padded, of, measured, word, budgetOf, rowOf, file-e, file-f, file-g}
@@ -92,6 +93,61 @@ passes-read :
     ≡ 1 ∷ 1 ∷ 0 ∷ 0 ∷ 0 ∷ 0 ∷ 0 ∷ []
 unfolding hasLine same split text
 passes-read = refl
+
+-- ---- the answer as numbers
+
+-- b passes: H, load, horizon, settled, idle, no interval; two tasks, no quick pass, verdict 4, spare; the worst responses.
+abbrev numbers-b : List ℕ
+numbers-b =
+    word 15 ++ word 0 ++ word 11 ++ word 0 ++ word 38 ++ word 0 ++ word 38 ++ word 0 ++ word 2 ++ replicate 28 0
+    ++ word 2 ++ word 0 ++ word 4 ++ word 0 ++ word 7 ++ word 2 ++ replicate (4 * (taskLimit - 2)) 0
+
+-- c is late: its interval and demand stand where b has 0, and its verdict is 3. What a verdict does not tell is 0,
+-- whatever the answer holds there.
+answers :
+    (answerBuffer (numbersOf 2 false (record {
+      outcome = Outcome.Tested Verdict.Passes;
+      measure = measured 15 11 38;
+      settled = 38;
+      worst = padded 0 (7 ∷ 2 ∷ []);
+      idle = 2;
+    }) Verdict.Passes)
+    ≡ numbers-b)
+    × (numbersIn numbers-b .load ≡ 11) × (numbersIn numbers-b .idle ≡ 2) × (numbersIn numbers-b .verdict ≡ 4)
+    × (numbersIn numbers-b .worst ≡ padded 0 (7 ∷ 2 ∷ []))
+    × (answerBuffer (numbersOf 2 true (record {
+      outcome = Outcome.Tested (Verdict.Late 8 15 8);
+      measure = measured 15 12 38;
+      settled = 15;
+      worst = padded 0 (9 ∷ 9 ∷ []);
+      idle = 9;
+    }) (Verdict.Late 8 15 8))
+    ≡ word 15 ++ word 0 ++ word 12 ++ word 0 ++ word 38 ++ word 0 ++ word 15 ++ replicate 12 0 ++ word 8 ++ word 0
+    ++ word 15 ++ word 0 ++ word 8 ++ word 0 ++ word 2 ++ word 1 ++ word 3 ++ replicate (4 * (taskLimit + 1)) 0)
+unfolding answerBuffer numbersIn bytesOf halves fill
+answers = (refl, refl, refl, refl, refl, refl)
+
+-- Verdicts have the numbers by which they are said.
+said : map (λ v. numbersOf 1 false (brief (Outcome.Tested v) (measured 1 1 2) 0) v .verdict ∷ [])
+    (Verdict.Overload ∷ Verdict.Undecided ∷ Verdict.Late 0 1 2 ∷ Verdict.Passes ∷ [])
+    ≡ map (λ v. take 1 (verdictSaid v 0 0 [])) (Verdict.Overload ∷ Verdict.Undecided ∷ Verdict.Late 0 1 2 ∷ Verdict.Passes ∷ [])
+said = refl
+
+-- The exported call: 30 below 208 bytes, before all else; a refusal writes nowhere; the byte behind the numbers stays.
+-- e with a budget of 4 is undecided.
+answered :
+    (Answered [] (replicate 207 7) (record { number = 1966287; buffer = replicate 207 7 }))
+    × (Answered (budgetOf 1 ++ (9 ∷ [])) (replicate 208 7) (record { number = 1376265; buffer = replicate 208 7 }))
+    × Answered (file-e 4) (replicate 209 7) (record {
+      number = 0;
+      buffer =
+          word 2 ++ word 0 ++ word 2 ++ word 0 ++ word 5 ++ word 0 ++ word 4 ++ replicate 36 0 ++ word 2 ++ word 0
+          ++ word 2 ++ replicate (4 * (taskLimit + 1)) 0 ++ (7 ∷ []);
+    })
+unfolding fileRead periodicFrom formOf readFrom Permitted judged judgedMixed firstButton firstFaulty taskFault settledBy
+    verdict needed lateStart lateAt first last round load horizon largest sum count demand arrivedIn answerBuffer
+    bytesOf halves quickPass calm startingAt fill firstIdle idleAt missedAt ownerOf served choose
+answered = (refl, refl, (brief (Outcome.Tested Verdict.Undecided) (measured 2 2 5) 4, refl, refl))
 
 -- ---- the quick test and the distance test
 

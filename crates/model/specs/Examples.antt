@@ -14,13 +14,14 @@ use Rattle.model.specs.Tasks.{taskFault, firstFaulty, round, load, horiz
 use Rattle.model.specs.Tasks.{firstButton, judged, offset}
 use Rattle.model.specs.TableFile.{tableOf}
 use Rattle.model.specs.StateBuffer.{stateBytes}
+use Rattle.model.specs.AnswerBuffer.{answerBytes}
 use Rattle.model.specs.Dispatcher.{State}
 
--- The limits, and what follows from them: the longest file, the longest text and the bytes of a state buffer;
+-- The limits, and what follows from them: the longest file, the longest text and the bytes of a state and of an answer;
 -- the slots that can be counted and the last place of 8.
 limits :
-    (taskLimit ∷ slotLimit ∷ roundLimit ∷ reportBytes ∷ longestFile ∷ longestText ∷ stateBytes ∷ []
-    ≡ 32 ∷ 60000 ∷ 1000000000000 ∷ 1024 ∷ 554 ∷ 956 ∷ 536 ∷ [])
+    (taskLimit ∷ slotLimit ∷ roundLimit ∷ reportBytes ∷ longestFile ∷ longestText ∷ stateBytes ∷ answerBytes ∷ []
+    ≡ 32 ∷ 60000 ∷ 1000000000000 ∷ 1024 ∷ 554 ∷ 956 ∷ 536 ∷ 208 ∷ [])
     × (slotCountLimit ∷ sumPlace ∷ [] ≡ (2 ^ 64 - 1) ∷ 33 ∷ [])
 limits = (refl, refl)
 

@@ -7,7 +7,7 @@ use Rattle.model.specs.Values.{Admission, Writing, refusal}
 use Rattle.model.specs.Notation.{sum, largest, count, first, fill, text, digits, decimal}
 use Rattle.model.specs.Limits.{taskLimit, longestFile}
 use Rattle.model.specs.Tasks.{taskFault, firstFaulty, round, load, horizon, judgedMixed, firstButton, judged}
-use Rattle.model.specs.TableFile.{taskIn, tableOf, bytesOf, taskRecords, fileOf, readFrom, formOf, fileRead}
+use Rattle.model.specs.TableFile.{taskIn, tableOf, admit, bytesOf, taskRecords, fileOf, readFrom, formOf, fileRead}
 use Rattle.model.specs.TableFile.{periodicFrom}
 use Rattle.model.specs.Writer.{fileWritten, firstStranger, tableIn, writeExported}
 use Rattle.model.specs.PlainText.{split, filled, allDigits, valueAfter, numbersFault, same, budgetLine, taskLine}
@@ -131,7 +131,8 @@ text-of-b = (refl, refl, refl, refl)
 -- A budget of 0 is 27 at its line, once the line has no other fault, and before any later line.
 text-refusals :
     map (λ s. textRead s .admission) (
-    text "" ∷ text "# nothing\n" ∷ text "\nbudgets 5" ∷ text "task 1 2 3 4\nbudget 5" ∷ text "budget 5\n\nbudget x"
+    text "" ∷ text "# nothing\n" ∷ text "\nbudgets 5" ∷ text "task 1 2 3 4\nbudget 5" ∷ text "button 1 2 3\n\nbudget x"
+    ∷ text "budget 5\ntask 1 2 3 4\nbudget 5" ∷ text "budget 5\n\nbudget x"
     ∷ text "budget" ∷ text "budget 5 6" ∷ text "budget -5" ∷ text "budget 18446744073709551615"
     ∷ text "budget 18446744073709551616" ∷ text "budget 99999999999999999999x"
     ∷ text "budget 5\ntask 1 x" ∷ text "budget 5\ntask 1 2 3 4 x" ∷ text "budget 5\ntask 1 2 3"
@@ -140,7 +141,8 @@ text-refusals :
     ∷ text "budget 0\nx" ∷ text "# none\nbudget 000" ∷ text "budget 0 0"
     ∷ text "budget 0x" ∷ text "budget 5\nbudget 0" ∷ []
     )
-    ≡ at 64 1 ∷ at 64 2 ∷ at 60 2 ∷ at 64 1 ∷ at 65 3
+    ≡ at 1 0 ∷ at 1 0 ∷ at 60 2 ∷ at 64 2 ∷ at 64 3
+    ∷ at 65 3 ∷ at 65 3
     ∷ at 63 1 ∷ at 63 1 ∷ at 61 1 ∷ at 1 0 ∷ at 62 1 ∷ at 61 1
     ∷ at 61 2 ∷ at 63 2 ∷ at 63 2 ∷ at 62 2 ∷ at 6 0
     ∷ at 1 0 ∷ at 61 1
@@ -149,6 +151,13 @@ text-refusals :
 unfolding textRead textForm readLines lineOf budgetLine taskLine numbersFault valueAfter allDigits same filled split
     text judged judgedMixed firstButton firstFaulty taskFault first round load horizon largest sum count
 text-refusals = refl
+
+-- Without a budget it is the largest.
+no-budget :
+    (textForm (text "# b\ntask 8 5 7 15\ntask 0 2 2 5") ≡ admit 18446744073709551615 (of 8 5 7 15 ∷ of 0 2 2 5 ∷ []))
+    × (textForm (text "budget 7\ntask 8 5 7 15") ≡ admit 7 (of 8 5 7 15 ∷ []))
+unfolding textForm readLines lineOf budgetLine taskLine numbersFault valueAfter allDigits same filled split text
+no-budget = (refl, refl)
 
 tasksOfOne : ℕ → List ℕ
 tasksOfOne zero = []

@@ -16,6 +16,7 @@ pub mod History
 pub mod Presses
 pub mod Report
 pub mod StateBuffer
+pub mod AnswerBuffer
 pub mod Writer
 pub mod PlainText
 pub mod ReportRead

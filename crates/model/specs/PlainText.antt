@@ -1,6 +1,6 @@
 -- Tables in plain text: for any bytes the refusal, or the budget and the tasks;
 -- the text of a budget and tasks; the exported calls.
-use Rattle.model.specs.Notation.{List, [], _∷_, _++_, Bool, true, false, cond, not, _&&_, _||_, ℕ, zero, suc, _+_}
+use Rattle.model.specs.Notation.{List, [], _∷_, _++_, Bool, true, false, cond, _&&_, _||_, ℕ, zero, suc, _+_}
 use Rattle.model.specs.Notation.{_-_, _*_, min, leb, ltb, eqb, getD, length, take, text, decimal}
 use Rattle.model.specs.Values.{Sort, Task, Table, Contents, Admission, Line}
 use Rattle.model.specs.Limits.{taskLimit, wordLimit, budgetLimit}
@@ -101,9 +101,11 @@ unless (suc f) l = Line.Fault (suc f)
 abbrev pub budgetSaid : ℕ → Line
 budgetSaid b = cond (eqb b 0) (Line.Fault 27) (Line.Budget b)
 
--- A budget stands first and once: a second one is 65.
-unfoldable pub budgetLine : Bool → List (List ℕ) → Line
-budgetLine given ws = cond given (Line.Fault 65) (unless (numbersFault budgetLimit 1 ws) (budgetSaid (number ws 0)))
+-- A budget, if there is one, stands before all tasks and once: a second one is 65, one behind a task 64.
+unfoldable pub budgetLine : Bool → ℕ → List (List ℕ) → Line
+budgetLine given count ws =
+    cond given (Line.Fault 65)
+    (cond (ltb 0 count) (Line.Fault 64) (unless (numbersFault budgetLimit 1 ws) (budgetSaid (number ws 0))))
 
 -- The numbers of a task are O, C, D, T, and of a button C, D and its spacing.
 abbrev pub taskIn : List (List ℕ) → Task
@@ -113,42 +115,45 @@ taskIn ws =
 abbrev pub buttonIn : List (List ℕ) → Task
 buttonIn ws = record { sort = Sort.Button; cost = number ws 0; deadline = number ws 1; period = number ws 2 }
 
--- A task of so many numbers: one before the budget is 64, one more than a table may have 66.
-unfoldable pub taskLine : ℕ → Task → Bool → ℕ → List (List ℕ) → Line
-taskLine numbers k given count ws =
-    cond (not given) (Line.Fault 64)
-    (cond (leb taskLimit count) (Line.Fault 66) (unless (numbersFault wordLimit numbers ws) (Line.OneTask k)))
+-- A task of so many numbers: one more than a table may have is 66.
+unfoldable pub taskLine : ℕ → Task → ℕ → List (List ℕ) → Line
+taskLine numbers k count ws =
+    cond (leb taskLimit count) (Line.Fault 66) (unless (numbersFault wordLimit numbers ws) (Line.OneTask k))
 
 -- What a line of these words says, after a budget or none and so many tasks:
 -- its first word tells which it is, or is 60.
 unfoldable pub lineOf : Bool → ℕ → List (List ℕ) → Line
 lineOf given count [] = Line.Nothing
 lineOf given count (w ∷ ws) =
-    cond (same w (text "budget")) (budgetLine given ws)
-    (cond (same w (text "task")) (taskLine 4 (taskIn ws) given count ws)
-    (cond (same w (text "button")) (taskLine 3 (buttonIn ws) given count ws) (Line.Fault 60)))
+    cond (same w (text "budget")) (budgetLine given count ws)
+    (cond (same w (text "task")) (taskLine 4 (taskIn ws) count ws)
+    (cond (same w (text "button")) (taskLine 3 (buttonIn ws) count ws) (Line.Fault 60)))
 
 -- A fault is told with its line, counted from 1, or with 65,535.
 abbrev pub refuseText : ℕ → ℕ → Contents
 refuseText f n = refuseFile f (min n 65535)
 
--- What line n leads to after the budget b, if it was given, and the tasks ks.
+-- What line n leads to after the budget b, given or not, and the tasks ks.
 abbrev pub afterLine : (Bool → ℕ → List Task → Contents) → Bool → ℕ → List Task → ℕ → Line → Contents
 afterLine go given b ks n Line.Nothing = go given b ks
 afterLine go given b ks n (Line.Budget x) = go true x ks
 afterLine go given b ks n (Line.OneTask k) = go given b (ks ++ (k ∷ []))
 afterLine go given b ks n (Line.Fault f) = refuseText f n
 
--- The lines after n lines. Where the text ends with no budget it is 64 at its last line.
+-- The lines after n lines.
 unfoldable pub readLines : Bool → ℕ → List Task → ℕ → List (List ℕ) → Contents
-readLines given b ks n [] = cond given (admit b ks) (refuseText 64 n)
+readLines given b ks n [] = admit b ks
 readLines given b ks n (l ∷ ls) =
     afterLine (λ g x js. readLines g x js (suc n) ls) given b ks (suc n)
     (lineOf given (length ks) (wordsOf (contentOf l)))
 
+-- The budget of a text that gives none: the largest there is, so that a test looks as far as it must.
+abbrev pub largestBudget : ℕ
+largestBudget = budgetLimit - 1
+
 -- The form of a text; its table is judged only after the form is good.
 unfoldable pub textForm : List ℕ → Contents
-textForm s = readLines false 0 [] 0 (linesOf s)
+textForm s = readLines false largestBudget [] 0 (linesOf s)
 
 unfoldable pub textRead : List ℕ → Contents
 textRead s = judgedForm judgedMixed (textForm s) (textForm s .admission)

@@ -66,27 +66,34 @@ refused r buffer = record { number = refusalNumber r; buffer = buffer }
 abbrev pub written : List ℕ → List ℕ → Exported
 written report buffer = record { number = length report; buffer = report ++ drop (length report) buffer }
 
--- What an outcome is told as: `refuse` of its refusal, or `tell` of the report on it.
-abbrev pub outcomeTold : {A : Type 0} → (Refusal → A) → (List ℕ → A) → ℕ → Bool → Answer → Outcome → A
+-- What an outcome is told as: `refuse` of its refusal, or `tell` of the verdict and of what comes with it.
+abbrev pub outcomeTold : {A : Type 0} → (Refusal → A) → (ℕ → Bool → Answer → Verdict → A) → ℕ → Bool → Answer → Outcome → A
 outcomeTold refuse tell n quick a (Outcome.Refused r) = refuse r
-outcomeTold refuse tell n quick a (Outcome.Tested v) = tell (reportOf n quick a v)
+outcomeTold refuse tell n quick a (Outcome.Tested v) = tell n quick a v
 
 -- What a file may be told as: the refusal of its form or table, or of a short buffer,
 -- or the outcome of the permitted answer.
-abbrev pub FileTold : {A : Type 0} → (Refusal → A) → (List ℕ → A) → Contents → A → Admission → Type 0
+abbrev pub FileTold : {A : Type 0} → (Refusal → A) → (ℕ → Bool → Answer → Verdict → A) → Contents → A → Admission → Type 0
 FileTold refuse tell l x (Admission.Refused r) = x ≡ refuse r
 FileTold refuse tell l x Admission.Admitted =
     (a : Answer) × Permitted (l .table) (l .budget) a
     × (x ≡ outcomeTold refuse tell (l .table .count) (quickPass (l .table)) a (a .outcome))
 
--- The one permitted result of the exported call on any file and any buffer.
--- A short buffer is refused by 30 before all else.
-abbrev pub Checked : List ℕ → List ℕ → Exported → Type 0
-Checked file buffer e =
+-- The one permitted result of a check on any file and any buffer, which tells an answer in this many bytes at most.
+-- A shorter buffer is refused by 30 before all else.
+abbrev pub CheckedBy : ℕ → (ℕ → Bool → Answer → Verdict → Exported) → List ℕ → List ℕ → Exported → Type 0
+CheckedBy bytes tell file buffer e =
     let admission =
-    cond (ltb (length buffer) reportBytes) (Admission.Refused (refusal 30 (length buffer)))
+    cond (ltb (length buffer) bytes) (Admission.Refused (refusal 30 (length buffer)))
     (fileRead file .admission) in
-    FileTold (λ r. refused r buffer) (λ report. written report buffer) (fileRead file) e admission
+    FileTold (λ r. refused r buffer) tell (fileRead file) e admission
+
+-- Of the check that writes a report.
+abbrev pub reportWritten : List ℕ → ℕ → Bool → Answer → Verdict → Exported
+reportWritten buffer n quick a v = written (reportOf n quick a v) buffer
+
+abbrev pub Checked : List ℕ → List ℕ → Exported → Type 0
+Checked file buffer = CheckedBy reportBytes (reportWritten buffer) file buffer
 
 -- The number that an exported call on any file alone returns: the refusal of its form, or what it says of its table.
 abbrev pub fileNumber : List ℕ → (Table → ℕ) → ℕ
@@ -120,4 +127,4 @@ refusalLine r = line (text "refused " ++ decimal (r .number) ++ text " at " ++ d
 
 -- The one permitted output of the program on any input: the report, or the line of the refusal.
 abbrev pub Printed : List ℕ → List ℕ → Type 0
-Printed input out = FileTold refusalLine (λ report. report) (fileRead input) out (fileRead input .admission)
+Printed input out = FileTold refusalLine reportOf (fileRead input) out (fileRead input .admission)

@@ -11,6 +11,7 @@ pub use Rattle.values.specs.declared.Verdict.{Verdict}
 pub use Rattle.values.specs.declared.Outcome.{Outcome}
 pub use Rattle.values.specs.declared.LargestCost.{LargestCost}
 pub use Rattle.values.specs.declared.Answer.{Answer}
+pub use Rattle.values.specs.declared.AnswerNumbers.{AnswerNumbers}
 pub use Rattle.values.specs.declared.QuickAnswer.{QuickAnswer}
 pub use Rattle.values.specs.declared.DistanceAnswer.{DistanceAnswer}
 pub use Rattle.values.specs.declared.Easing.{Easing}

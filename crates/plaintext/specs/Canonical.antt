@@ -17,7 +17,8 @@ use Rattle.model.specs.Notation.{text, decimal}
 use Rattle.model.specs.Limits.{taskLimit, wordLimit, budgetLimit}
 use Rattle.model.specs.TableFile.{refuseFile, admit}
 use Rattle.model.specs.PlainText.{isLineFeed, isHash, isGap, isDigit, split, filled, linesOf, contentOf, wordsOf, allDigits, valueAfter, value}
-use Rattle.model.specs.PlainText.{numberFault, numbersFault, same, budgetSaid, budgetLine, taskLine, lineOf, readLines, textForm, sortText, taskTexts}
+use Rattle.model.specs.PlainText.{numberFault, numbersFault, same, budgetSaid, budgetLine, taskLine, lineOf, readLines}
+use Rattle.model.specs.PlainText.{largestBudget, textForm, sortText, taskTexts}
 use Rattle.model.specs.PlainText.{textOf}
 use Rattle.tablefile.specs.Written.{AllFit, Fits32}
 use Rattle.text.specs.Decimal.{one-digit, last-digit}
@@ -191,9 +192,9 @@ module _ (b : ℕ) where
       word-then (text "budget") (decimal b) budget-name (lit< tt)
       ∙ ap (λ (ws : List (List ℕ)). text "budget" ∷ ws) (last-word (decimal b) (number-in-word b) (means b .some))
 
-  budget-said : (count : ℕ) → b < budgetLimit → lineOf false count (wordsOf (contentOf budgetContent)) ≡ budgetSaid b
+  budget-said : b < budgetLimit → lineOf false 0 (wordsOf (contentOf budgetContent)) ≡ budgetSaid b
   unfolding lineOf budgetLine numbersFault same text
-  budget-said count h = rw (content-whole budgetContent budget-clear, budget-words, no-fault budgetLimit b h, means b .back)
+  budget-said h = rw (content-whole budgetContent budget-clear, budget-words, no-fault budgetLimit b h, means b .back)
 
 -- A number and the words behind it.
 number-then : (n : ℕ) (rest : List ℕ) (ws : List (List ℕ)) → wordsOf rest ≡ ws → wordsOf (decimal n ++ 32 ∷ rest) ≡ decimal n ∷ ws
@@ -240,9 +241,10 @@ module _ (c d p : ℕ) where
       let grouped : sortContent Sort.Button ≡ text "button" ++ 32 ∷ numbers = simp append-assoc in
       ap (λ (l : List ℕ). wordsOf l) grouped ∙ word-then (text "button") _ button-name (lit< tt) ∙ ap (λ (ws : List (List ℕ)). text "button" ∷ ws) number-words
 
-  sort-said : (q : Sort) (count : ℕ) → count < taskLimit → Fits32 (sorted q) → lineOf true count (wordsOf (contentOf (sortContent q))) ≡ Line.OneTask (sorted q)
+  sort-said : (q : Sort) (given : Bool) (count : ℕ) → count < taskLimit → Fits32 (sorted q)
+      → lineOf given count (wordsOf (contentOf (sortContent q))) ≡ Line.OneTask (sorted q)
   unfolding lineOf taskLine numbersFault same text
-  sort-said (Sort.Periodic o) count room (a, b, e, t) =
+  sort-said (Sort.Periodic o) given count room (a, b, e, t) =
       rw (
         content-whole (sortContent (Sort.Periodic o)) (sort-clear (Sort.Periodic o)),
         sort-words (Sort.Periodic o),
@@ -256,7 +258,7 @@ module _ (c d p : ℕ) where
         means d .back,
         means p .back,
       )
-  sort-said Sort.Button count room (a, b, e, t) =
+  sort-said Sort.Button given count room (a, b, e, t) =
       rw (
         content-whole (sortContent Sort.Button) (sort-clear Sort.Button),
         sort-words Sort.Button,
@@ -276,23 +278,23 @@ module _ (k : Task) where
   task-clear : All InLine taskContent
   task-clear = sort-clear (k .cost) (k .deadline) (k .period) (k .sort)
 
-  task-said : (count : ℕ) → count < taskLimit → Fits32 k → lineOf true count (wordsOf (contentOf taskContent)) ≡ Line.OneTask k
-  task-said count room fits = sort-said (k .cost) (k .deadline) (k .period) (k .sort) count room fits
+  task-said : (given : Bool) (count : ℕ) → count < taskLimit → Fits32 k → lineOf given count (wordsOf (contentOf taskContent)) ≡ Line.OneTask k
+  task-said given count room fits = sort-said (k .cost) (k .deadline) (k .period) (k .sort) given count room fits
 
 -- ---- The whole text
 
 -- Behind the last line feed stands a line that says nothing.
-nothing-left : (b n : ℕ) (ks : List Task) → readLines true b ks n (linesOf []) ≡ admit b ks
+nothing-left : (given : Bool) (b n : ℕ) (ks : List Task) → readLines given b ks n (linesOf []) ≡ admit b ks
 unfolding readLines lineOf split filled
-nothing-left b n ks = refl
+nothing-left given b n ks = refl
 
-tasks-read : (b n : ℕ) (ks more : List Task) → AllFit more → length ks + length more ≤ taskLimit
-    → readLines true b ks n (linesOf (taskTexts more)) ≡ admit b (ks ++ more)
+tasks-read : (given : Bool) (b n : ℕ) (ks more : List Task) → AllFit more → length ks + length more ≤ taskLimit
+    → readLines given b ks n (linesOf (taskTexts more)) ≡ admit b (ks ++ more)
 unfolding readLines taskTexts
-tasks-read b n ks [] fits room = nothing-left b n ks ∙ ap (admit b) (sym (append-nil ks))
-tasks-read b n ks (k ∷ more) fits room =
-    rw (line-then (taskContent k) (taskTexts more) (task-clear k), task-said k (length ks) (omega arith) (fits 0 (omega arith)))
-    (tasks-read b (suc n) (ks ++ (k ∷ [])) more (λ i l. fits (suc i) (omega arith)) (omega (arith, length-append ks (k ∷ [])))
+tasks-read given b n ks [] fits room = nothing-left given b n ks ∙ ap (admit b) (sym (append-nil ks))
+tasks-read given b n ks (k ∷ more) fits room =
+    rw (line-then (taskContent k) (taskTexts more) (task-clear k), task-said k given (length ks) (omega arith) (fits 0 (omega arith)))
+    (tasks-read given b (suc n) (ks ++ (k ∷ [])) more (λ i l. fits (suc i) (omega arith)) (omega (arith, length-append ks (k ∷ [])))
     ∙ ap (admit b) (append-snoc ks k more))
 
 -- The text of a budget above 0 and below 2^64 and of at most `taskLimit` tasks, each number below 2^32, has a good form and holds these.
@@ -300,10 +302,15 @@ pub text-read : (b : ℕ) (ks : List Task) → 0 < b → b < budgetLimit → All
     → textForm (textOf b ks) ≡ admit b ks
 unfolding textForm readLines
 text-read b ks some limit fits few =
-    rw (line-then (budgetContent b) (taskTexts ks) (budget-clear b), budget-said b 0 limit, ne-eqb b 0 (omega arith))
-    (tasks-read b 1 [] ks fits (omega arith))
+    rw (line-then (budgetContent b) (taskTexts ks) (budget-clear b), budget-said b limit, ne-eqb b 0 (omega arith))
+    (tasks-read true b 1 [] ks fits (omega arith))
+
+-- That of tasks alone holds these and the largest budget.
+pub tasks-text-read : (ks : List Task) → AllFit ks → length ks ≤ taskLimit → textForm (taskTexts ks) ≡ admit largestBudget ks
+unfolding textForm
+tasks-text-read ks fits few = tasks-read false largestBudget 0 [] ks fits (omega arith)
 
 -- That of a budget of 0 is refused at its first line.
 pub text-nothing : (ks : List Task) → textForm (textOf 0 ks) ≡ refuseFile 27 1
 unfolding textForm readLines
-text-nothing ks = rw (line-then (budgetContent 0) (taskTexts ks) (budget-clear 0), budget-said 0 0 (omega arith))
+text-nothing ks = rw (line-then (budgetContent 0) (taskTexts ks) (budget-clear 0), budget-said 0 (omega arith))

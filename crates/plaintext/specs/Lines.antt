@@ -1,13 +1,13 @@
 -- The lines of a text: what a line says, and reading on from line to line.
 use mathlib.Core.Path.{_≡_, refl, sym, ap, _∙_}
 use mathlib.Core.Logic.{_≢_}
-use mathlib.Core.Bool.{Bool, true, false, cond, not}
+use mathlib.Core.Bool.{Bool, true, false, cond}
 use mathlib.Core.List.{List, [], _∷_, _++_}
 use Prim.Native.Nat.{ℕ, zero, suc, _+_, _-_, min, _≤_, _<_}
 use native.Mathlib.Decide.{decLt}
 use native.Mathlib.Omega.{arith}
-use borrow.Author.Tests.{eq-eqb, ne-eqb, lt-leb, leb-false}
-use lib.Dec.{leb, eqb}
+use borrow.Author.Tests.{eq-eqb, ne-eqb, lt-leb, lt-ltb, le-ltb, leb-false}
+use lib.Dec.{leb, ltb, eqb}
 use lib.ListN.{length, getD, take, drop}
 use lib.Seq.{length-take-le, take-take, take-all}
 use Rattle.values.specs.declared.Sort.{Sort}
@@ -19,7 +19,7 @@ use Rattle.model.specs.Limits.{taskLimit, wordLimit, budgetLimit}
 use Rattle.model.specs.Notation.{text}
 use Rattle.model.specs.TableFile.{tableOf, refuseFile}
 use Rattle.model.specs.PlainText.{isLineFeed, isHash, split, linesOf, withoutReturn, contentOf, wordsOf, numbersFault, number, same, unless}
-use Rattle.model.specs.PlainText.{budgetLine, taskIn, buttonIn, taskLine, lineOf, afterLine, readLines, textForm}
+use Rattle.model.specs.PlainText.{budgetLine, taskIn, buttonIn, taskLine, lineOf, afterLine, readLines, largestBudget, textForm}
 use Rattle.tablefile.specs.Built.{withTask, stored}
 use Rattle.pieces.specs.Marks.{lengthTo, length-to-le}
 use Rattle.pieces.specs.Pieces.{split-last, split-more, first-piece}
@@ -43,22 +43,26 @@ said-fault : (f : ℕ) (l : Line) → f ≢ 0 → unless f l ≡ Line.Fault f
 said-fault zero l h = absurd (h refl)
 said-fault (suc f) l h = refl
 
-module _ {ws : List (List ℕ)} {f : ℕ} {vs : List ℕ} (r : NumbersRead budgetLimit 1 ws f vs) where
-  pub budget-fault : f ≢ 0 → Line.Fault f ≡ budgetLine false ws
+module _ {ws : List (List ℕ)} {f : ℕ} {vs : List ℕ} (count : ℕ) (first : count ≤ 0) (r : NumbersRead budgetLimit 1 ws f vs) where
+  pub budget-fault : f ≢ 0 → Line.Fault f ≡ budgetLine false count ws
   unfolding budgetLine
-  budget-fault h = rw (← r .fault-is) (sym (said-fault f _ h))
+  budget-fault h = rw (le-ltb 0 count first, ← r .fault-is) (sym (said-fault f _ h))
 
-  pub budget-nothing : f ≡ 0 → getD vs 0 0 ≡ 0 → Line.Fault 27 ≡ budgetLine false ws
+  pub budget-nothing : f ≡ 0 → getD vs 0 0 ≡ 0 → Line.Fault 27 ≡ budgetLine false count ws
   unfolding budgetLine
-  budget-nothing z none = rw (← r .fault-is, z, ← r .values z 0 (omega arith), eq-eqb (getD vs 0 0) 0 none)
+  budget-nothing z none = rw (le-ltb 0 count first, ← r .fault-is, z, ← r .values z 0 (omega arith), eq-eqb (getD vs 0 0) 0 none)
 
-  pub budget-good : f ≡ 0 → getD vs 0 0 ≢ 0 → Line.Budget (getD vs 0 0) ≡ budgetLine false ws
+  pub budget-good : f ≡ 0 → getD vs 0 0 ≢ 0 → Line.Budget (getD vs 0 0) ≡ budgetLine false count ws
   unfolding budgetLine
-  budget-good z some = rw (← r .fault-is, z, ← r .values z 0 (omega arith), ne-eqb (getD vs 0 0) 0 some)
+  budget-good z some = rw (le-ltb 0 count first, ← r .fault-is, z, ← r .values z 0 (omega arith), ne-eqb (getD vs 0 0) 0 some)
 
-pub second-budget : (ws : List (List ℕ)) → Line.Fault 65 ≡ budgetLine true ws
+pub second-budget : (count : ℕ) (ws : List (List ℕ)) → Line.Fault 65 ≡ budgetLine true count ws
 unfolding budgetLine
-second-budget ws = refl
+second-budget count ws = refl
+
+pub budget-behind : (count : ℕ) (ws : List (List ℕ)) → 0 < count → Line.Fault 64 ≡ budgetLine false count ws
+unfolding budgetLine
+budget-behind count ws h = rw (lt-ltb 0 count h)
 
 -- The numbers of a task's line by its sort, and the task of these numbers and of these words.
 abbrev pub numbersDue : Bool → ℕ
@@ -72,8 +76,8 @@ abbrev pub wordTask : Bool → List (List ℕ) → Task
 wordTask true ws = buttonIn ws
 wordTask false ws = taskIn ws
 
-abbrev pub sortLine : Bool → Bool → ℕ → List (List ℕ) → Line
-sortLine button given count ws = taskLine (numbersDue button) (wordTask button ws) given count ws
+abbrev pub sortLine : Bool → ℕ → List (List ℕ) → Line
+sortLine button count ws = taskLine (numbersDue button) (wordTask button ws) count ws
 
 -- The numbers of such a line fit their words.
 abbrev pub WordsFit : Bool → List ℕ → Type 0
@@ -89,11 +93,11 @@ module _ {ws : List (List ℕ)} {f : ℕ} {vs : List ℕ} where
   task-numbers false r z = rw (r .values z 0 (omega arith), r .values z 1 (omega arith), r .values z 2 (omega arith), r .values z 3 (omega arith))
 
   module _ (button : Bool) (count : ℕ) (room : count < taskLimit) (r : NumbersRead wordLimit (numbersDue button) ws f vs) where
-    pub task-fault : f ≢ 0 → Line.Fault f ≡ sortLine button true count ws
+    pub task-fault : f ≢ 0 → Line.Fault f ≡ sortLine button count ws
     unfolding taskLine
     task-fault h = rw (lt-leb taskLimit count room, ← r .fault-is) (sym (said-fault f _ h))
 
-    pub task-good : {k : Task} → f ≡ 0 → k ≡ taskFrom button vs → Line.OneTask k ≡ sortLine button true count ws
+    pub task-good : {k : Task} → f ≡ 0 → k ≡ taskFrom button vs → Line.OneTask k ≡ sortLine button count ws
     unfolding taskLine
     task-good z e = rw (lt-leb taskLimit count room, ← r .fault-is, z) (ap Line.OneTask (e ∙ task-numbers button r z))
 
@@ -102,25 +106,25 @@ room-for-task : (given : Bool) (count : ℕ) (ws : List (List ℕ)) (k : Task) �
 unfolding lineOf budgetLine taskLine
 room-for-task given count [] k e = let z : _≡_ {A = ℕ} 0 1 = cc in absurd (omega arith)
 room-for-task given count (w ∷ ws) k e =
-    go (same w (text "budget")) (same w (text "task")) (same w (text "button")) given (eqb (number ws 0) 0) (numbersFault budgetLimit 1 ws) e
+    go (same w (text "budget")) (same w (text "task")) (same w (text "button")) given (ltb 0 count) (eqb (number ws 0) 0) (numbersFault budgetLimit 1 ws) e
   where
-    taken : (n : ℕ) (j : Task) (g full : Bool) → leb taskLimit count ≡ full
-        → cond (not g) (Line.Fault 64) (cond full (Line.Fault 66) (unless (numbersFault wordLimit n ws) (Line.OneTask j))) ≡ Line.OneTask k → count < taskLimit
-    taken n j false full q e = let z : _≡_ {A = ℕ} 0 1 = cc in absurd (omega arith)
-    taken n j true true q e = let z : _≡_ {A = ℕ} 0 1 = cc in absurd (omega arith)
-    taken n j true false q e = leb-false taskLimit count q
+    taken : (n : ℕ) (j : Task) (full : Bool) → leb taskLimit count ≡ full
+        → cond full (Line.Fault 66) (unless (numbersFault wordLimit n ws) (Line.OneTask j)) ≡ Line.OneTask k → count < taskLimit
+    taken n j true q e = let z : _≡_ {A = ℕ} 0 1 = cc in absurd (omega arith)
+    taken n j false q e = leb-false taskLimit count q
 
-    go : (budget task button g nothing : Bool) (f : ℕ)
-        → cond budget (cond g (Line.Fault 65) (unless f (cond nothing (Line.Fault 27) (Line.Budget (number ws 0)))))
-        (cond task (taskLine 4 (taskIn ws) given count ws) (cond button (taskLine 3 (buttonIn ws) given count ws) (Line.Fault 60))) ≡ Line.OneTask k
+    go : (budget task button g behind nothing : Bool) (f : ℕ)
+        → cond budget (cond g (Line.Fault 65) (cond behind (Line.Fault 64) (unless f (cond nothing (Line.Fault 27) (Line.Budget (number ws 0))))))
+        (cond task (taskLine 4 (taskIn ws) count ws) (cond button (taskLine 3 (buttonIn ws) count ws) (Line.Fault 60))) ≡ Line.OneTask k
         → count < taskLimit
-    go true task button true nothing f e = let z : _≡_ {A = ℕ} 0 1 = cc in absurd (omega arith)
-    go true task button false true zero e = let z : _≡_ {A = ℕ} 0 1 = cc in absurd (omega arith)
-    go true task button false false zero e = let z : _≡_ {A = ℕ} 0 1 = cc in absurd (omega arith)
-    go true task button false nothing (suc f) e = let z : _≡_ {A = ℕ} 0 1 = cc in absurd (omega arith)
-    go false true button g nothing f e = taken 4 (taskIn ws) given (leb taskLimit count) refl e
-    go false false true g nothing f e = taken 3 (buttonIn ws) given (leb taskLimit count) refl e
-    go false false false g nothing f e = let z : _≡_ {A = ℕ} 0 1 = cc in absurd (omega arith)
+    go true task button true behind nothing f e = let z : _≡_ {A = ℕ} 0 1 = cc in absurd (omega arith)
+    go true task button false true nothing f e = let z : _≡_ {A = ℕ} 0 1 = cc in absurd (omega arith)
+    go true task button false false true zero e = let z : _≡_ {A = ℕ} 0 1 = cc in absurd (omega arith)
+    go true task button false false false zero e = let z : _≡_ {A = ℕ} 0 1 = cc in absurd (omega arith)
+    go true task button false false nothing (suc f) e = let z : _≡_ {A = ℕ} 0 1 = cc in absurd (omega arith)
+    go false true button g behind nothing f e = taken 4 (taskIn ws) (leb taskLimit count) refl e
+    go false false true g behind nothing f e = taken 3 (buttonIn ws) (leb taskLimit count) refl e
+    go false false false g behind nothing f e = let z : _≡_ {A = ℕ} 0 1 = cc in absurd (omega arith)
 
 -- Up to the lines that are left, reading on makes the form of the text; `line` counts the lines before them, or is 65,535.
 pub record Reached (s : List ℕ) (given : Bool) (b : ℕ) (t : Table) (line : ℕ) (ls : List (List ℕ)) : Type 0 where
@@ -130,7 +134,7 @@ pub record Reached (s : List ℕ) (given : Bool) (b : ℕ) (t : Table) (line : �
   pub at : line ≡ min n 65535
   pub same : readLines given b ks n ls ≡ textForm s
 
-pub start : (s : List ℕ) {t : Table} → t ≡ tableOf [] → Reached s false 0 t 0 (linesOf s)
+pub start : (s : List ℕ) {t : Table} → t ≡ tableOf [] → Reached s false largestBudget t 0 (linesOf s)
 unfolding textForm
 start s e = record { n = 0; ks = []; table = e; at = omega arith; same = refl }
 
@@ -185,6 +189,6 @@ module _ {s : List ℕ} {given : Bool} {b : ℕ} {t : Table} {line : ℕ} (left 
 
 -- The text ends.
 pub text-ends : {s : List ℕ} {given : Bool} {b : ℕ} {t : Table} {line : ℕ} → Reached s given b t line []
-    → cond given (record { admission = Admission.Admitted; budget = b; table = t }) (refuseFile 64 line) ≡ textForm s
+    → record { admission = Admission.Admitted; budget = b; table = t } ≡ textForm s
 unfolding readLines
-text-ends r = rw (r .table, r .at) (r .same)
+text-ends r = rw (r .table) (r .same)

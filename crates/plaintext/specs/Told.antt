@@ -1,11 +1,11 @@
 -- What the calls on texts tell: a file or a text that is short enough, or a refusal that C can tell and that changes no byte.
 use mathlib.Core.Path.{_≡_, refl, sym, ap, _∙_}
 use mathlib.Core.Logic.{inr}
-use mathlib.Core.Bool.{Bool, true, false, cond, not}
+use mathlib.Core.Bool.{Bool, true, false, cond}
 use mathlib.Core.List.{List, [], _∷_, _++_}
 use Prim.Native.Nat.{ℕ, zero, suc, _+_, _*_, _≤_, _<_}
 use native.Mathlib.Omega.{arith}
-use lib.Dec.{leb, eqb, lit<}
+use lib.Dec.{leb, ltb, eqb, lit<}
 use lib.ListN.{length, getD, length-append}
 use lib.Seq.{length-take-le, getD-take}
 use Rattle.values.specs.declared.Task.{Task}
@@ -22,7 +22,8 @@ use Rattle.model.specs.Tasks.{noTask, judgedMixed}
 use Rattle.model.specs.TableFile.{fileOf, judgedTable, judgedForm, formOf, fileRead}
 use Rattle.model.specs.Writer.{Filled, tasksOf, writtenBy, fileWritten, fillTold}
 use Rattle.model.specs.PlainText.{same, numbersFault, number, unless, budgetSaid, budgetLine, taskIn, buttonIn, taskLine, lineOf, afterLine}
-use Rattle.model.specs.PlainText.{readLines, linesOf, contentOf, wordsOf, textForm, formWritten, taskText, taskTexts, textOf, textWritten, toText}
+use Rattle.model.specs.PlainText.{readLines, largestBudget, linesOf, contentOf, wordsOf, textForm, formWritten, taskText, taskTexts}
+use Rattle.model.specs.PlainText.{textOf, textWritten, toText}
 use Rattle.model.specs.PlainText.{fromTextExported, toTextExported}
 use Rattle.wellformed.specs.Ranges.{InRange, Ranged, holds-all}
 use Rattle.tablefile.specs.Refused.{AdmissionTellable, form-tellable}
@@ -53,11 +54,11 @@ unfolding lineOf budgetLine taskLine
 line-faulty given count [] = tt
 line-faulty given count (w ∷ ws) =
     let budget = unless-faulty (numbersFault budgetLimit 1 ws) (budgetSaid (number ws 0)) (either (eqb (number ws 0) 0) _ _ (lit< tt) tt) in
-    either (same w (text "budget")) _ _ (either given _ _ (lit< tt) budget)
+    either (same w (text "budget")) _ _ (either given _ _ (lit< tt) (either (ltb 0 count) _ _ (lit< tt) budget))
     (either (same w (text "task")) _ _ (task 4 (taskIn ws)) (either (same w (text "button")) _ _ (task 3 (buttonIn ws)) (lit< tt)))
   where
-    task : (n : ℕ) (k : Task) → Faulty (taskLine n k given count ws)
-    task n k = either (not given) _ _ (lit< tt) (either (leb taskLimit count) _ _ (lit< tt) (unless-faulty (numbersFault wordLimit n ws) (Line.OneTask k) tt))
+    task : (n : ℕ) (k : Task) → Faulty (taskLine n k count ws)
+    task n k = either (leb taskLimit count) _ _ (lit< tt) (unless-faulty (numbersFault wordLimit n ws) (Line.OneTask k) tt)
 
 -- What a line leads to is tellable if what follows it is.
 after-tellable : (go : Bool → ℕ → List Task → Contents) (given : Bool) (b : ℕ) (ks : List Task) (n : ℕ) (l : Line) → Faulty l
@@ -69,8 +70,7 @@ after-tellable go given b ks n (Line.Fault f) h next = (h, omega arith)
 
 lines-tellable : (given : Bool) (b : ℕ) (ks : List Task) (n : ℕ) (ls : List (List ℕ)) → AdmissionTellable (readLines given b ks n ls .admission)
 unfolding readLines
-lines-tellable true b ks n [] = tt
-lines-tellable false b ks n [] = (lit< tt, omega arith)
+lines-tellable given b ks n [] = tt
 lines-tellable given b ks n (l ∷ ls) =
     after-tellable (λ g x js. readLines g x js (suc n) ls) given b ks (suc n) (lineOf given (length ks) (wordsOf (contentOf l)))
     (line-faulty given (length ks) (wordsOf (contentOf l)))
@@ -78,7 +78,7 @@ lines-tellable given b ks n (l ∷ ls) =
 
 pub text-tellable : (s : List ℕ) → AdmissionTellable (textForm s .admission)
 unfolding textForm
-text-tellable s = lines-tellable false 0 [] 0 (linesOf s)
+text-tellable s = lines-tellable false largestBudget [] 0 (linesOf s)
 
 -- ---- The length of a text
 

@@ -1,6 +1,6 @@
 // Tables in plain text, read where they lie and written into a lent buffer.
 ghost use mathlib.Core.Path.{_≡_};
-ghost use mathlib.Core.Bool.{true, cond};
+ghost use mathlib.Core.Bool.{true};
 ghost use Prim.Native.Nat.{suc, _+_, _-_, _≤_, _<_, min};
 ghost use mathlib.Core.List.{_++_};
 ghost use lib.ListN.{length, take};
@@ -26,8 +26,8 @@ use values::Line;
 use values::Refusal;
 use values::Sort;
 use values::TASK_LIMIT;
+use values::TEXT_BUDGET_NOT_FIRST;
 use values::TEXT_LARGE_NUMBER;
-use values::TEXT_NO_BUDGET;
 use values::TEXT_NOT_A_NUMBER;
 use values::TEXT_SECOND_BUDGET;
 use values::TEXT_TOO_MANY_TASKS;
@@ -166,11 +166,14 @@ fn left_over(left: &[u8]) -> u32
     0
 }
 
-fn budget_line(rest: &[u8], given: bool) -> Line
-    ensures { λ r. ⌜ r ≡ budgetLine given (wordsOf (now (rest .entry))) ⌝ }
+fn budget_line(rest: &[u8], given: bool, count: usize) -> Line
+    ensures { λ r. ⌜ r ≡ budgetLine given count (wordsOf (now (rest .entry))) ⌝ }
 {
     if given {
         return Line::Fault(TEXT_SECOND_BUDGET);
+    }
+    if 0 < count {
+        return Line::Fault(TEXT_BUDGET_NOT_FIRST);
     }
     let read = numbers_in(rest, BUDGET_NUMBERS, LARGEST_BUDGET);
     if read.fault != 0 {
@@ -214,12 +217,9 @@ fn task_of(button: bool, values: [u64; TASK_NUMBERS]) -> Task
     }
 }
 
-fn task_line(button: bool, rest: &[u8], given: bool, count: usize) -> Line
-    ensures { λ r. ⌜ r ≡ sortLine button given count (wordsOf (now (rest .entry))) ⌝ }
+fn task_line(button: bool, rest: &[u8], count: usize) -> Line
+    ensures { λ r. ⌜ r ≡ sortLine button count (wordsOf (now (rest .entry))) ⌝ }
 {
-    if !given {
-        return Line::Fault(TEXT_NO_BUDGET);
-    }
     if TASK_LIMIT <= count {
         return Line::Fault(TEXT_TOO_MANY_TASKS);
     }
@@ -243,13 +243,13 @@ fn line_of(line: &[u8], given: bool, count: usize) -> Line
     let name = &line[from..to];
     let rest = &line[to..];
     if pieces::same(name, b"budget") {
-        return budget_line(rest, given);
+        return budget_line(rest, given, count);
     }
     if pieces::same(name, b"task") {
-        return task_line(false, rest, given, count);
+        return task_line(false, rest, count);
     }
     if pieces::same(name, b"button") {
-        return task_line(true, rest, given, count);
+        return task_line(true, rest, count);
     }
     Line::Fault(TEXT_UNKNOWN_WORD)
 }
@@ -316,7 +316,7 @@ pub fn form_of(text: &[u8]) -> Contents
     ensures { λ r. ⌜ r ≡ textForm (now (text .entry)) ⌝ }
 {
     let mut given = false;
-    let mut budget: u64 = 0;
+    let mut budget = LARGEST_BUDGET;
     let mut table = tablefile::no_tasks();
     let mut line: u32 = 0;
     let mut left = text;
@@ -337,22 +337,13 @@ pub fn form_of(text: &[u8]) -> Contents
             }
         }
         if end == left.len() {
-            return ended(given, budget, table, line);
+            return Contents {
+                admission: Admission::Admitted,
+                budget,
+                table,
+            };
         }
         left = &left[end + 1..];
-    }
-}
-
-fn ended(given: bool, budget: u64, table: Table, line: u32) -> Contents
-    ensures { λ r. ⌜ r ≡ cond given (record { admission = Admission.Admitted; budget = budget; table = table }) (refuseFile 64 line) ⌝ }
-{
-    if !given {
-        return refused_line(TEXT_NO_BUDGET, line);
-    }
-    Contents {
-        admission: Admission::Admitted,
-        budget,
-        table,
     }
 }
 

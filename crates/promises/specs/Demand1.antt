@@ -35,7 +35,7 @@ use Rattle.dispatch.specs.declared.Dispatcher.{Dispatcher}
 use Rattle.dispatch.specs.declared.Started.{Started}
 use Rattle.dispatch.specs.declared.Stepped.{Stepped}
 use Rattle.dispatch.specs.State.{startedOf, steppedOf, one-started, one-stepped}
-use Rattle.model.specs.Report.{Exported, refused, written, FileTold, Checked, refusalLine, Printed}
+use Rattle.model.specs.Report.{Exported, reportOf, refused, reportWritten, FileTold, Checked, refusalLine, Printed}
 use Rattle.model.specs.Notation.{count, first, bits}
 use Rattle.wellformed.specs.Round.{round-pos, period-divides, round-least}
 use Rattle.wellformed.specs.WellFormed.{mixed-iff, judged-iff, periodic-iff, refused-both}
@@ -108,10 +108,10 @@ some-answer t budget = (answerOf t budget, computed t budget)
 -- The exported call has one permitted result, number and buffer, for every file and buffer.
 pub one-export : (file buffer : List ℕ) (e f : Exported) → Checked file buffer e → Checked file buffer f → e ≡ f
 one-export file buffer e f =
-    told-once (λ r. refused r buffer) (λ s. written s buffer) (fileRead file) e f (taken file buffer)
+    told-once (λ r. refused r buffer) (reportWritten buffer) (fileRead file) e f (taken reportBytes file buffer)
 
 pub some-export : (file buffer : List ℕ) → (e : Exported) × Checked file buffer e
-some-export file buffer = told-some (λ r. refused r buffer) (λ s. written s buffer) (fileRead file) (taken file buffer)
+some-export file buffer = told-some (λ r. refused r buffer) (reportWritten buffer) (fileRead file) (taken reportBytes file buffer)
 
 -- The exported call writes the report on the permitted answer (`Reported`), of at most `reportBytes`,
 -- and returns its length, or it refuses by a number above 0 and a place below 65,536 and changes no byte.
@@ -132,14 +132,14 @@ told-from-number r buffer h = (omega arith, omega arith)
 
 -- The program too has one permitted output for every input.
 pub one-print : (input out out′ : List ℕ) → Printed input out → Printed input out′ → out ≡ out′
-one-print input out out′ = told-once refusalLine (λ s. s) (fileRead input) out out′ (fileRead input .admission)
+one-print input out out′ = told-once refusalLine reportOf (fileRead input) out out′ (fileRead input .admission)
 
 pub some-print : (input : List ℕ) → (out : List ℕ) × Printed input out
-some-print input = told-some refusalLine (λ s. s) (fileRead input) (fileRead input .admission)
+some-print input = told-some refusalLine reportOf (fileRead input) (fileRead input .admission)
 
 -- What it prints of one byte more than the longest legal file has is permitted of the whole input.
 pub whole-input : (input out : List ℕ) → Printed (take (suc longestFile) input) out → Printed input out
-whole-input input out = subst (λ (l : Contents). FileTold refusalLine (λ s. s) l out (l .admission)) (first-bytes input)
+whole-input input out = subst (λ (l : Contents). FileTold refusalLine reportOf l out (l .admission)) (first-bytes input)
 
 -- Nor does what the calls read of a file, its form and its table, depend on any byte behind these.
 pub whole-file : (file : List ℕ)
@@ -208,18 +208,18 @@ record-bytes = tablefile.record-length
 pub refused-export : (file buffer : List ℕ) (e : Exported) (r : Refusal) → ltb (length buffer) reportBytes ≡ false
     → periodicFrom file .admission ≡ Admission.Refused r → Checked file buffer e → e ≡ refused r buffer
 refused-export file buffer e r long q checked = elim (periodic-refused file r q) [
-  | inl f ↦ told-refused (λ r. refused r buffer) (λ s. written s buffer)
-      (fileRead file) e r (taken file buffer) (rw long f) checked
-  | inr (f, j) ↦ button-refused (λ r. refused r buffer) (λ s. written s buffer)
-      (fileRead file) e r (taken file buffer) (rw long f) j checked
+  | inl f ↦ told-refused (λ r. refused r buffer) (reportWritten buffer)
+      (fileRead file) e r (taken reportBytes file buffer) (rw long f) checked
+  | inr (f, j) ↦ button-refused (λ r. refused r buffer) (reportWritten buffer)
+      (fileRead file) e r (taken reportBytes file buffer) (rw long f) j checked
 ]
 
 -- A short buffer is refused by 30 at its length, before the file is looked at, and stays as it was.
 pub short-buffer : (file buffer : List ℕ) (e : Exported)
     → ltb (length buffer) reportBytes ≡ true → Checked file buffer e → e ≡ refused (refusal 30 (length buffer)) buffer
 short-buffer file buffer e short =
-    told-refused (λ r. refused r buffer) (λ s. written s buffer)
-    (fileRead file) e (refusal 30 (length buffer)) (taken file buffer) (rw short)
+    told-refused (λ r. refused r buffer) (reportWritten buffer)
+    (fileRead file) e (refusal 30 (length buffer)) (taken reportBytes file buffer) (rw short)
 
 -- The refusal of a table is handed on as it is: by its judge, of a file whose form is good, by a start and by a step.
 pub refused-table : (t : Table) (r : Refusal) → judged t ≡ Judgement.Refused r

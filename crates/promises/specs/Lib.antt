@@ -6,6 +6,7 @@ pub mod Demand2
 pub mod Demand3
 pub mod Tables
 pub mod ReportTold
+pub mod AnswerNumbers
 pub mod Camera
 pub mod Writer
 pub mod PlainText

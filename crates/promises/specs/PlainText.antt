@@ -19,11 +19,11 @@ use Rattle.model.specs.Tasks.{judgedMixed}
 use Rattle.model.specs.TableFile.{admit, fileOf, formOf, fileRead}
 use Rattle.model.specs.Report.{refused}
 use Rattle.model.specs.Writer.{fitted, tasksOf, fileWritten}
-use Rattle.model.specs.PlainText.{textForm, textRead, textOf, textWritten, fromText, toText, fromTextExported}
+use Rattle.model.specs.PlainText.{largestBudget, textForm, textRead, taskTexts, textOf, textWritten, fromText, toText, fromTextExported}
 use Rattle.model.specs.PlainText.{toTextExported}
 use Rattle.tablefile.specs.Written.{AllFit}
 use Rattle.writer.specs.RoundTrip.{tasks-back}
-use Rattle.plaintext.specs.Canonical.{text-read, text-nothing}
+use Rattle.plaintext.specs.Canonical.{text-read, tasks-text-read, text-nothing}
 use Rattle.plaintext.specs.RoundTrip as round
 use Rattle.plaintext.specs.Told as told
 
@@ -32,6 +32,10 @@ use Rattle.plaintext.specs.Told as told
 pub text-is-read : (b : ℕ) (ks : List Task) → 0 < b → b < budgetLimit → AllFit ks → length ks ≤ taskLimit
     → textForm (textOf b ks) ≡ admit b ks
 text-is-read = text-read
+
+-- A text without a budget holds its tasks and the largest budget, so that a test looks as far as it must.
+pub no-budget-is-read : (ks : List Task) → AllFit ks → length ks ≤ taskLimit → textForm (taskTexts ks) ≡ admit largestBudget ks
+no-budget-is-read = tasks-text-read
 
 -- That of a budget of 0 is refused by 27 at its first line, whatever follows.
 pub text-of-nothing : (ks : List Task) → admissionSaid (textForm (textOf 0 ks) .admission) ≡ 27 ∷ 1 ∷ []

@@ -1,5 +1,5 @@
 -- What a permitted answer tells: a refusal of which number and place can be told, or a verdict whose report fits a report buffer.
-use mathlib.Core.Path.{_≡_, refl, sym, subst}
+use mathlib.Core.Path.{_≡_, refl, sym, ap, subst}
 use mathlib.Core.Bool.{Bool}
 use mathlib.Core.List.{List}
 use Prim.Native.Nat.{ℕ, _^_, _≤_, _<_}
@@ -102,6 +102,18 @@ module _ (t : Table) (m : Measure) (well : WellFormed t m) where
         go Verdict.Overload e f x = rw f (brief-printable Verdict.Overload x)
         go (Verdict.Late from to asked) e f x = rw f (brief-printable (Verdict.Late from to asked) x)
         go Verdict.Undecided e f x = rw f (brief-printable Verdict.Undecided x)
+
+-- So is each number of a permitted answer with a verdict.
+pub permitted-printable : (t : Table) (budget : ℕ) (a : Answer) (v : Verdict) → a .outcome ≡ Outcome.Tested v → Permitted t budget a → Printable (t .count) a v
+unfolding Permitted
+permitted-printable t budget a v o p = go (judged t) refl p
+  where
+    go : (j : Judgement) → judged t ≡ j → PermittedBy t budget a j → Printable (t .count) a v
+    go (Judgement.Refused r) q f = let z : _≡_ {A = ℕ} 0 1 = cc (ap (λ (x : Answer). x .outcome) f) in absurd (omega arith)
+    go (Judgement.WellFormed m) q f =
+        let says = answers-say t budget m a (verdict t budget) f .0 in
+        let same : verdict t budget ≡ v = cc in
+        subst (Printable (t .count) a) same (printable t m (well-formed t m q) budget a (verdict t budget) refl f)
 
 -- A refusal is tellable, and the report of a verdict fits.
 abbrev pub Fitting : ℕ → Bool → Answer → Outcome → Type 0

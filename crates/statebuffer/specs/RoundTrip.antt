@@ -17,7 +17,7 @@ use Rattle.words.specs.Bytes.{bytes-append}
 use Rattle.statebuffer.specs.Words.{halves-length, buffer-length}
 
 -- Behind a word the next one is read four bytes further on.
-behind : (a b c d : ℕ) (s : List ℕ) (at : ℕ) → getD (a ∷ b ∷ c ∷ d ∷ s) (4 + at) 0 ≡ getD s at 0
+pub behind : (a b c d : ℕ) (s : List ℕ) (at : ℕ) → getD (a ∷ b ∷ c ∷ d ∷ s) (4 + at) 0 ≡ getD s at 0
 behind a b c d s at = let e : 4 + at ≡ suc (suc (suc (suc at))) = omega arith in rw e
 
 four-behind : (x : ℕ) (s : List ℕ) (at : ℕ) → four (wordBytes x ++ s) (4 + at) ≡ four s at
@@ -37,7 +37,8 @@ word-at (x ∷ w) (suc i) l h =
     rw e (four-behind x (bytesOf w) (4 * i) ∙ word-at w i (omega arith) h)
 
 -- Each half of a count stands at its place among the words.
-half-at : (w : List ℕ) (i : ℕ) → i < length w → (getD (halves w) (2 * i) 0 ≡ getD w i 0 % wordLimit) × (getD (halves w) (2 * i + 1) 0 ≡ getD w i 0 / wordLimit)
+pub half-at : (w : List ℕ) (i : ℕ) → i < length w
+    → (getD (halves w) (2 * i) 0 ≡ getD w i 0 % wordLimit) × (getD (halves w) (2 * i + 1) 0 ≡ getD w i 0 / wordLimit)
 unfolding halves
 half-at [] i l = absurd (omega arith)
 half-at (x ∷ w) zero l = (refl, refl)
@@ -74,7 +75,7 @@ pub record Fits (d : State) : Type 0 where
   pub empty-fits : d .empty < budgetLimit
 
 -- Numbers that are read where those of a list stand are that list.
-list-back : (f : ℕ → ℕ) (w : List ℕ) → length w ≡ taskLimit → ((i : ℕ) → i < taskLimit → f i ≡ getD w i 0) → fill taskLimit f (replicate taskLimit 0) ≡ w
+pub list-back : (f : ℕ → ℕ) (w : List ℕ) → length w ≡ taskLimit → ((i : ℕ) → i < taskLimit → f i ≡ getD w i 0) → fill taskLimit f (replicate taskLimit 0) ≡ w
 list-back f w size same =
     ext-getD 0 (fill taskLimit f (replicate taskLimit 0)) w (filled ∙ sym size)
     (λ i l. fill-passed taskLimit f (replicate taskLimit 0) i 0 (omega (arith, filled)) (omega (arith, filled, length-replicate {A = ℕ} taskLimit 0))
@@ -183,7 +184,7 @@ module _ (d : State) (u : Turn) (fits : Fits d) where
   buffer-size = buffer-length d u (fits .waits) (fits .lefts) (fits .gives)
 
 -- A state at the front of a buffer is read from there alone.
-four-front : (a b : List ℕ) (at : ℕ) → at + 4 ≤ length a → four (a ++ b) at ≡ four a at
+pub four-front : (a b : List ℕ) (at : ℕ) → at + 4 ≤ length a → four (a ++ b) at ≡ four a at
 four-front a b at h =
     rw (
       List·getD-append a b 0 at (omega arith),
@@ -192,7 +193,7 @@ four-front a b at h =
       List·getD-append a b 0 (at + 3) (omega arith),
     )
 
-eight-front : (a b : List ℕ) (at : ℕ) → at + 8 ≤ length a → eight (a ++ b) at ≡ eight a at
+pub eight-front : (a b : List ℕ) (at : ℕ) → at + 8 ≤ length a → eight (a ++ b) at ≡ eight a at
 eight-front a b at h = let low = four-front a b at (omega arith) in let high = four-front a b (at + 4) (omega arith) in omega arith
 
 pub state-front : (a b : List ℕ) → length a ≡ stateBytes → stateIn (a ++ b) ≡ stateIn a

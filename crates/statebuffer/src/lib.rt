@@ -88,7 +88,7 @@ pub fn put_state(buffer: &mut [u8], d: State, turn: Turn) -> usize
     words::put_long(buffer, at, d.empty)
 }
 
-fn put_words(buffer: &mut [u8], at: usize, words: Numbers) -> usize
+pub fn put_words(buffer: &mut [u8], at: usize, words: Numbers) -> usize
     requires { ⌜ at + 4 * taskLimit ≤ length (now buffer) ⌝ }
     ensures { λ r. ⌜ Put (bytesOf words) at (now (buffer .entry)) (now (buffer .exit)) r ⌝ }
     ensures { λ r. ⌜ r ≡ at + 4 * taskLimit ⌝ }

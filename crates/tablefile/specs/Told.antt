@@ -1,8 +1,10 @@
 -- What may be told of a file, by its form and the judgement of its table alone.
 use mathlib.Core.Path.{_≡_, refl, sym, ap, subst, _∙_}
+use mathlib.Core.Bool.{Bool}
 use mathlib.Core.List.{List}
 use Rattle.values.specs.declared.Table.{Table}
 use Rattle.values.specs.declared.Refusal.{Refusal}
+use Rattle.values.specs.declared.Verdict.{Verdict}
 use Rattle.values.specs.declared.Outcome.{Outcome}
 use Rattle.values.specs.declared.Answer.{Answer}
 use Rattle.values.specs.declared.Judgement.{Judgement}
@@ -16,12 +18,12 @@ use Rattle.model.specs.Report.{outcomeTold, FileTold}
 use Rattle.wellformed.specs.WellFormed.{refused-both}
 
 -- A table's refusal, or the outcome of the permitted answer.
-abbrev pub TableTold : {A : Type 0} → (Refusal → A) → (List ℕ → A) → Table → ℕ → A → Judgement → Type 0
+abbrev pub TableTold : {A : Type 0} → (Refusal → A) → (ℕ → Bool → Answer → Verdict → A) → Table → ℕ → A → Judgement → Type 0
 TableTold refuse tell t budget x (Judgement.Refused r) = x ≡ refuse r
 TableTold refuse tell t budget x (Judgement.WellFormed m) =
     (a : Answer) × Permitted t budget a × (x ≡ outcomeTold refuse tell (t .count) (quickPass t) a (a .outcome))
 
-module _ {A : Type 0} (refuse : Refusal → A) (tell : List ℕ → A) (file : List ℕ) where
+module _ {A : Type 0} (refuse : Refusal → A) (tell : ℕ → Bool → Answer → Verdict → A) (file : List ℕ) where
   abbrev t : Table
   t = formOf file .table
 

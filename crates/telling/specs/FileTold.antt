@@ -1,11 +1,13 @@
 -- WHAT IS TOLD OF A FILE (`told-once`): it is one thing only; there is always something to tell (`told-some`);
 -- and of a refused file, or of one with a button, it is its refusal (`told-refused`, `button-refused`).
 use mathlib.Core.Path.{_≡_, refl, sym, _∙_}
-use mathlib.Core.List.{List}
+use mathlib.Core.Bool.{Bool}
 use Prim.Native.Nat.{ℕ}
 use native.Mathlib.Omega.{arith}
 use Rattle.values.specs.declared.Refusal.{Refusal}
 use Rattle.values.specs.declared.Judgement.{Judgement}
+use Rattle.values.specs.declared.Verdict.{Verdict}
+use Rattle.values.specs.declared.Answer.{Answer}
 use Rattle.values.specs.declared.Admission.{Admission}
 use Rattle.values.specs.declared.Contents.{Contents}
 use Rattle.model.specs.Tasks.{judged}
@@ -15,7 +17,7 @@ use Rattle.model.specs.Report.{outcomeTold, FileTold}
 use Rattle.backlog.specs.Unique.{permitted-unique}
 use Rattle.backlog.specs.Computed.{answerOf, computed}
 
-module _ {A : Type 0} (refuse : Refusal → A) (tell : List ℕ → A) (l : Contents) where
+module _ {A : Type 0} (refuse : Refusal → A) (tell : ℕ → Bool → Answer → Verdict → A) (l : Contents) where
   pub told-once : (x y : A) (a : Admission) → FileTold refuse tell l x a → FileTold refuse tell l y a → x ≡ y
   told-once x y (Admission.Refused r) e f = e ∙ sym f
   told-once x y Admission.Admitted (a, p, e) (b, q, f) =

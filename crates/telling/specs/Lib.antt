@@ -11,9 +11,10 @@ pub mod Apart
 pub mod Determined
 pub mod Passes
 pub mod ReadOff
--- The exact test's answers.
+-- The exact test's answers, and an answer as numbers.
 pub mod Answers
 pub mod Passed
+pub mod Answered
 pub mod Late
 pub mod Longer
 pub mod AnyOrder

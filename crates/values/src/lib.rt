@@ -11,6 +11,8 @@ pub const LONGEST_FILE: usize = 9 + TASK_LIMIT * 17 + 1;
 
 pub const REPORT_BYTES: usize = 1024;
 
+pub const ANSWER_BYTES: usize = 8 * 8 + 4 * (4 + TASK_LIMIT);
+
 pub const STATE_BYTES: usize = 4 * (TASK_LIMIT + TASK_LIMIT + 4) + 8 * (TASK_LIMIT + 1);
 
 pub const SLOT_COUNT_LIMIT: u64 = 0xffff_ffff_ffff_ffff;
@@ -86,11 +88,20 @@ pub const TEXT_LARGE_NUMBER: u32 = 62;
 
 pub const TEXT_WRONG_COUNT: u32 = 63;
 
-pub const TEXT_NO_BUDGET: u32 = 64;
+pub const TEXT_BUDGET_NOT_FIRST: u32 = 64;
 
 pub const TEXT_SECOND_BUDGET: u32 = 65;
 
 pub const TEXT_TOO_MANY_TASKS: u32 = 66;
+
+// The numbers of verdicts in the answer of a check, section 9 of the specification.
+pub const OVERLOAD: u32 = 1;
+
+pub const UNDECIDED: u32 = 2;
+
+pub const LATE: u32 = 3;
+
+pub const PASSES: u32 = 4;
 
 // How the jobs of a task come: from an offset on, every period, or as a button is pressed, with no offset at all.
 pub enum Sort {
@@ -161,6 +172,23 @@ pub struct Answer {
     pub settled: u64,
     pub worst: [u32; TASK_LIMIT],
     pub idle: u64,
+}
+
+// The whole answer of a check as numbers, as a C program reads it: `quick` is 1 for pass, and `verdict` the number by which the
+// verdict is said.
+pub struct AnswerNumbers {
+    pub round: u64,
+    pub load: u64,
+    pub horizon: u64,
+    pub settled: u64,
+    pub idle: u64,
+    pub from: u64,
+    pub to: u64,
+    pub demand: u64,
+    pub tasks: u32,
+    pub quick: u32,
+    pub verdict: u32,
+    pub worst: [u32; TASK_LIMIT],
 }
 
 // What the quick test says: a refusal, pass, or no answer.

@@ -1,6 +1,7 @@
 // The exported calls, as C makes them: each is a call of its kind, and nothing more.
 ghost use mathlib.Core.Path.{_≡_};
 ghost use Rattle.model.specs.Report.{quickExported, distanceExported, Checked};
+ghost use Rattle.model.specs.AnswerBuffer.{Answered};
 ghost use Rattle.model.specs.ReportRead.{passesExported};
 ghost use Rattle.model.specs.StateBuffer.{startExported, stepExported};
 ghost use Rattle.model.specs.LogBuffer.{logStartExported, logFeedExported, logFinishExported};
@@ -22,6 +23,14 @@ pub extern "C" fn yolizadwa_check_plainly(file: &[u8], report: &mut [u8]) -> u64
     ensures { λ r. ⌜ Checked (now (file .entry)) (now (report .entry)) (record { number = r; buffer = now (report .exit) }) ⌝ }
 {
     checkcalls::check(file, report, true)
+}
+
+// The same answer as numbers.
+#[no_mangle]
+pub extern "C" fn yolizadwa_answer(file: &[u8], answer: &mut [u8]) -> u64
+    ensures { λ r. ⌜ Answered (now (file .entry)) (now (answer .entry)) (record { number = r; buffer = now (answer .exit) }) ⌝ }
+{
+    checkcalls::answer(file, answer)
 }
 
 #[no_mangle]

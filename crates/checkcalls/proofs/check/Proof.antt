@@ -5,6 +5,8 @@ use native.Mathlib.Omega.{arith}
 use lib.ListN.{length}
 use borrow.Author.Needs.{needs}
 use borrow.Author.Tests.{lt-ltb, le-ltb}
+use Rattle.model.specs.Report.{refused, reportWritten}
+use Rattle.checkcalls.specs.Outcomes.{told-of}
 use Rattle.checkcalls.proofs.check.Statement.{statement}
 use Rattle.checkcalls.proofs.check.Tie as tie
 
@@ -17,7 +19,11 @@ returns c =
 returns-2 : tie.Need-returns-2
 returns-2 c =
     let e = c .before .before in
-    rw (le-ltb _ _ (e .before .before .if1 .left)) (e .check-file .ensures)
+    let f = e .before .before in
+    let long = f .before in
+    let s = long .before .before .before .args in
+    let told = told-of (λ r. refused r (s .report .now)) (reportWritten (s .report .now)) (s .file .now) (f .check-file .result) (f .check-file .ensures .0) in
+    rw (le-ltb _ _ (long .if1 .left), e .export-report .ensures) told
 
 pub check-spec : {M : Type 1} → statement M
-check-spec = tie.close (tie.spec (λ c κs. search needs) returns (λ c κs. search needs) (λ c. search needs) returns-2)
+check-spec = tie.close (tie.spec (λ c κs. search needs) returns (λ c κs. search needs) (λ c κs. search needs) (λ c. search needs) returns-2)

@@ -2,7 +2,7 @@
 use mathlib.Core.Path.{sym, ap, _∙_}
 use borrow.Author.Needs.{needs}
 use Rattle.values.specs.declared.Contents.{Contents}
-use Rattle.model.specs.Report.{refusalLine}
+use Rattle.model.specs.Report.{reportOf, refusalLine}
 use Rattle.tablefile.specs.Told.{form-refused, table-told}
 use Rattle.judge.specs.Front.{front, counted}
 use Rattle.judge.proofs.judge.Statement.{statement}
@@ -14,7 +14,7 @@ returns c =
     let known = w .before .before .before in
     let form = known .before .before .form-of .ensures in
     let line = w .write-refusal .ensures .0 in
-    let told = form-refused refusalLine (λ report. report) _ _ (ap (λ (l : Contents). l .admission) (sym form) ∙ known .admission .given .1) in
+    let told = form-refused refusalLine reportOf _ _ (ap (λ (l : Contents). l .admission) (sym form) ∙ known .admission .given .1) in
     let piece = refusalLine (known .admission .given .0 .0) in
     (rw (front piece _ line) told, counted piece _ line)
 
@@ -24,7 +24,7 @@ returns-2 c =
     let good = w .before .before .before in
     let form = good .before .before .form-of .ensures in
     let (piece, text, said) = w .judge-table .ensures in
-    let told = table-told refusalLine (λ report. report) _ piece (ap (λ (l : Contents). l .admission) (sym form) ∙ good .enum-told .given .1)
+    let told = table-told refusalLine reportOf _ piece (ap (λ (l : Contents). l .admission) (sym form) ∙ good .enum-told .given .1)
     (rw form at said) in
     (rw (front piece _ text) told, counted piece _ text)
 

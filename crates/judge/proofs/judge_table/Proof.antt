@@ -4,7 +4,7 @@ use mathlib.Core.Bool.{Bool}
 use borrow.Author.Needs.{needs}
 use Rattle.values.specs.declared.Judgement.{Judgement}
 use Rattle.model.specs.Tasks.{judged}
-use Rattle.model.specs.Report.{outcomeTold, refusalLine}
+use Rattle.model.specs.Report.{reportOf, outcomeTold, refusalLine}
 use Rattle.wellformed.specs.WellFormed.{periodic-iff, well-formed}
 use Rattle.judge.proofs.judge_table.Statement.{statement}
 use Rattle.judge.proofs.judge_table.Tie as tie
@@ -27,7 +27,7 @@ returns-2 c =
     let m = x .before .before in
     let s = m .before .before .before .before .args in
     let a = x .tested .result in
-    let passed = ap (λ (q : Bool). outcomeTold refusalLine (λ report. report) (s .t .count) q a (a .outcome)) (p .passes .ensures) in
+    let passed = ap (λ (q : Bool). outcomeTold refusalLine reportOf (s .t .count) q a (a .outcome)) (p .passes .ensures) in
     rw (← m .before .before .judge .ensures, m .m .given .1) (_, text .write-outcome .ensures .0, (a, x .tested .ensures, passed))
 
 pub judge-table-spec : {M : Type 1} → statement M

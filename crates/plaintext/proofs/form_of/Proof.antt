@@ -63,13 +63,13 @@ returns c =
 
 returns-2 : tie.Need-returns-2 Inv-loop μ-loop
 returns-2 c =
-    let came = c .before .before in
+    let came = c .before in
     let found = came .before .before .before .before in
     let turn = found .before in
-    c .ended .ensures ∙ text-ends (rw (last-line (turn .loop .left .now) (turn .loop .inv .1) (omega (
+    text-ends (rw (last-line (turn .loop .left .now) (turn .loop .inv .1) (omega (
       arith,
       found .find .ensures .0,
-      c .before .if1 .taken,
+      c .if1 .taken,
     ))) at (joined came))
 
 add-left : tie.Need-add-left Inv-loop μ-loop
@@ -99,5 +99,5 @@ form-of-spec =
     (tie.spec
     Inv-loop μ-loop (λ c κs. search needs) loop-holds (λ c κs. search needs) next-line-requires (λ c. search needs) (λ c. search needs)
     (λ c. search needs) (λ c κs. search needs) (λ c. search needs) (λ c. search needs) (λ c. search needs) with-task-requires
-    (λ c. search needs) (λ c κs. search needs) returns (λ c κs. search needs) returns-2 add-left (λ c. search needs) (λ c. search needs)
+    (λ c. search needs) (λ c κs. search needs) returns returns-2 add-left (λ c. search needs) (λ c. search needs)
     (λ c. search needs) loop-less loop-again)

@@ -1,7 +1,7 @@
--- Whether a budget was given decides first, then the room, then the numbers.
+-- The room decides first, then the numbers.
 use native.Mathlib.Omega.{arith}
 use borrow.Author.Needs.{needs}
-use borrow.Author.Tests.{not-true, not-false, le-leb}
+use borrow.Author.Tests.{le-leb}
 use Rattle.model.specs.Limits.{wordLimit}
 use Rattle.model.specs.PlainText.{wordsOf, taskLine}
 use Rattle.plaintext.specs.Numbers.{NumbersRead}
@@ -11,38 +11,31 @@ use Rattle.plaintext.proofs.task_line.Tie as tie
 
 returns : tie.Need-returns
 unfolding taskLine
-returns c = rw (not-true (c .before .before .args .given) (c .if1 .taken))
-
-returns-2 : tie.Need-returns-2
-unfolding taskLine
-returns-2 c = rw (not-false (c .before .before .before .args .given) (c .before .if1 .left), le-leb _ _ (c .if2 .taken))
+returns c = rw (le-leb _ _ (c .if1 .taken))
 
 numbers-in-requires : tie.Need-numbers-in-requires
-numbers-in-requires c κs = (omega (arith, c .numbers-due .ensures, due-le (c .before .before .before .before .args .button)), omega arith)
+numbers-in-requires c κs = (omega (arith, c .numbers-due .ensures, due-le (c .before .before .before .args .button)), omega arith)
 
 -- The numbers that were read are those of the line's sort.
-read : (c : tie.After-numbers-in) → let a = c .before .before .before .before .before .args in NumbersRead wordLimit (numbersDue (a .button))
+read : (c : tie.After-numbers-in) → let a = c .before .before .before .before .args in NumbersRead wordLimit (numbersDue (a .button))
     (wordsOf (a .rest .now)) (c .numbers-in .result .fault) (c .numbers-in .result .values)
 read c = rw (← c .before .numbers-due .ensures) (c .numbers-in .ensures)
 
-returns-3 : tie.Need-returns-3
-returns-3 c =
+returns-2 : tie.Need-returns-2
+returns-2 c =
     let numbers = c .before .before in
-    let room = numbers .before .before in
-    let a = room .before .before .before .args in
-    rw (not-false (a .given) (room .before .if1 .left)) (task-fault (a .button) (a .count) (omega arith) (read numbers) (c .if3 .taken))
+    let a = numbers .before .before .before .before .args in
+    task-fault (a .button) (a .count) (omega arith) (read numbers) (c .if2 .taken)
 
 task-of-requires : tie.Need-task-of-requires
-task-of-requires c κs = let tested = c .before in read (tested .before .before) .below (tested .if3 .left)
+task-of-requires c κs = let tested = c .before in read (tested .before .before) .below (tested .if2 .left)
 
-returns-4 : tie.Need-returns-4
-returns-4 c =
+returns-3 : tie.Need-returns-3
+returns-3 c =
     let tested = c .before .before in
     let numbers = tested .before .before in
-    let room = numbers .before .before in
-    let a = room .before .before .before .args in
-    rw (not-false (a .given) (room .before .if1 .left))
-    (task-good (a .button) (a .count) (omega arith) (read numbers) (tested .if3 .left) (c .task-of .ensures))
+    let a = numbers .before .before .before .before .args in
+    task-good (a .button) (a .count) (omega arith) (read numbers) (tested .if2 .left) (c .task-of .ensures)
 
 pub task-line-spec : {M : Type 1} → statement M
-task-line-spec = tie.close (tie.spec returns returns-2 (λ c κs. search needs) numbers-in-requires returns-3 task-of-requires returns-4)
+task-line-spec = tie.close (tie.spec returns (λ c κs. search needs) numbers-in-requires returns-2 task-of-requires returns-3)
