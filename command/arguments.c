@@ -46,14 +46,25 @@ static int take_output(const struct word *word, const char *name, struct request
     return 1;
 }
 
-static int take_setting(const struct word *word, const char *setting, struct request *request)
+/* An option that may stand there several times, and its list. */
+static int take_one_more(const struct word *word, const char *option, const char *value, const char **list, unsigned *count)
 {
-    if (request->settings == MOST_SETTINGS) {
-        misuse(word, "--set stands there too often", "");
+    if (*count == MOST_SETTINGS) {
+        misuse(word, option, " stands there too often");
         return 0;
     }
-    request->set[request->settings++] = setting;
+    list[(*count)++] = value;
     return 1;
+}
+
+static int take_setting(const struct word *word, const char *setting, struct request *request)
+{
+    return take_one_more(word, "--set", setting, request->set, &request->settings);
+}
+
+static int take_press(const struct word *word, const char *press, struct request *request)
+{
+    return take_one_more(word, "--press", press, request->press, &request->presses);
 }
 
 /* The library says that a budget of 0 is none. */
@@ -109,6 +120,7 @@ static const struct option options[] = {
     {"--names", "the name of a text", take_names, 0},
     {"--output", "the name of a file", take_output, 0},
     {"--set", "a change, as in lens.cost=9 or 0.cost=9", take_setting, 0},
+    {"--press", "a button and slots, as in shutter@3,60 or 3@3,60", take_press, 0},
     {"--budget", "a number from 1 to 18446744073709551615", take_budget, 0},
     {"--slots", "a number from 1 to 1000000", take_slots, 0},
     {"--from", "a number from 0 to 999999", take_from, 0},
@@ -151,7 +163,7 @@ static const struct option *option_of(const struct word *word, const char *argum
 
 static int needs_value(const struct word *word, const struct option *option)
 {
-    char needs[64];
+    char needs[96];
     snprintf(needs, sizeof needs, "%s needs %s", option->name, option->needs);
     misuse(word, needs, "");
     return 0;

@@ -15,6 +15,7 @@ struct chart {
     struct yolizadwa_state ended; /* after the last slot */
     char rows[YOLIZADWA_TASKS][MOST_COLUMNS]; /* for each slot the instant before it, then the slot */
     struct late_list late;
+    struct press_list pressed;
     uint8_t *log; /* NULL: none is kept */
     size_t log_len;
 };

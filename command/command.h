@@ -28,6 +28,8 @@ struct request {
     const char *names; /* a text that lends its names, or NULL */
     const char *set[MOST_SETTINGS];
     unsigned settings;
+    const char *press[MOST_SETTINGS];
+    unsigned presses;
     int budget_told;
     uint64_t budget;
     const char *log; /* where the log of a run goes, or NULL */
@@ -118,6 +120,9 @@ unsigned task_count(const struct table *table);
 unsigned button_count(const struct table *table);
 struct task task_at(const struct table *table, unsigned number);
 
+/* The table with each button as a task: pressed at 0 and every spacing after. */
+void pressed_often(const struct table *table, struct table *tasks);
+
 /* Refusals in words, and for a text the line. */
 int say_refusal(const struct source *source, uint64_t result);
 int say_button(const struct source *source, const char *what, uint64_t result);
@@ -183,6 +188,19 @@ const char *quick_words(uint64_t answer);
 uint64_t ask_distance(const struct table *table);
 const char *distance_words(const struct table *table, uint64_t answer); /* the caller adds to none, without buttons, who tells */
 int distance_status(uint64_t answer);
+
+/* Where that is none and the table has buttons: the exact test of one way to press them, within the table's budget. If that is late, no way
+ * to give out the slots keeps every deadline, which is proved. */
+struct certain {
+    int is_asked;
+    struct table tasks; /* each button as a task */
+    struct yolizadwa_numbers numbers;
+};
+void ask_certain(const struct table *table, uint64_t answer, struct certain *certain);
+int is_late_for_certain(const struct certain *certain);
+int certain_status(const struct table *table, uint64_t answer, const struct certain *certain);
+const char *certain_words(const struct table *table, uint64_t answer, const struct certain *certain); /* until it is asked again */
+void word_certain(const struct table *table, uint64_t answer, const struct certain *certain, struct sentence *sentence);
 uint64_t ask_largest(const struct table *table, uint32_t first, unsigned rows, uint64_t *told);
 
 void tell_tasks(unsigned done, unsigned all, double seconds); /* as progress */
@@ -193,28 +211,6 @@ int find_remedies(const struct table *table, const struct yolizadwa_numbers *num
 void say_remedies(const struct table *table, const struct yolizadwa_numbers *numbers, int however_long);
 void say_load(const struct yolizadwa_numbers *numbers);
 const char *percent(uint64_t part, uint64_t whole); /* until it is asked again */
-
-/* A run, slot by slot: how many slots were taken, and the states before and after the last of them. */
-struct course {
-    const struct table *table;
-    unsigned tasks;
-    struct task task[YOLIZADWA_TASKS];
-    int early;
-    uint32_t done; /* what the next step is told */
-    uint64_t slots;
-    struct yolizadwa_state before, state;
-};
-void begin_course(struct course *course, const struct table *table, int early);
-uint64_t take_slot(struct course *course);
-int is_idle(const struct course *course);
-
-/* The jobs that the steps of a course closed late: the first 100, and how many in all. */
-struct late_list {
-    struct job jobs[JOBS_SHOWN];
-    unsigned long count;
-};
-void note_late(struct late_list *list, const struct course *course); /* in the last step */
-void print_late(const struct late_list *list, const struct table *table, uint64_t slots);
 
 /* The words of the command. */
 int judge(const struct request *request);

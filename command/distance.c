@@ -10,8 +10,8 @@ static const char *overload_words(int buttons)
 
 static const char *pass_words(int buttons)
 {
-    return buttons ? "distance pass\n\npass: whenever the buttons are pressed, each at least its spacing apart, the slots can be given out so "
-                     "that\nevery job is in time"
+    return buttons ? "distance pass\n\npass: whenever the buttons are pressed, every job is in time; a press that comes too early is not "
+                     "taken"
                    : "distance pass\n\npass: every job is in time";
 }
 
@@ -24,9 +24,8 @@ static const char *none_words(int buttons, int tasks)
                "pass or be late";
     }
     return tasks ? "distance none\n\nno answer: the test starts each task in turn at 0, with every button, and releases every other task as "
-                   "soon after\nit as the offsets ever allow, and one of these runs has a late job; the table may never have such a run, and no\n"
-                   "other test is for tables with buttons"
-                 : "distance none\n\nnone: if all buttons are pressed at once, and again as soon as they may be, a job is late; of buttons "
+                   "soon after\nit as the offsets ever allow, and one of these runs has a late job; the table may never have such a run"
+                 : "distance none\n\nnone: the buttons can be pressed so that no way to give out the slots keeps every deadline; of buttons "
                    "alone the\ntest is exact";
 }
 
@@ -70,31 +69,43 @@ static void say_buttons(const struct table *table)
     fputs(said == 0 ? "" : "\n", stdout);
 }
 
-static void distance_as_json(const struct request *request, const struct table *table, uint64_t answer)
+static void distance_as_json(const struct request *request, const struct table *table, uint64_t answer, const struct certain *certain)
 {
     static const char *const names[] = {"none", "pass", "overload"};
-    json_begin(request, 0, distance_status(answer));
+    json_begin(request, 0, certain_status(table, answer, certain));
     json_changes(table);
     json_text("distance", names[answer]);
     json_number("buttons", button_count(table));
+    json_certain(certain);
     json_end();
+}
+
+static void say_distance(const struct table *table, uint64_t answer, const struct certain *certain)
+{
+    const struct excess_list list = {0, "", put_plain};
+    int judge_tells = answer == YOLIZADWA_DISTANCE_NONE && button_count(table) == 0;
+    say_what_if(table);
+    printf("%s%s\n", certain_words(table, answer, certain), is_late_for_certain(certain) ? ":" : judge_tells ? ": judge tells" : "");
+    if (certain->is_asked) {
+        list_excess(&certain->tasks, &certain->numbers, &list);
+    }
+    say_buttons(table);
 }
 
 int distance(const struct request *request)
 {
     struct table table;
+    struct certain certain;
     int status = open_table(request, 0, stdout, &table);
     if (status != DONE) {
         return status;
     }
     uint64_t answer = ask_distance(&table);
+    ask_certain(&table, answer, &certain);
     if (request->json) {
-        distance_as_json(request, &table, answer);
-        return distance_status(answer);
+        distance_as_json(request, &table, answer, &certain);
+    } else {
+        say_distance(&table, answer, &certain);
     }
-    say_what_if(&table);
-    int judge_tells = answer == YOLIZADWA_DISTANCE_NONE && button_count(&table) == 0;
-    printf("%s%s\n", distance_words(&table, answer), judge_tells ? ": judge tells" : "");
-    say_buttons(&table);
-    return distance_status(answer);
+    return certain_status(&table, answer, &certain);
 }

@@ -2,7 +2,7 @@
 #ifndef JSON_H
 #define JSON_H
 
-#include "command.h"
+#include "course.h"
 
 void json_open(const char *key, char bracket);
 void json_close(char bracket);
@@ -28,5 +28,10 @@ void json_job(const struct table *table, const struct job *job, const char *amou
 void json_excess(const struct table *table, const struct yolizadwa_numbers *numbers, int all);
 void json_remedies(const struct table *table, const struct yolizadwa_numbers *numbers, int however_long);
 void json_late(const struct late_list *list, const struct table *table);
+void json_interval(const struct table *table, const struct yolizadwa_numbers *numbers, int all);
+
+/* Of a table with buttons: of one way to press them, and of a run. */
+void json_certain(const struct certain *certain);
+void json_presses(const struct press_list *list, const struct course *course);
 
 #endif

@@ -48,7 +48,7 @@ static void json_tasks(const struct table *table, const struct yolizadwa_numbers
     json_close(']');
 }
 
-static void json_interval(const struct table *table, const struct yolizadwa_numbers *numbers, int all)
+void json_interval(const struct table *table, const struct yolizadwa_numbers *numbers, int all)
 {
     json_open("interval", '{');
     json_number("from", numbers->from);

@@ -22,19 +22,29 @@ void tell_tasks(unsigned done, unsigned all, double seconds)
     tell_progress(words, words, seconds / done * (all - done));
 }
 
-/* An answer that is no cost is the same for every task of the table, so the first one is enough. */
+/* An answer that is no cost is the same for every task of the table, so the first one is enough. With buttons the distance test is asked. */
 uint64_t ask_largest(const struct table *table, uint32_t first, unsigned rows, uint64_t *told)
 {
+    uint64_t (*ask)(const uint8_t *, size_t, uint32_t) = button_count(table) > 0 ? yolizadwa_room : yolizadwa_largest;
     uint64_t answer = 0;
     double began = seconds_now();
     begin_progress();
     for (unsigned row = 0; row < rows && answer < YOLIZADWA_LARGEST_OVERLOAD; row++) {
-        answer = yolizadwa_largest(table->file, table->len, first + row);
+        answer = ask(table->file, table->len, first + row);
         told[row] = answer;
         tell_tasks(row + 1, rows, seconds_now() - began);
     }
     end_progress();
     return answer;
+}
+
+static void say_no_room(uint64_t answer)
+{
+    if (answer == YOLIZADWA_ROOM_OVERLOAD) {
+        printf("largest overload\n\noverload: with every button pressed as often as it may be, more slots are asked for than there are, so no cost\ncan grow\n");
+    } else {
+        printf("largest none\n\nnone: the distance test has no answer to the table as it is, so no cost is sure; distance tells more\n");
+    }
 }
 
 static void say_none(const struct table *table, uint64_t answer)
@@ -55,6 +65,11 @@ static void say_largest(const struct table *table, uint32_t first, unsigned rows
     print_heading(table);
     for (unsigned row = 0; row < rows; row++) {
         print_row(table, first + row, told[row]);
+    }
+    if (button_count(table) > 0) {
+        printf("\nthe distance test passes, and still does with %s cost at its largest; these costs are sure,\nand larger ones may be kept too\n",
+               rows == 1 ? "this" : "any one");
+        return;
     }
     printf("\nthe table passes, and still does with %s up to its deadline%s\n",
            rows == 1 ? "this cost at its largest, and with no larger one" : "any one cost at its largest, and with no larger one",
@@ -77,9 +92,25 @@ static void json_largest(const struct table *table, uint32_t first, unsigned row
     json_close(']');
 }
 
-static int status_of(uint64_t answer)
+static int status_of(const struct table *table, uint64_t answer)
 {
+    if (answer == YOLIZADWA_ROOM_NONE && button_count(table) > 0) {
+        return UNDECIDED;
+    }
     return answer == YOLIZADWA_LARGEST_UNDECIDED ? UNDECIDED : answer >= YOLIZADWA_LARGEST_OVERLOAD ? LATE : DONE;
+}
+
+/* As judge calls it, or with buttons as distance does. */
+static const char *verdict_of(const struct table *table, uint64_t answer, int status)
+{
+    int buttons = button_count(table) > 0;
+    if (status == DONE) {
+        return buttons ? "pass" : "passes";
+    }
+    if (buttons && status == UNDECIDED) {
+        return "none";
+    }
+    return verdict_name((uint32_t)(answer - YOLIZADWA_LARGEST_OVERLOAD) + YOLIZADWA_OVERLOAD);
 }
 
 static int tell_largest(const struct request *request, const struct table *table, uint32_t first, unsigned rows)
@@ -89,11 +120,11 @@ static int tell_largest(const struct request *request, const struct table *table
     if (yolizadwa_refused(answer)) {
         return say_no_task(request, table, answer);
     }
-    int status = status_of(answer);
+    int status = status_of(table, answer);
     if (request->json) {
         json_begin(request, 0, status);
         json_changes(table);
-        json_text("verdict", status == DONE ? "passes" : verdict_name((uint32_t)(answer - YOLIZADWA_LARGEST_OVERLOAD) + YOLIZADWA_OVERLOAD));
+        json_text("verdict", verdict_of(table, answer, status));
         json_largest(table, first, status == DONE ? rows : 0, told);
         json_end();
         return status;
@@ -101,6 +132,8 @@ static int tell_largest(const struct request *request, const struct table *table
     say_what_if(table);
     if (status == DONE) {
         say_largest(table, first, rows, told);
+    } else if (button_count(table) > 0) {
+        say_no_room(answer);
     } else {
         say_none(table, answer);
     }
@@ -110,7 +143,7 @@ static int tell_largest(const struct request *request, const struct table *table
 int largest(const struct request *request)
 {
     struct table table;
-    int status = open_periodic(request, 0, stdout, "largest", &table);
+    int status = open_table(request, 0, stdout, &table);
     if (status != DONE) {
         return status;
     }

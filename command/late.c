@@ -1,7 +1,7 @@
 /* Jobs that the dispatcher closed late: which, and how many slots each was missing. */
 #include "json.h"
 
-/* A job that the step closes late was missing what it had left before the step. */
+/* The job that the step closes late came before the one that comes now, and was missing what it had left before the step. */
 void note_late(struct late_list *list, const struct course *course)
 {
     for (unsigned number = 0; number < course->tasks; number++) {
@@ -10,8 +10,8 @@ void note_late(struct late_list *list, const struct course *course)
             continue;
         }
         if (list->count < JOBS_SHOWN) {
-            uint64_t due = course->slots - 1, release = due - task->deadline;
-            list->jobs[list->count] = (struct job){number, (release - task->offset) / task->period, release, due, course->before.left[number]};
+            uint64_t due = course->slots - 1, job = course->jobs[number] - 1 - (course->came >> number & 1);
+            list->jobs[list->count] = (struct job){number, job, due - task->deadline, due, course->before.left[number]};
         }
         list->count++;
     }

@@ -41,9 +41,11 @@ static const char proved_of_tasks[] =
     "done only of the slot just before.</li>\n";
 
 static const char proved_of_buttons[] =
-    "<li>Proved by machine, for every table: the answer above is right, whenever the buttons are pressed. Where it is pass, some way to\n"
-    "give out the slots keeps every deadline; no C call of the library gives out slots to buttons yet.</li>\n"
-    "<li>Assumed of the camera: no job needs more slots than its cost, and no button is pressed twice within its spacing.</li>\n";
+    "<li>Proved by machine, for every table: pass and overload are right, whenever the buttons are pressed. Where it is pass, the dispatcher\n"
+    "for buttons keeps every deadline; it does not take a press that comes too early, and says so. Where it is late, the exact test says so\n"
+    "of the table with tasks in place of the buttons, which this program made.</li>\n"
+    "<li>Assumed of the camera: no job needs more slots than its cost; it makes one step for every slot with this table file, by\n"
+    "yolizadwa_press_step, tells each press in the step of its slot, and says done only of the slot just before.</li>\n";
 
 static void put_assumed(const struct table *table)
 {
@@ -75,32 +77,54 @@ static void put_report(const struct page *page)
 }
 
 /* It stands last, since it may be long. */
-static void put_jobs(const struct page *page)
+static void put_jobs(const struct table *table, const struct yolizadwa_numbers *numbers, const char *hint)
 {
-    const struct excess_list list = {0, ": judge --all lists them", put_text};
-    if (page->report.numbers.verdict == YOLIZADWA_LATE) {
+    const struct excess_list list = {0, hint, put_text};
+    if (numbers->verdict == YOLIZADWA_LATE) {
         printf("<section class=\"list\"><h2>The jobs of the late interval</h2>\n<pre>");
-        list_excess(page->table, &page->report.numbers, &list);
+        list_excess(table, numbers, &list);
         printf("</pre></section>\n");
     }
 }
 
-/* The distance test is all there is for buttons: no C call gives them slots yet, and no report is made. */
-static void page_with_buttons(struct page *page)
+static void put_answer_for_buttons(const struct page *page, const struct certain *certain)
 {
-    page->distance = ask_distance(page->table);
-    page->status = distance_status(page->distance);
-    const char *words = distance_words(page->table, page->distance);
-    put_head(page);
-    put_box(page, meaning_of(words), "");
-    put_tasks(page);
     printf("<section><h2>The answer</h2>\n<p>");
-    put_answer(words);
-    printf(": what it means stands above. The table has a button, so there is no run to draw and no other answer.</p></section>\n"
-           "<div class=\"pair\">\n");
-    put_assumed(page->table);
+    put_answer(certain_words(page->table, page->distance, certain));
+    printf(": what it means stands above. No other answer is for a table with a button. A camera starts it with\n"
+           "<b>yolizadwa_press_start</b> and gives out each slot with <b>yolizadwa_press_step</b>, which is told the buttons that are pressed.</p>"
+           "</section>\n");
+}
+
+static void put_run_of(const struct picture *picture)
+{
+    printf("<section><h2>The run</h2>\n");
+    put_run(picture);
+    printf("</section>\n<div class=\"pair\">\n<div>\n");
+}
+
+/* The distance test is what there is for buttons, and no report is made. */
+static void page_with_buttons(struct page *page, const struct presses *presses)
+{
+    static struct picture picture = {.most = MOST_SHOWN};
+    struct certain certain;
+    page->distance = ask_distance(page->table);
+    ask_certain(page->table, page->distance, &certain);
+    page->status = certain_status(page->table, page->distance, &certain);
+    take_answer(&picture, page->table, presses);
+    trace_run(&picture, page->table, presses, 0);
+    put_head(page);
+    put_box(page, meaning_of(certain_words(page->table, page->distance, &certain)), "");
+    put_tasks(page);
+    put_run_of(&picture);
+    put_answer_for_buttons(page, &certain);
     put_bytes(page->table);
-    printf("</div>\n");
+    printf("</div>\n<div>\n");
+    put_assumed(page->table);
+    printf("</div>\n</div>\n");
+    if (certain.is_asked) {
+        put_jobs(&certain.tasks, &certain.numbers, "");
+    }
 }
 
 /* A distance pass foretells an undecided verdict, unless the quick answer has done so already. */
@@ -126,16 +150,14 @@ static void put_answers(const struct page *page, const struct picture *picture)
     put_head(page);
     put_box(page, picture->verdict.text, picture->verdict.more);
     put_tasks(page);
-    printf("<section><h2>The run</h2>\n");
-    put_run(picture);
-    printf("</section>\n<div class=\"pair\">\n<div>\n");
+    put_run_of(picture);
     put_report(page);
     put_bytes(page->table);
     printf("</div>\n<div>\n");
     put_short(page);
     put_assumed(page->table);
     printf("</div>\n</div>\n");
-    put_jobs(page);
+    put_jobs(page->table, &page->report.numbers, ": judge --all lists them");
 }
 
 static void page_of_tasks(struct page *page)
@@ -147,7 +169,7 @@ static void page_of_tasks(struct page *page)
     take_costs(page);
     take_verdict(&picture, page->table, &page->report.numbers);
     take_distance(page, &picture.verdict);
-    trace_run(&picture, page->table, 0);
+    trace_run(&picture, page->table, NULL, 0);
     put_answers(page, &picture);
 }
 
@@ -155,14 +177,18 @@ static int write_page(const struct request *request)
 {
     static struct table table;
     static struct page page;
+    static struct presses presses;
     int status = open_table(request, 0, stderr, &table);
+    if (status == DONE) {
+        status = take_presses(request, &table, &presses);
+    }
     if (status != DONE) {
         return status;
     }
     page.file = request->files[0];
     page.table = &table;
     if (button_count(&table) > 0) {
-        page_with_buttons(&page);
+        page_with_buttons(&page, &presses);
     } else {
         page_of_tasks(&page);
     }

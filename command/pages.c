@@ -12,8 +12,8 @@ const char page_judge[] =
     "A table that is no good is refused with a number and a place, in words, and of a\n"
     "text with the line. With --plainly the run is looked at slot by slot and not\n"
     "from one release or finish to the next: the report is the same, and it takes\n"
-    "longer. A table with a button is refused: distance is the test for it. Of\n"
-    "several tables each is judged, under its name.\n"
+    "longer. A table with a button is refused: distance is the test for it, and run\n"
+    "--press runs it. Of several tables each is judged, under its name.\n"
     "\n"
     "Ends with 0 if the table passes, 2 if it is refused, 3 if it is late or\n"
     "overloaded, 4 if its budget ends before the answer is known; of several with the\n"
@@ -39,13 +39,15 @@ const char page_distance[] =
     "the least common multiple of the periods has, and then judge is faster.\n"
     "\n"
     "In each run every button comes at 0 too, and again as soon as it may. Then pass\n"
-    "means: whenever the buttons are pressed, each at least its spacing apart, the\n"
-    "slots can be given out so that every job is in time. Of buttons alone there is\n"
-    "one run, and none means that a job can be late; with tasks beside it is no\n"
-    "answer, and no other test is for buttons.\n"
+    "means: whenever the buttons are pressed, every job is in time; a press within\n"
+    "the spacing after one is too early, and is not taken. Where there is no answer,\n"
+    "judge's test is made of one way to press: every button at 0 and every spacing\n"
+    "after, within the budget. If a job is late then, no way to give out the slots\n"
+    "keeps every deadline: the interval and its jobs are told. Else it is not known,\n"
+    "but of buttons alone none always means that a job can be late.\n"
     "\n"
-    "Ends with 0 if the answer is pass, 3 on overload, 4 if there is no answer, 2 if\n"
-    "the table is refused.\n";
+    "Ends with 0 if the answer is pass, 3 on overload or if it is late for certain, 4\n"
+    "if there is no answer, 2 if the table is refused.\n";
 
 const char page_eased[] =
     "Tells whether the table NEW is an easing of the table OLD: whether it is OLD\n"
@@ -70,10 +72,12 @@ const char page_largest[] =
     "raised the table may not pass. Of a table that does not pass there is no number:\n"
     "largest overload, largest late, or largest undecided if its budget ends before\n"
     "the answer is known; a budget that reaches the horizon always tells. The table\n"
-    "is tested up to 17 times for each task. A table with a button is refused.\n"
+    "is tested up to 17 times for each task. For a table with a button it asks the\n"
+    "distance test: such a cost is sure, and a larger one may be kept too; largest\n"
+    "none says that the distance test has no answer.\n"
     "\n"
     "Ends with 0 if it is told, 2 if the table is refused or has no such task, 3 if\n"
-    "it is late or overloaded, 4 if it is undecided.\n";
+    "it is late or overloaded, 4 if it is undecided or there is no answer.\n";
 
 const char page_run[] =
     "Runs the table, whether it passes or not, and draws a row for each task. A\n"
@@ -83,14 +87,19 @@ const char page_run[] =
     "\n"
     "  instant   [ a job is released  ] one is due  | both  ! one is closed late\n"
     "  slot      # the task has it    . its job waits\n"
+    "  button    [ it is pressed      x it is pressed too early, and that is not taken\n"
     "\n"
-    "Below stand the jobs that were closed late, and then the accounts: how many\n"
-    "slots each task had, how many were empty, and which share that is. N is at\n"
-    "most 1,000,000; without --slots it is the horizon, but at least 35 and at most\n"
-    "120. With --early every job ends after half its cost, rounded up. The chart has\n"
-    "80 columns, or as many as COLUMNS says. With --log the slots are also written\n"
-    "to the file LOG, as a camera's log, which log judges. A table with a button is\n"
-    "refused.\n"
+    "With --press shutter@3,60 or --press 3@3,60 that button is pressed at slots 3 and\n"
+    "60; several may stand there. Without it no button is pressed.\n"
+    "\n"
+    "Below stand the jobs that were closed late, how many presses were taken and which\n"
+    "came too early, and then the accounts: how many slots each task had, how many\n"
+    "were empty, and which share that is. N is at most 1,000,000; without --slots it\n"
+    "is the horizon, but at least 35 and at most 120, and as many as the presses need.\n"
+    "With --early every job ends after half its cost, rounded up. The chart has 80\n"
+    "columns, or as many as COLUMNS says. With --log the slots are also\n"
+    "written to the file LOG, as a camera's log, which log judges; a table with a\n"
+    "button has no log, since a press has no record in it.\n"
     "\n"
     "Ends with 0 if no job was closed late, 3 if one was, 2 if the table is refused.\n";
 
@@ -101,7 +110,9 @@ const char page_draw[] =
     "there; a file that is no drawing and no page is not written over.\n"
     "\n"
     "  box           slots that the task has; a dotted line: its job waits\n"
-    "  arrow up      a job is released; arrow down: one is due\n"
+    "  arrow up      a job is released, with a dot at its foot: pressed; arrow down:\n"
+    "                one is due\n"
+    "  crossed line  a button is pressed too early, and that is not taken\n"
     "  red, crossed  a job is late: from its deadline on, as long as what it misses\n"
     "  band          below the axis: no job is open; where it is as narrow as a line,\n"
     "                every earlier job is finished at that instant, or was closed late\n"
@@ -113,10 +124,13 @@ const char page_draw[] =
     "most 2,000 slots, up to 1,000,000. Without them it shows the late interval and\n"
     "some slots around it, or the slots from shortly before the first release on, at\n"
     "most 200; without A it begins at 0, without B it has 200 slots. With --early\n"
-    "every job ends after half its cost. A table with a button is refused.\n"
+    "every job ends after half its cost. With --press buttons are pressed, as in run;\n"
+    "a table with a button has distance's answer for a verdict, no horizon and no\n"
+    "interval, and as many slots are shown as its presses need, at most 200.\n"
     "\n"
     "Ends as judge does: 0 if the table passes, 2 if it is refused, 3 if it is late\n"
-    "or overloaded, 4 if its budget ends before the answer is known.\n";
+    "or overloaded, 4 if its budget ends before the answer is known; of a table with\n"
+    "a button as distance does.\n";
 
 const char page_page[] =
     "Writes a page to hand over, in HTML, one file that prints on A4: the length and\n"
@@ -127,7 +141,8 @@ const char page_page[] =
     "distance answer, what was proved and what is assumed, the bytes of the table\n"
     "file, and the jobs of a late interval. It goes to standard output, or to the file\n"
     "OUT, as that of draw does. It takes as long as judge, largest and distance\n"
-    "together. Of a table with a button the page has no run and no report.\n"
+    "together. Of a table with a button the verdict is distance's answer, the run is\n"
+    "that of --press, and there is no report.\n"
     "\n"
     "Ends as judge does, and of a table with a button as distance does.\n";
 

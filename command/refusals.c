@@ -166,15 +166,17 @@ static const char *shown_given(const struct source *source)
     return strcmp(given, "-") == 0 ? given : shown_name(given);
 }
 
-/* Shows the line of the first button, and which test takes it. */
+/* Shows the line of the first button, and which words take it. */
 int say_button(const struct source *source, const char *what, uint64_t result)
 {
     struct refusal refusal = {.result = result};
-    char test[4200];
+    char test[8400];
     find_line(source, &refusal);
     snprintf(refusal.words, sizeof refusal.words, "task %u is a button, and %s is for tables without buttons",
              (unsigned)yolizadwa_place(result), what);
-    snprintf(test, sizeof test, "the test for it is: yolizadwa distance %s\n", shown_given(source));
+    const char *given = shown_given(source);
+    snprintf(test, sizeof test, "the test for it is: yolizadwa distance %s\nand its slots are shown by: yolizadwa run %s --press %u@0\n",
+             given, given, (unsigned)yolizadwa_place(result));
     return tell(source, &refusal, test);
 }
 

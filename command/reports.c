@@ -77,11 +77,12 @@ void word_verdict(const struct table *table, const struct yolizadwa_numbers *num
     }
 }
 
-/* It does not depend on the budget, so the least will do. */
+/* It does not depend on the budget, so the least will do. Of a table with buttons it is that with these pressed as often as they may be. */
 uint64_t horizon_of(const struct table *table)
 {
-    struct table least = *table;
+    struct table least;
     struct yolizadwa_numbers numbers;
+    pressed_often(table, &least);
     replace_budget(&least, 1);
     begin_progress();
     answer_once(&least, &numbers);

@@ -5,29 +5,25 @@
 
 enum { MOST_USUAL = 120 };
 
-/* Tells whether instants that come every period from the first on fall on this one. */
-static int falls_on(uint64_t instant, uint64_t first, uint64_t period)
+static char mark_of(const struct course *course, unsigned number)
 {
-    return instant >= first && (instant - first) % period == 0;
+    int came = course->came >> number & 1, due = course->due >> number & 1;
+    if (course->state.late >> number & 1) {
+        return '!';
+    }
+    return course->untaken >> number & 1 ? 'x' : came && due ? '|' : came ? '[' : due ? ']' : ' ';
 }
 
-static char mark_of(const struct task *task, uint64_t instant, int late)
-{
-    int released = falls_on(instant, task->offset, task->period);
-    int due = falls_on(instant, task->offset + task->deadline, task->period);
-    return late ? '!' : released && due ? '|' : released ? '[' : due ? ']' : ' ';
-}
-
-static void draw_slot(struct chart *chart, uint64_t instant, unsigned column)
+static void draw_slot(struct chart *chart, unsigned column)
 {
     struct course *course = &chart->course;
     uint64_t owner = take_slot(course);
     for (unsigned number = 0; number < course->tasks; number++) {
-        int late = course->state.late >> number & 1;
-        chart->rows[number][column] = mark_of(&course->task[number], instant, late);
+        chart->rows[number][column] = mark_of(course, number);
         chart->rows[number][column + 1] = owner == number ? '#' : course->state.left[number] > 0 ? '.' : ' ';
     }
     note_late(&chart->late, course);
+    note_presses(&chart->pressed, course);
 }
 
 /* Writes what a camera does: the slot just drawn, and the done report that the next step is told. */
@@ -53,13 +49,13 @@ static void draw_block(struct chart *chart, unsigned long begin)
     unsigned long left = chart->slots - begin;
     unsigned slots = left < chart->wide ? (unsigned)left : chart->wide;
     for (unsigned slot = 0; slot < slots; slot++) {
-        draw_slot(chart, begin + slot, 2 * slot);
+        draw_slot(chart, 2 * slot);
         log_slot(chart);
     }
     /* The chart ends with the instant after the last slot of all. */
     if (left == slots) {
         chart->ended = chart->course.state;
-        draw_slot(chart, chart->slots, 2 * slots);
+        draw_slot(chart, 2 * slots);
     }
     if (!chart->quiet) {
         print_block(chart, begin, begin + slots, 2 * slots + (left == slots));
@@ -107,7 +103,11 @@ static void sum_up(const struct chart *chart)
 {
     putchar('\n');
     list_late(chart);
+    print_presses(&chart->pressed, &chart->course);
     printf("\n# has the slot  . waits  [ released  ] due  | due and released  ! closed late\n");
+    if (chart->course.has_buttons) {
+        printf("of a button: [ pressed, and taken  x pressed too early\n");
+    }
     print_accounts(chart);
 }
 
@@ -127,6 +127,7 @@ static void run_as_json(const struct request *request, const struct chart *chart
     }
     json_close(']');
     json_number("empty", chart->ended.empty);
+    json_presses(&chart->pressed, &chart->course);
     json_end();
 }
 
@@ -168,16 +169,47 @@ static int tell_run(const struct request *request, struct chart *chart)
     return status;
 }
 
+/* A press has no record in a log, so a log of it would not be the table's. */
+static int may_have_log(const struct request *request, const struct table *table)
+{
+    if (request->log == NULL || button_count(table) == 0) {
+        return DONE;
+    }
+    int status = trouble("a table with a button has no log: a log has no record of a press");
+    if (request->json) {
+        json_trouble(request, 0);
+    }
+    return status;
+}
+
+/* Without --slots every press that is told is in the run, and its job is due there. */
+static unsigned long slots_of(const struct request *request, const struct table *table, const struct presses *presses)
+{
+    if (request->slots > 0) {
+        return request->slots;
+    }
+    unsigned long usual = usual_slots(table, MOST_USUAL);
+    return presses->due < usual ? usual : presses->due > MOST_SLOTS ? MOST_SLOTS : (unsigned long)presses->due;
+}
+
 int run(const struct request *request)
 {
     static struct chart chart;
+    static struct presses presses;
     struct table table;
-    int status = open_periodic(request, 0, stderr, "run", &table);
+    int status = open_table(request, 0, stderr, &table);
+    if (status == DONE) {
+        status = may_have_log(request, &table);
+    }
+    if (status == DONE) {
+        status = take_presses(request, &table, &presses);
+    }
     if (status != DONE) {
         return status;
     }
     begin_course(&chart.course, &table, request->early);
-    chart.slots = request->slots > 0 ? request->slots : usual_slots(&table, MOST_USUAL);
+    chart.course.presses = &presses;
+    chart.slots = slots_of(request, &table, &presses);
     chart.quiet = request->json;
     measure_chart(&chart);
     status = begin_log(&chart, request->log);

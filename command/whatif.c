@@ -1,31 +1,10 @@
 /* What-if: numbers of a table changed by --set and --budget. The library writes the changed table, and refuses a bad one in its words. */
 #include <string.h>
 
-#include "command.h"
+#include "rows.h"
 
 static const char *const fields[] = {"offset", "cost", "deadline", "period", "spacing"};
 enum { OFFSET, COST, DEADLINE, PERIOD, SPACING, FIELDS };
-
-/* A table as the library takes it, a row for each task, and the words of a row. */
-struct rows {
-    uint32_t words[YOLIZADWA_TASKS * YOLIZADWA_ROW_WORDS];
-    unsigned tasks;
-};
-enum { KIND_WORD = 0, FIRST_NUMBER = 1 };
-
-static void take_rows(const struct table *table, struct rows *rows)
-{
-    rows->tasks = task_count(table);
-    for (unsigned number = 0; number < rows->tasks; number++) {
-        struct task task = task_at(table, number);
-        uint32_t *row = rows->words + YOLIZADWA_ROW_WORDS * number;
-        row[KIND_WORD] = task.button ? YOLIZADWA_KIND_BUTTON : YOLIZADWA_KIND_TASK;
-        row[FIRST_NUMBER + OFFSET] = (uint32_t)task.offset;
-        row[FIRST_NUMBER + COST] = (uint32_t)task.cost;
-        row[FIRST_NUMBER + DEADLINE] = (uint32_t)task.deadline;
-        row[FIRST_NUMBER + PERIOD] = (uint32_t)task.period;
-    }
-}
 
 static int same_name(const struct name *name, const char *who, size_t length)
 {
@@ -51,8 +30,7 @@ unsigned task_named(const struct table *table, const char *who, int length)
     return found;
 }
 
-/* By its number, which is digits alone, or by its name. */
-static unsigned task_meant(const struct table *table, const char *who, int length)
+unsigned task_meant(const struct table *table, const char *who, int length)
 {
     uint64_t number = 0;
     if ((int)strspn(who, "0123456789") < length) {
@@ -153,13 +131,12 @@ int change_table(const struct source *source, struct table *table)
     if (status != DONE) {
         return status;
     }
-    uint64_t result = yolizadwa_write(rows.words, YOLIZADWA_ROW_WORDS * rows.tasks, budget, table->file, sizeof table->file);
+    uint64_t result = write_rows(&rows, budget, table);
     if (yolizadwa_refused(result)) {
         struct what_if what_if = {.table = &was};
         compare(&rows, budget, &what_if);
         return say_refused_change(source, &what_if, result);
     }
-    table->len = (size_t)result;
     table->was = &was;
     return DONE;
 }

@@ -25,7 +25,9 @@ struct around {
     void (*put)(const char *text);
 };
 int change_table(const struct source *source, struct table *table);
-unsigned task_named(const struct table *table, const char *name, int length); /* YOLIZADWA_TASKS after it has said what is wrong */
+/* A task by its name; or by its number, which is digits alone, or its name. YOLIZADWA_TASKS after they have said what is wrong. */
+unsigned task_named(const struct table *table, const char *name, int length);
+unsigned task_meant(const struct table *table, const char *who, int length);
 void find_changes(const struct table *table, struct what_if *what_if);
 unsigned put_changes(const struct around *around, const struct table *table);
 void say_what_if(const struct table *table);

@@ -234,6 +234,52 @@ static void try_answer(const uint8_t *file, size_t len, size_t bytes, int with, 
     free(answer);
 }
 
+// A step with presses on a state; without buttons it is yolizadwa_step, with every press told.
+static uint64_t press(const uint8_t *file, size_t len, int periodic, uint8_t *state, uint32_t done, uint32_t pressed) {
+    uint8_t *before = block(STATE, 0), *plain = block(STATE, 0);
+    memcpy(before, state, STATE);
+    memcpy(plain, state, STATE);
+    uint64_t r = yolizadwa_press_step(file, len, state, STATE, done, pressed);
+    if (yolizadwa_refused(yolizadwa_owner(r))) {
+        HOLDS(yolizadwa_untaken(r) == 0 && memcmp(state, before, STATE) == 0);
+    } else {
+        HOLDS(yolizadwa_owner(r) <= NONE && word(state, LAST) == yolizadwa_owner(r));
+        HOLDS((yolizadwa_untaken(r) & ~pressed) == 0);
+    }
+    if (periodic) {
+        uint64_t s = yolizadwa_step(file, len, plain, STATE, done);
+        HOLDS(r == (s < REFUSED ? (uint64_t)pressed << 32 | s : s) && memcmp(state, plain, STATE) == 0);
+    }
+    free(before);
+    free(plain);
+    return r;
+}
+
+// The room is refused as the distance test is, or for its task, and is a number exactly where that passes.
+static void try_room(const uint8_t *file, size_t len, uint64_t d, uint32_t task) {
+    uint64_t r = yolizadwa_room(file, len, task);
+    if (d >= REFUSED) HOLDS(r == d);
+    else if (r >= REFUSED) HOLDS(r == (uint64_t)YOLIZADWA_NO_SUCH_TASK * REFUSED + (task < 65535 ? task : 65535));
+    else if (d == YOLIZADWA_DISTANCE_PASS) HOLDS(r > 0 && r <= 60000);
+    else HOLDS(r == (d == YOLIZADWA_DISTANCE_OVERLOAD ? YOLIZADWA_ROOM_OVERLOAD : YOLIZADWA_ROOM_NONE));
+}
+
+// The calls that take presses: refused as the distance test is; where that passes no step is late, whatever is pressed.
+static void try_presses(const uint8_t *file, size_t len, int periodic, uint64_t d, const uint8_t *more, size_t more_len) {
+    uint8_t *state = block(STATE, 0xee);
+    uint64_t r = yolizadwa_press_start(file, len, state, STATE);
+    HOLDS(r == (d < REFUSED ? 0 : d));
+    if (r != 0) HOLDS(all(state, 0, STATE, 0xee));
+    for (size_t i = 0; r == 0 && i < 100; i++) {
+        uint32_t some = more_len ? more[i % more_len] : 0;
+        HOLDS(yolizadwa_owner(press(file, len, periodic, state, some & 1, some * 0x01010101)) <= NONE);
+        if (d == YOLIZADWA_DISTANCE_PASS) HOLDS(word(state, LATE) == 0);
+    }
+    memcpy(state, more, more_len < STATE ? more_len : STATE);
+    press(file, len, periodic, state, more_len & 1, UINT32_MAX);
+    free(state);
+}
+
 static void try_file(const uint8_t *bytes, size_t len, const uint8_t *more, size_t more_len) {
     if (!affordable(bytes, len)) return;
     uint8_t *file = block(len, 0);
@@ -301,6 +347,8 @@ static void try_file(const uint8_t *bytes, size_t len, const uint8_t *more, size
     try_largest(file, len, r, (char *)text, more_len ? more[0] % (len / 17 + 1) : 0, more_len > 1 ? more[1] : 0);
     try_largest(file, len, r, (char *)text, more_len > 3 ? NONE + word(more, 0) % 100000 : UINT32_MAX, 0);
 
+    try_presses(file, len, r < REFUSED, d, more, more_len);
+    try_room(file, len, d, more_len ? more[0] % 8 : 0);
     try_log(file, len, r, more, more_len);
 
     size_t strange = more_len ? more[0] : STATE - 1;

@@ -2,7 +2,7 @@
  * Yolizadwa for C (from C99 on) and C++: judge a table of tasks, then give out time slot by slot.
  * The rules are those of docs/SPECIFICATION.md; its section 9 has the calls.
  *
- * Sixteen calls, in the static library that `rt staticlib yolizadwa` writes for x86-64:
+ * The calls, in the static library that `rt staticlib yolizadwa` writes for x86-64:
  *
  *   yolizadwa_write          writes a table file from the numbers of its tasks
  *   yolizadwa_from_text      writes the table file of a table in plain text
@@ -15,18 +15,22 @@
  *   yolizadwa_distance       judges it in short, with its offsets and with buttons: pass, overload, or no answer
  *   yolizadwa_eased          tells whether a table file is an easing of another one, and so needs no new test
  *   yolizadwa_largest        tells how much the cost of one task may grow before the table no longer passes
+ *   yolizadwa_room           tells how much the cost of a task or button may grow before yolizadwa_distance no longer passes
  *   yolizadwa_start          makes the dispatcher's first state for a table file
  *   yolizadwa_step           gives out one slot and makes the next state
+ *   yolizadwa_press_start    makes the first state for a table file that may have buttons
+ *   yolizadwa_press_step     gives out one slot and takes the presses of buttons
  *   yolizadwa_log_start      begins to judge the log that a camera brings home
  *   yolizadwa_log_feed       judges the next piece of it, cut anywhere
  *   yolizadwa_log_finish     says what is found of the whole log
  *
- * What holds for all sixteen:
+ * What holds for all of them:
  *   - They keep nothing between calls, allocate nothing, and may run in several threads at once on different buffers.
  *   - Of the C library they need memcpy and memset alone. The host tests hold the stack of each call to 16 KiB.
  *   - A result below 65,536 is an answer. Any other is a refusal: 65,536 x number + place. A refusal changes no byte.
  *     (yolizadwa_eased takes two files, and its results have another form: yolizadwa_refused does not fit them. For a log's calls
- *     yolizadwa_refused takes only a result below 2^32: a result from there on tells what is found.)
+ *     yolizadwa_refused takes only a result below 2^32: a result from there on tells what is found. For yolizadwa_press_step it takes
+ *     the low word, yolizadwa_owner of the result.)
  *   - No pointer may be NULL, not even with length 0.
  *   - What a call only reads (the const pointer: file, report, text or words) is read where it lies and never written, and must not
  *     overlap what the call writes. Words lie aligned, as a uint32_t does; nothing else needs to.
@@ -63,8 +67,9 @@ extern "C" {
  * spacing apart: it has no offset. Wherever a period is spoken of, in refusals 3, 4 and 7, in the round and in the load, a button's is
  * its spacing, and as a task it is counted and named by its number.
  *
- * Files and texts with buttons are read and written by yolizadwa_write, yolizadwa_from_text and yolizadwa_to_text, and judged by
- * yolizadwa_distance. Every other call that reads a file needs a table without buttons, and refuses any other with number 11.
+ * Files and texts with buttons are read and written by yolizadwa_write, yolizadwa_from_text and yolizadwa_to_text, judged by
+ * yolizadwa_distance and yolizadwa_room, and run by yolizadwa_press_start and yolizadwa_press_step. Every other call that reads a file needs
+ * a table without buttons, and refuses any other with number 11.
  */
 enum yolizadwa_kind {
     YOLIZADWA_KIND_BUDGET = 1,
@@ -119,8 +124,9 @@ enum yolizadwa_refusal {
 };
 
 /*
- * Whether a result is a refusal, and then its number and its place. They are for every call but two kinds: a result of yolizadwa_eased
- * goes through yolizadwa_eased_case and yolizadwa_eased_value first, and for a log's call yolizadwa_log_answered is asked first.
+ * Whether a result is a refusal, and then its number and its place. They are for every call but three kinds: a result of yolizadwa_eased
+ * goes through yolizadwa_eased_case and yolizadwa_eased_value first, for a log's call yolizadwa_log_answered is asked first, and of
+ * yolizadwa_press_step they take yolizadwa_owner of the result.
  */
 static inline int yolizadwa_refused(uint64_t result) { return result >= 65536; }
 static inline uint32_t yolizadwa_number(uint64_t result) { return (uint32_t)(result / 65536); }
@@ -311,8 +317,8 @@ uint64_t yolizadwa_quick(const uint8_t *file, size_t file_len);
  *
  * Pass of a table without buttons means what it means of the quick test, for the offsets in the file, and wherever that one passes, so
  * does this one. Pass of a table with buttons: whenever they are pressed, as long as each keeps its spacing, there is a way to give out
- * the slots with every job in time. That way is another one for other presses, and no call here gives out slots to buttons. No answer
- * says nothing, with one exception: of buttons alone it means that there are presses with which no way keeps every deadline.
+ * the slots with every job in time, and yolizadwa_press_step gives them out so. No answer says nothing, with one exception: of buttons
+ * alone it means that there are presses with which no way keeps every deadline.
  *
  * The quick test comes first, and takes its time here too. Where it passes, nothing else is looked at. Where it does not, there is a walk
  * for each task, mostly short, but with a load near 1 of up to a round, up to 32 times 1,000,000,000,000 slots in all. No budget bounds
@@ -387,6 +393,21 @@ enum yolizadwa_no_largest {
 uint64_t yolizadwa_largest(const uint8_t *file, size_t file_len, uint32_t task);
 
 /*
+ * The room of a table, with buttons or without: the largest cost of one task or button, from its own up to its deadline, with which
+ * yolizadwa_distance still passes, all else as it is. A cost that is lower passes too. The result is that cost, 1 to 60,000. If the table
+ * itself does not pass there is no number: YOLIZADWA_ROOM_OVERLOAD, or YOLIZADWA_ROOM_NONE where the distance test has no answer.
+ *
+ * The cost is found by halving, in at most 17 distance tests. No budget bounds it.
+ *
+ * Refusals: 20 to 27; 1 and 3 to 7; 12 for a task that the table does not have, whether it passes or not.
+ */
+enum yolizadwa_no_room {
+    YOLIZADWA_ROOM_OVERLOAD = 60001,
+    YOLIZADWA_ROOM_NONE = 60003
+};
+uint64_t yolizadwa_room(const uint8_t *file, size_t file_len, uint32_t task);
+
+/*
  * The dispatcher's state: 536 bytes, 68 little-endian words of 32 bits and then 33 of 64 bits. On x86-64 this struct is that
  * layout; hand over (uint8_t *)&state and sizeof state. It needs no alignment.
  *
@@ -438,6 +459,26 @@ uint64_t yolizadwa_start(const uint8_t *file, size_t file_len, uint8_t *state, s
  * counts that add up to 2^64 - 1. So from a start 2^64 - 1 steps are taken, and none of them is refused.
  */
 uint64_t yolizadwa_step(const uint8_t *file, size_t file_len, uint8_t *state, size_t state_len, uint32_t done);
+
+/*
+ * The dispatcher of tables with buttons: start and step on any table, with the same state buffer. A button's wait is the slots until it
+ * may be pressed again, 0: now. `pressed` has bit i set if a press of button i began since the last step: a press, and not a contact that
+ * is held. The step goes as yolizadwa_step, and in 3. a press of a button whose wait is 0 is taken too: a job of it comes, and its wait
+ * becomes the spacing.
+ *
+ * yolizadwa_press_start returns 0. yolizadwa_press_step returns in its low word the task that has this slot, 0 to 31, or 32 for none,
+ * and in its high word the presses that were not taken, as bits: those of a button pressed too early, of a periodic task and of no task.
+ * A refusal is below 2^32, with no press in its high word. It takes none and changes nothing: ask yolizadwa_refused of the low word first.
+ *
+ * On a table that yolizadwa_distance passes every job, of tasks and of presses that were taken, is finished by its deadline, whenever
+ * the buttons are pressed; late, closed and lowest then say of every step that none was late. On a table without buttons the calls do
+ * what yolizadwa_start and yolizadwa_step do. Refusals are theirs, but for 11: a table with buttons is taken. In 8 a button has offset 0 and
+ * its spacing for a period.
+ */
+static inline uint32_t yolizadwa_owner(uint64_t result) { return (uint32_t)result; }
+static inline uint32_t yolizadwa_untaken(uint64_t result) { return (uint32_t)(result >> 32); }
+uint64_t yolizadwa_press_start(const uint8_t *file, size_t file_len, uint8_t *state, size_t state_len);
+uint64_t yolizadwa_press_step(const uint8_t *file, size_t file_len, uint8_t *state, size_t state_len, uint32_t done, uint32_t pressed);
 
 /*
  * The log that a camera brings home is a row of records: a kind, and of kind 16 one byte more.

@@ -18,7 +18,7 @@ const MOST_SLOTS: u64 = 400;
 const LONG_RUN: u64 = 20_000;
 
 /// A table near the border of what passes with some of its tasks made buttons; often made lighter, since a button needs more room.
-fn mixed(rng: &mut Rng) -> Vec<Task> {
+pub fn mixed(rng: &mut Rng) -> Vec<Task> {
     let mut tasks = near_border(rng);
     if rng.chance(60) {
         tasks.iter_mut().for_each(|task| task.cost = rng.range(1, task.cost));

@@ -9,6 +9,8 @@
     CALL(FILLS, CHECK, yolizadwa_check)                 \
     CALL(FILLS, START, yolizadwa_start)                 \
     CALL(STEPS, STEP, yolizadwa_step)                   \
+    CALL(FILLS, PRESS_START, yolizadwa_press_start)     \
+    CALL(PRESSES, PRESS_STEP, yolizadwa_press_step)     \
     CALL(WRITES, WRITE, yolizadwa_write)                \
     CALL(FILLS, FROM_TEXT, yolizadwa_from_text)         \
     CALL(FILLS, TO_TEXT, yolizadwa_to_text)             \
@@ -17,6 +19,7 @@
     CALL(FILLS, CHECK_PLAINLY, yolizadwa_check_plainly) \
     CALL(COMPARES, EASED, yolizadwa_eased)              \
     CALL(ASKS, LARGEST, yolizadwa_largest)              \
+    CALL(ASKS, ROOM, yolizadwa_room)                    \
     CALL(FILLS, LOG_START, yolizadwa_log_start)         \
     CALL(FEEDS, LOG_FEED, yolizadwa_log_feed)           \
     CALL(FILLS, LOG_FINISH, yolizadwa_log_finish)       \

@@ -22,6 +22,8 @@ calls! {
     Check "check",
     Start "start",
     Step "step",
+    PressStart "press start",
+    PressStep "press step",
     Write "write",
     FromText "from text",
     ToText "to text",
@@ -30,6 +32,7 @@ calls! {
     CheckPlainly "check plainly",
     Eased "eased",
     Largest "largest",
+    Room "room",
     LogStart "log start",
     LogFeed "log feed",
     LogFinish "log finish",
@@ -44,7 +47,7 @@ pub struct Request {
     pub file: Vec<u8>,
     /// What is written, or the second file that is read, and then must stay.
     pub buffer: Vec<u8>,
-    /// A step's done, the budget to write, the task that is asked for, where the file ends before the piece of a log, the length that is
+    /// A step's done, below 2^32 and with what is pressed above, the budget to write, the task that is asked for, where the file ends before the piece of a log, the length that is
     /// told of a report.
     pub number: u64,
 }
@@ -65,6 +68,14 @@ impl Request {
 
     pub fn step(file: Vec<u8>, state: Vec<u8>, done: u32) -> Request {
         Request { call: Call::Step, file, buffer: state, number: u64::from(done) }
+    }
+
+    pub fn press_start(file: Vec<u8>) -> Request {
+        Request { call: Call::PressStart, ..Request::start(file) }
+    }
+
+    pub fn press_step(file: Vec<u8>, state: Vec<u8>, done: u32, pressed: u32) -> Request {
+        Request { call: Call::PressStep, file, buffer: state, number: u64::from(pressed) << 32 | u64::from(done) }
     }
 
     pub fn write(words: &[u32], budget: u64) -> Request {
@@ -94,6 +105,10 @@ impl Request {
 
     pub fn largest(file: Vec<u8>, task: u32) -> Request {
         Request { call: Call::Largest, file, buffer: Vec::new(), number: u64::from(task) }
+    }
+
+    pub fn room(file: Vec<u8>, task: u32) -> Request {
+        Request { call: Call::Room, ..Request::largest(file, task) }
     }
 
     pub fn log_start(file: Vec<u8>) -> Request {

@@ -113,7 +113,7 @@ fn noisy(rng: &mut Rng, budget: u64, tasks: &[Task]) -> (String, Vec<usize>) {
 }
 
 /// The rows of five numbers under the heading of a list of jobs.
-fn jobs_listed(text: &str) -> Vec<Vec<u64>> {
+pub fn jobs_listed(text: &str) -> Vec<Vec<u64>> {
     let rows = text.lines().skip_while(|line| !line.starts_with("  task")).skip(1);
     let numbers = |line: &str| line.split_whitespace().map(|word| word.parse().ok()).collect::<Option<Vec<u64>>>();
     rows.map_while(numbers).filter(|row| row.len() == 5).collect()
@@ -208,7 +208,7 @@ impl Run {
 }
 
 /// The blocks of a chart put together, one row for each task.
-fn rows_of(text: &str, tasks: usize) -> Vec<String> {
+pub fn rows_of(text: &str, tasks: usize) -> Vec<String> {
     let mut rows = vec![String::new(); tasks];
     let mut blocks = 0;
     for line in text.lines().take_while(|line| !line.starts_with("# ")) {
@@ -223,7 +223,7 @@ fn rows_of(text: &str, tasks: usize) -> Vec<String> {
 }
 
 /// The accounts at the end: whose, how many slots, and their share in percent, rounded to tenths.
-fn accounts_of(had: &[u64], slots: u64) -> Vec<String> {
+pub fn accounts_of(had: &[u64], slots: u64) -> Vec<String> {
     let headings = [format!("who had the slots, {slots} in all:"), "task slots share".to_string()];
     let names = (0..had.len() - 1).map(|task| task.to_string()).chain(["empty".to_string()]);
     let row = |(name, had): (String, &u64)| {
@@ -234,7 +234,7 @@ fn accounts_of(had: &[u64], slots: u64) -> Vec<String> {
 }
 
 /// The lines from the accounts on, with one blank between words.
-fn accounts_told(text: &str) -> Vec<String> {
+pub fn accounts_told(text: &str) -> Vec<String> {
     let lines = text.lines().skip_while(|line| !line.starts_with("who had "));
     lines.map(|line| line.split_whitespace().collect::<Vec<_>>().join(" ")).collect()
 }
@@ -262,11 +262,11 @@ fn by_distance(bench: &mut Bench, tasks: &[Task], input: &[u8]) {
     let output = asked(&["distance", "-"], input);
     let (word, status) = [("none", 4), ("pass", 0), ("overload", 3)][reference::by_distance(tasks) as usize];
     let good = said(&output).starts_with(&format!("distance {word}\n")) && output.status.code() == Some(status);
-    let good = good && said(&output).contains("button") == reference::has_button(tasks);
+    let good = good && !said(&output).contains("button");
     bench.count(good, || format!("distance on {tasks:?}: {output:?}"));
 }
 
-/// Every word for tables without buttons names the first one, of a text the line on which it stands, and the test for it.
+/// Every word for tables without buttons names the first one, of a text the line on which it stands, and the words for it.
 fn has_a_button(bench: &mut Bench, tasks: &[Task], text: &str, places: &[usize], file: &[u8]) {
     let first = tasks.iter().position(|task| task.button).unwrap();
     let begins = format!("refused 11 at {first}: task {first} is a button, and ");
@@ -274,21 +274,41 @@ fn has_a_button(bench: &mut Bench, tasks: &[Task], text: &str, places: &[usize],
     for words in [
         &["judge", "-"][..],
         &["quick", "-"],
-        &["largest", "-"],
-        &["largest", "-", "99"],
-        &["run", "-"],
-        &["draw", "-"],
         &["eased", "-", "tables/b.txt"],
+        &["log", "-", "logs/README.md"],
     ] {
         for (input, shown) in [(text.as_bytes(), true), (file, false)] {
             let output = asked(words, input);
-            let told = if ["run", "draw"].contains(&words[0]) { String::from_utf8_lossy(&output.stderr).to_string() } else { said(&output) };
-            let good = told.starts_with(&begins)
-                && told.contains(&line) == shown
-                && told.contains("\nthe test for it is: yolizadwa distance -\n");
+            let told = said(&output);
+            let can = format!("\nthe test for it is: yolizadwa distance -\nand its slots are shown by: yolizadwa run - --press {first}@0\n");
+            let good = told.starts_with(&begins) && told.contains(&line) == shown && told.contains(&can);
             bench.count(good && output.status.code() == Some(2), || format!("{words:?} on {tasks:?}: {output:?}"));
         }
     }
+}
+
+/// Of a table with a button: costs that are sure, by an independent distance test of every cost.
+fn sure_costs(bench: &mut Bench, tasks: &[Task], input: &[u8]) {
+    if !(0..tasks.len()).all(|task| room_triable(tasks, task)) {
+        return;
+    }
+    let (begins, status) = match reference::room(tasks, 0) {
+        60_001 => ("largest overload\n\noverload: ".to_string(), 3),
+        60_003 => ("largest none\n\nnone: ".to_string(), 4),
+        _ => (sure_rows(tasks) + "\nthe distance test passes, and still does with ", 0),
+    };
+    let output = asked(&["largest", "-"], input);
+    let good = said(&output).starts_with(&begins) && output.status.code() == Some(status);
+    bench.count(good, || format!("largest on {tasks:?}: {output:?}, not {begins}"));
+}
+
+fn sure_rows(tasks: &[Task]) -> String {
+    let mut text = "  task   cost  largest   more  deadline\n".to_string();
+    for (number, Task { cost, deadline, .. }) in tasks.iter().enumerate() {
+        let room = reference::room(tasks, number);
+        text += &format!("  {number:>4}  {cost:>5}  {room:>7}  {:>5}  {deadline:>8}\n", room - u64::from(*cost));
+    }
+    text
 }
 
 fn pressed(bench: &mut Bench, rng: &mut Rng) {
@@ -296,8 +316,8 @@ fn pressed(bench: &mut Bench, rng: &mut Rng) {
     make_buttons(rng, &mut tasks);
     let budget = budget_about(rng, &tasks);
     let ((text, places), file) = (noisy(rng, budget, &tasks), file_of(budget, &tasks));
-    by_distance(bench, &tasks, if rng.chance(50) { text.as_bytes() } else { &file });
     has_a_button(bench, &tasks, &text, &places, &file);
+    sure_costs(bench, &tasks, &file);
     made_and_shown(bench, &tasks, budget, &text);
 }
 
@@ -504,8 +524,11 @@ pub fn junk_under_sanitizers(bench: &mut Bench, rng: &mut Rng) {
             &["run", "--json"],
             &["largest"],
             &["distance", "--json"],
+            &["distance"],
             &["eased", "tables/b.txt"],
             &["draw"],
+            &["draw", "--press=0@3,3,90,40,7"],
+            &["run", "--press=0@3,3,90,40,7"],
             &["page"],
         ]);
         sanitized(&mut command).args(words).arg("-");

@@ -25,6 +25,9 @@ fn ask_largest(bench: &mut Bench, file: &[u8]) {
     if triable(budget, &tasks, task) {
         bench.ask(Request::largest(file.to_vec(), task as u32));
     }
+    if room_triable(&tasks, task) {
+        bench.ask(Request::room(file.to_vec(), task as u32));
+    }
 }
 
 /// All calls on one file, the step from the table's start where it has one.
@@ -39,6 +42,8 @@ pub fn ask_all(bench: &mut Bench, file: &[u8]) {
     }
     bench.ask(Request::start(file.to_vec()));
     bench.ask(Request::step(file.to_vec(), reference::start(&tasks).to_bytes(), 1));
+    bench.ask(Request::press_start(file.to_vec()));
+    bench.ask(Request::press_step(file.to_vec(), reference::start(&tasks).to_bytes(), 1, u32::MAX));
     ask_log(bench, file, &tasks);
     ask_rewritten(bench, file);
     bench.ask(Request::to_text(file.to_vec()));
@@ -173,7 +178,7 @@ pub fn buffers(bench: &mut Bench, rng: &mut Rng) {
     let files = [b.clone(), b[..20].to_vec(), Vec::new(), none, long, file_of(9, &with_a_button()[1])];
     let lengths = (0..=1_100).chain([4_096, 65_534, 65_535, 65_536, 65_537, 65_680, 70_000, 131_072]);
     for length in lengths {
-        for call in [Call::Check, Call::Answer, Call::Start, Call::Step, Call::LogStart, Call::LogFinish] {
+        for call in [Call::Check, Call::Answer, Call::Start, Call::Step, Call::PressStart, Call::PressStep, Call::LogStart, Call::LogFinish] {
             let file = rng.pick(&[0, 0, 1, 2, 3, 4, 5]);
             let buffer = (0..length).map(|_| rng.below(3) as u8).collect();
             bench.ask(Request { call, file: files[file as usize].clone(), buffer, number: 0 });

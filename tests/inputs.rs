@@ -103,6 +103,16 @@ pub fn triable(budget: u64, tasks: &[Task], task: usize) -> bool {
     budget < horizon || horizon.saturating_mul(u64::from(tasks[task].deadline)) <= SLOTS
 }
 
+/// Whether trying every cost by the distance test needs no more slots than can be waited for.
+pub fn room_triable(tasks: &[Task], task: usize) -> bool {
+    const SLOTS: u64 = 30_000;
+    if task >= tasks.len() || reference::judge(tasks).is_err() {
+        return true;
+    }
+    let costs = u64::from(tasks[task].deadline) * tasks.len() as u64;
+    reference::round(tasks).unwrap().saturating_mul(costs) <= SLOTS
+}
+
 // Tables.
 
 fn pick_round(rng: &mut Rng) -> u32 {

@@ -228,6 +228,17 @@ fn held(bench: &mut Bench, words: &[&str], bytes: &[u8], status: i32, expected: 
     bench.count(good, || format!("{words:?} on {:?}: {output:?}, not {expected:?}", String::from_utf8_lossy(bytes)));
 }
 
+/// An object that has this member among others.
+pub fn held_with(bench: &mut Bench, words: &[&str], bytes: &[u8], status: i32, key: &str, value: &Value) {
+    let output = asked(words, bytes);
+    let found = match one_line(&output) {
+        Some(Object(members)) => members.into_iter().find(|(name, _)| name == key),
+        _ => None,
+    };
+    let good = found.as_ref().map(|(_, found)| found) == Some(value) && output.status.code() == Some(status);
+    bench.count(good, || format!("{words:?} on {:?}: {output:?}, not {key} {value:?}", String::from_utf8_lossy(bytes)));
+}
+
 fn one_line(output: &Output) -> Option<Value> {
     let line = std::str::from_utf8(&output.stdout).ok()?.strip_suffix('\n')?;
     read_line(line).filter(|_| !line.contains('\n'))

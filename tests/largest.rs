@@ -1,5 +1,6 @@
 //! How far a cost may grow: against a look at every cost, and where that is too long against the check.
 
+use crate::arrivals::mixed;
 use crate::bench::Bench;
 use crate::calls::{Reply, Request};
 use crate::inputs::*;
@@ -75,6 +76,32 @@ pub fn every_cost(bench: &mut Bench, rng: &mut Rng, count: u64) {
     }
     each_comes_up(bench, answers, count);
     bench.end_group("largest costs near the border of what passes");
+}
+
+/// The room of tables of both sorts, against a look at every cost.
+pub fn rooms(bench: &mut Bench, rng: &mut Rng, count: u64) {
+    let (mut answers, mut asked) = ([0; 8], 0);
+    while asked < count {
+        let mut tasks = mixed(rng);
+        if rng.chance(60) {
+            tasks.iter_mut().for_each(|task| task.cost = rng.range(1, task.cost));
+        }
+        let task = some_task(rng, tasks.len());
+        if !room_triable(&tasks, task as usize) {
+            continue;
+        }
+        let request = Request::room(file_of(1, &tasks), task);
+        let permitted = reference::answer(&request);
+        answers[answer_of(&tasks, task, permitted.0)] += 1;
+        bench.ask_knowing(request, permitted);
+        asked += 1;
+    }
+    let told = [0, 1, 2, 3, 5, 6].map(|answer| answers[answer]);
+    println!("room: as it is {}, larger {}, the deadline {}, overload {}, no answer {}, no such task {}", told[0], told[1], told[2], told[3], told[4], told[5]);
+    for often in told {
+        bench.count(often >= count / INPUTS_PER_ANSWER, || format!("an answer only {often} times in {count} inputs"));
+    }
+    bench.end_group("the room of tables with buttons");
 }
 
 /// Every number so many times, as far as its range goes, so that deadlines and periods reach 60,000.

@@ -28,6 +28,8 @@ mod papers;
 mod passes;
 mod pictures;
 mod plain;
+mod presses;
+mod pressing;
 mod randoms;
 mod reference;
 mod remedies;
@@ -92,12 +94,18 @@ fn judging(bench: &mut Bench, rng: &mut Rng, count: u64) {
     easing::lowered_costs(bench, rng, count / 2);
     largest::every_cost(bench, rng, count / 10);
     largest::long_deadlines(bench, rng, count / 40);
+    largest::rooms(bench, rng, count / 10);
     randoms::long_rounds(bench, rng, count / 20);
     randoms::spoilt_tables(bench, rng, count / 20);
     files::damaged_at_random(bench, rng, count / 20);
     randoms::starts(bench, rng, count);
     randoms::steps(bench, rng, count);
     runs::runs(bench, rng, count);
+    presses::by_hand(bench);
+    presses::starts(bench, rng, count / 10);
+    presses::steps(bench, rng, count);
+    presses::without_buttons(bench, rng, count / 4);
+    presses::runs(bench, rng, count);
 }
 
 fn at_full_load(bench: &mut Bench, rng: &mut Rng, count: u64) {
@@ -139,7 +147,7 @@ fn writing(bench: &mut Bench, rng: &mut Rng, count: u64) {
 fn what_is_shipped(bench: &mut Bench, rng: &mut Rng) {
     whole::stack(bench);
     whole::needs(bench);
-    whole::example_host(bench);
+    whole::example_hosts(bench);
     papers::headlines(bench);
     papers::promises(bench);
     papers::edits(bench);
@@ -158,6 +166,7 @@ fn what_is_shipped(bench: &mut Bench, rng: &mut Rng) {
     json::at_random(bench, rng);
     remedies::at_random(bench, rng);
     dumps::at_random(bench, rng);
+    pressing::at_random(bench, rng);
     pictures::of_tables(bench);
     pictures::in_docs(bench);
     pictures::at_random(bench, rng);

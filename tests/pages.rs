@@ -6,8 +6,9 @@ use crate::command::{asked, status_of};
 use crate::inputs::*;
 use crate::markup::{self, Element};
 use crate::names::{cut, named, names_of, shown, words_of, LETTERS};
-use crate::pictures::{all_texts_fit, drawing_fits, foretold, tells, usual_window, HTML, XML};
+use crate::pictures::{all_texts_fit, drawing_fits, foretold, pressed_drawing_fits, pressed_window, tells, usual_window, HTML, XML};
 use crate::plain;
+use crate::pressing::{distance_status, says_certainly, Presses};
 use crate::reference::{self, Late, Task, Verdict};
 use crate::remedies::{looked_for, percent, remedies};
 use std::fs;
@@ -245,22 +246,37 @@ fn page_fits(page: &Element, asked: &Asked) -> bool {
         && names_fit(runs[0], asked.names)
 }
 
-/// Of a table with buttons: no run, the distance answer.
-fn button_page_fits(page: &Element, asked: &Asked) -> bool {
-    let answer = reference::by_distance(asked.tasks) as usize;
-    let told = page.text().contains(["distance none", "distance pass", "distance overload"][answer]);
-    let proved = page.text().contains("Where it is pass, some way to\ngive out the slots keeps every deadline");
-    let kind = page.of_class("box")[0].has_class(["undecided", "passes", "late"][answer]);
-    told && proved && kind && page.of_class("run").is_empty() && is_a_page(page, asked) && rows_fit(page, asked, &[])
+/// Of a table with buttons: the distance answer, what is certain, the run with these presses, and which calls a camera uses.
+fn button_page_fits(page: &Element, asked: &Asked, presses: &Presses) -> bool {
+    let Asked { tasks, budget, .. } = *asked;
+    let (answer, status) = (reference::by_distance(tasks) as usize, distance_status(tasks, budget));
+    let (text, runs) = (page.text(), page.of_class("run"));
+    let told = text.contains(["distance none", "distance pass", "distance overload"][answer]);
+    let calls = text.contains("yolizadwa_press_start") && text.contains("yolizadwa_press_step");
+    let kind = page.of_class("box")[0].has_class(["passes", "", "", "late", "undecided"][status as usize]);
+    let verdict = format!("\n{}", page.of_class("verdict")[0].text());
+    let jobs = page.named("pre").last().map_or(String::new(), |list| list.text());
+    told && calls
+        && kind
+        && says_certainly(&format!("{verdict}\n{jobs}"), tasks, budget)
+        && is_a_page(page, asked)
+        && rows_fit(page, asked, &[])
+        && runs.len() == 1
+        && pressed_drawing_fits(runs[0], tasks, presses, &pressed_window(tasks, presses, MOST_SHOWN))
+        && names_fit(runs[0], asked.names)
 }
 
 pub fn is_paged(output: &Output, tasks: &[Task], budget: u64, names: &[String]) -> bool {
+    is_paged_with(output, tasks, budget, names, &Presses::new())
+}
+
+pub fn is_paged_with(output: &Output, tasks: &[Task], budget: u64, names: &[String], presses: &Presses) -> bool {
     let Ok(page) = markup::read(&output.stdout, HTML) else {
         return false;
     };
     let asked = Asked { tasks, budget, names };
     let (fits, status) = if reference::has_button(tasks) {
-        (button_page_fits(&page, &asked), [4, 0, 3][reference::by_distance(tasks) as usize])
+        (button_page_fits(&page, &asked, presses), distance_status(tasks, budget))
     } else {
         (page_fits(&page, &asked), status_of(&asked.verdict()))
     };

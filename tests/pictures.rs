@@ -1,14 +1,16 @@
 //! The words draw and page: what they write is well formed, has nothing that runs or is fetched, shows no more and no less than a run
 //! by the reference, and escapes what is anybody's. Sanitized, the command writes the same.
 
+use crate::arrivals::mixed;
 use crate::bench::Bench;
 use crate::command::{asked, sanitized, status_of, COMMAND, SANITIZED};
 use crate::inputs::*;
 use crate::judge::fed;
 use crate::markup::{self, Element};
 use crate::names::{names_of, shown};
-use crate::pages::is_paged;
+use crate::pages::{is_paged, is_paged_with};
 use crate::plain;
+use crate::pressing::{distance_status, of_often, often, some_presses, watched, when_due, Presses, Seen};
 use crate::program;
 use crate::reference::{self, Late, State, Task, Verdict, NONE};
 use std::collections::BTreeSet;
@@ -21,6 +23,7 @@ use std::process::{Command, Output};
 pub const XML: &str = "<?xml version=\"1.0\" encoding=\"UTF-8\"?>";
 pub const HTML: &str = "<!DOCTYPE html>";
 const AT_RANDOM: u64 = 80;
+const PRESSED: u64 = 40;
 const USUAL: u64 = 200;
 const LEAST: u64 = 35;
 const AROUND: u64 = 10;
@@ -31,8 +34,8 @@ const MOST_SLOTS: u64 = 1_000_000;
 /// Slots of a task, and instants of one.
 type Places = BTreeSet<(usize, u64)>;
 
-/// A window of a run: who has each slot, waits and misses it, and which of these are jobs of the late interval; what is released, due and
-/// closed late at each instant; of each late job, by its task and deadline, how many slots are missing; which slots are empty, and which
+/// A window of a run: who has each slot, waits and misses it, and which of these are jobs of the late interval; what is released, pressed,
+/// pressed too early, due and closed late at each instant; of each late job, by its task and deadline, how many slots are missing; which slots are empty, and which
 /// instants are idle without one beside them.
 #[derive(Default, PartialEq, Debug)]
 struct Shown {
@@ -44,6 +47,8 @@ struct Shown {
     missed_meant: Places,
     lacks: BTreeSet<(usize, u64, u64)>,
     released: Places,
+    pressed: Places,
+    early: Places,
     due: Places,
     closed: Places,
     empty: BTreeSet<u64>,
@@ -144,6 +149,36 @@ impl Shown {
         shown
     }
 
+    /// With presses, by the clock. No interval is shown.
+    fn by_clock(tasks: &[Task], presses: &Presses, window: &Window) -> Shown {
+        let (mut shown, mut idle) = (Shown::default(), BTreeSet::new());
+        for seen in watched(tasks, presses, window.to, window.early) {
+            for job in &seen.late {
+                shown.note_missed(job[0] as usize, seen.now, job[4], false, window);
+            }
+            if seen.now >= window.from {
+                shown.note_seen(tasks, &seen, window);
+                idle.extend(seen.idle.then_some(seen.now));
+            }
+        }
+        shown.note_idle(tasks.len(), &idle, window);
+        shown
+    }
+
+    fn note_seen(&mut self, tasks: &[Task], seen: &Seen, window: &Window) {
+        for number in 0..tasks.len() {
+            let (place, bit, slot) = ((number, seen.now), 1 << number, seen.now < window.to);
+            let has = seen.owner as usize == number;
+            let came = if tasks[number].button { &mut self.pressed } else { &mut self.released };
+            came.extend((seen.came & bit != 0).then_some(place));
+            self.due.extend((seen.due & bit != 0).then_some(place));
+            self.has.extend((slot && has).then_some(place));
+            self.waits.extend((slot && !has && seen.left[number] > 0).then_some(place));
+        }
+        self.closed.extend(seen.late.iter().map(|job| (job[0] as usize, seen.now)));
+        self.early.extend(seen.early.iter().map(|press| (press[0] as usize, seen.now)));
+    }
+
     /// A slot is empty if no task has it and none waits. An empty slot tells of the instants at its ends that they are idle.
     fn note_idle(&mut self, tasks: usize, idle: &BTreeSet<u64>, window: &Window) {
         let open = |slot: u64| (0..tasks).any(|task| self.has.contains(&(task, slot)) || self.waits.contains(&(task, slot)));
@@ -201,9 +236,11 @@ fn title_of(element: &Element) -> Option<String> {
     Some(element.elements().find(|child| child.name == "title")?.text())
 }
 
-/// The number behind the word task in an element's title.
+/// The number behind the word task or button in an element's title.
 fn task_of(element: &Element) -> Option<usize> {
-    title_of(element)?.strip_prefix("task ")?.split([' ', ':', ',']).next()?.parse().ok()
+    let title = title_of(element)?;
+    let rest = title.strip_prefix("task ").or_else(|| title.strip_prefix("button "))?;
+    rest.split([' ', ':', ',']).next()?.parse().ok()
 }
 
 /// What an element says of a late job: task, deadline, slots missing. The task's name may have these words too.
@@ -312,6 +349,8 @@ impl Shown {
             missed_meant,
             lacks: lacks(drawing, axes)?,
             released: marks(drawing, "released", axes)?,
+            pressed: marks(drawing, "pressed", axes)?,
+            early: marks(drawing, "early", axes)?,
             due: &due | &closed,
             closed,
             empty: band(drawing, axes)?,
@@ -437,6 +476,8 @@ fn legend_fits(drawing: &Element, shown: &Shown, late: &Option<Late>, horizon: b
         (shown.has != shown.meant, "has these slots"),
         (shown.waits != shown.waits_meant, "waits"),
         (!shown.released.is_empty(), "is released"),
+        (!shown.pressed.is_empty(), "is pressed"),
+        (!shown.early.is_empty(), "is pressed too early: not taken"),
         (shown.due != shown.closed, "is due"),
         (!shown.closed.is_empty(), "is due, and closed late"),
         (shown.missed != shown.missed_meant, "late: that many slots are missing"),
@@ -500,9 +541,10 @@ fn shades_fit(drawing: &Element, axes: &[Axis], late: &Option<Late>) -> bool {
 
 fn horizon_within(tasks: &[Task], window: &Window) -> bool {
     let horizon = reference::horizon(tasks, reference::round(tasks).unwrap());
-    horizon >= window.from && horizon <= window.to
+    !reference::has_button(tasks) && horizon >= window.from && horizon <= window.to
 }
 
+/// A table with buttons has no horizon.
 fn horizon_fits(drawing: &Element, tasks: &[Task], window: &Window) -> bool {
     let horizon = reference::horizon(tasks, reference::round(tasks).unwrap());
     let told: Vec<String> = drawing.of_class("horizon").iter().map(|group| group.text()).collect();
@@ -538,17 +580,25 @@ fn late_of(tasks: &[Task], budget: u64) -> Option<Late> {
 /// Everything of a drawing against the reference.
 pub fn drawing_fits(drawing: &Element, tasks: &[Task], budget: u64, window: &Window) -> bool {
     let late = late_of(tasks, budget);
+    shows(drawing, tasks, late, window, Shown::by_reference(tasks, &late, window))
+}
+
+/// Everything of a drawing with presses, against the clock.
+pub fn pressed_drawing_fits(drawing: &Element, tasks: &[Task], presses: &Presses, window: &Window) -> bool {
+    shows(drawing, tasks, None, window, Shown::by_clock(tasks, presses, window))
+}
+
+fn shows(drawing: &Element, tasks: &[Task], late: Option<Late>, window: &Window, expected: Shown) -> bool {
     let Some(axes) = axes(drawing, window) else {
         return false;
     };
-    let expected = Shown::by_reference(tasks, &late, window);
     is_plain(drawing)
         && sheets(drawing).into_iter().all(is_whole)
         && rulers_fit(drawing, &axes)
         && labels_fit(drawing, tasks)
         && shades_fit(drawing, &axes, &late)
         && horizon_fits(drawing, tasks, window)
-        && jobs_apart(drawing, &axes, &expected.released)
+        && jobs_apart(drawing, &axes, &(&expected.released | &expected.pressed))
         && sum_fits(&expected, tasks, &late, window)
         && legend_fits(drawing, &expected, &late, horizon_within(tasks, window), window)
         && all_texts_fit(drawing)
@@ -567,6 +617,14 @@ pub fn usual_window(tasks: &[Task], budget: u64, most: u64) -> Window {
         let from = late.start.saturating_sub(AROUND).max(to.saturating_sub(most)).min(MOST_SLOTS - LEAST);
         (from, to.max(from + LEAST))
     });
+    Window { from, to, early: false }
+}
+
+/// The window that the command chooses for presses.
+pub fn pressed_window(tasks: &[Task], presses: &Presses, most: u64) -> Window {
+    let (usual, due) = (of_often(tasks).clamp(LEAST, most), when_due(tasks, presses));
+    let first = presses.keys().next().copied().unwrap_or(0).saturating_sub(AROUND);
+    let (from, to) = if due > most { (first, (first + most).min(MOST_SLOTS)) } else { (0, usual.max(due)) };
     Window { from, to, early: false }
 }
 
@@ -639,6 +697,16 @@ fn is_drawn(output: &Output, tasks: &[Task], budget: u64) -> bool {
     output.status.code() == Some(status) && output.stderr.is_empty() && drawing.map_or(false, fits)
 }
 
+/// Of a table with buttons, and its verdict by the distance test and by what is certain.
+fn is_drawn_pressed(output: &Output, tasks: &[Task], budget: u64, presses: &Presses, window: &Window) -> bool {
+    let status = distance_status(tasks, budget);
+    let word = if reference::by_distance(tasks) == 2 { "overload: " } else { ["pass: ", "", "", "late: ", "no answer: "][status as usize] };
+    let fits = |drawing: Element| {
+        pressed_drawing_fits(&drawing, tasks, presses, window) && drawing.named("desc")[0].text().starts_with(word)
+    };
+    output.status.code() == Some(status) && output.stderr.is_empty() && markup::read(&output.stdout, XML).map_or(false, fits)
+}
+
 fn one_table(bench: &mut Bench, path: &Path) {
     let table = table_at(path);
     for word in ["draw", "page"] {
@@ -646,7 +714,10 @@ fn one_table(bench: &mut Bench, path: &Path) {
         let output = output_on(&words);
         let good = match &table {
             Err(_) => is_refused(&output),
-            Ok((_, tasks)) if word == "draw" && reference::has_button(tasks) => is_refused(&output),
+            Ok((budget, tasks)) if word == "draw" && reference::has_button(tasks) => {
+                let none = Presses::new();
+                is_drawn_pressed(&output, tasks, *budget, &none, &pressed_window(tasks, &none, USUAL))
+            }
             Ok((budget, tasks)) if word == "draw" => is_drawn(&output, tasks, *budget),
             Ok((budget, tasks)) => is_paged(&output, tasks, *budget, &names_at(path)),
         };
@@ -670,9 +741,9 @@ pub fn of_tables(bench: &mut Bench) {
 
 /// The pictures of README.md are what draw makes of their tables.
 pub fn in_docs(bench: &mut Bench) {
-    for name in ["b", "c"] {
+    for (name, options) in [("b", &[][..]), ("c", &[]), ("shutter", &["--press", "shutter@3,20,60"])] {
         let kept = std::fs::read(format!("docs/{name}.svg")).unwrap_or_default();
-        let output = asked(&["draw", &format!("tables/{name}.txt")], b"");
+        let output = asked(&[&["draw", &format!("tables/{name}.txt")], options].concat(), b"");
         bench.count(kept == output.stdout, || format!("docs/{name}.svg is not what draw makes of tables/{name}.txt"));
     }
     bench.end_group("pictures in docs/");
@@ -707,7 +778,25 @@ fn windowed(bench: &mut Bench, (window, words): (Window, Vec<String>), tasks: &[
     bench.count(good && output.status.code() == Some(status), || format!("{words:?} on {tasks:?} and budget {budget}"));
 }
 
+/// A table with buttons, drawn and on a page with presses.
+fn pressed(bench: &mut Bench, rng: &mut Rng) {
+    let tasks = mixed(rng);
+    let (budget, within) = (budget_about(rng, &often(&tasks)), rng.pick(&[30, 150, 700]));
+    let (presses, told) = some_presses(rng, &tasks, within);
+    let text = plain::text_of(budget, &tasks);
+    let (window, words) = any_window(rng);
+    for (window, words) in [(window, words), (pressed_window(&tasks, &presses, USUAL), vec!["draw".to_string(), "-".to_string()])] {
+        let words: Vec<&str> = words.iter().chain(&told).map(String::as_str).collect();
+        let output = asked(&words, &text);
+        bench.count(is_drawn_pressed(&output, &tasks, budget, &presses, &window), || format!("{words:?} on {tasks:?} and budget {budget}"));
+    }
+    let words: Vec<&str> = ["page", "-"].into_iter().chain(told.iter().map(String::as_str)).collect();
+    let good = is_paged_with(&asked(&words, &text), &tasks, budget, &[], &presses);
+    bench.count(good, || format!("{words:?} on {tasks:?} and budget {budget}"));
+}
+
 pub fn at_random(bench: &mut Bench, rng: &mut Rng) {
+    (0..PRESSED).for_each(|_| pressed(bench, rng));
     for _ in 0..AT_RANDOM {
         let tasks = near_border(rng);
         let budget = budget_about(rng, &tasks);

@@ -106,6 +106,7 @@ static uint8_t nothing;
 #define LISTENS(name, function)
 #define COMPARES(name, function)
 #define STEPS(name, function)
+#define PRESSES(name, function)
 #define FEEDS(name, function)
 #define WRITES(name, function)
 
@@ -121,6 +122,12 @@ uint64_t yolizadwa_passes(const uint8_t *report, size_t length)
 uint64_t yolizadwa_step(const uint8_t *file, size_t file_len, uint8_t *state, size_t state_len, uint32_t done)
 {
     return forward(STEP, file, file_len, state, state_len, done);
+}
+
+/* What is pressed goes above what is done. */
+uint64_t yolizadwa_press_step(const uint8_t *file, size_t file_len, uint8_t *state, size_t state_len, uint32_t done, uint32_t pressed)
+{
+    return forward(PRESS_STEP, file, file_len, state, state_len, (uint64_t)pressed << 32 | done);
 }
 
 uint64_t yolizadwa_write(const uint32_t *words, size_t count, uint64_t budget, uint8_t *file, size_t file_len)

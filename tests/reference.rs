@@ -589,6 +589,20 @@ pub fn largest(tasks: &[Task], task: usize, budget: u64) -> u64 {
     }
 }
 
+/// The room of a table of either sort: every cost from the deadline down is tried.
+pub fn room(tasks: &[Task], task: usize) -> u64 {
+    let passes = |cost: &u32| {
+        let mut changed = tasks.to_vec();
+        changed[task].cost = *cost;
+        by_distance(&changed) == 1
+    };
+    match by_distance(tasks) {
+        1 => u64::from((1..=tasks[task].deadline).rev().find(passes).expect("it passes with the cost that it has")),
+        2 => OVERLOAD,
+        _ => LATE,
+    }
+}
+
 /// The task that is asked for, if the table has it.
 fn asked_task(request: &Request, tasks: &[Task]) -> Result<usize, Refusal> {
     let task = request.number as usize;
@@ -783,7 +797,7 @@ fn give_slot(tasks: &[Task], state: &mut State) {
         None => state.empty += 1,
     }
     for wait in &mut state.wait[..tasks.len()] {
-        *wait -= 1;
+        *wait = wait.saturating_sub(1);
     }
 }
 
@@ -802,6 +816,38 @@ pub fn step(tasks: &[Task], state: &State, done: bool) -> Result<State, Refusal>
     Ok(next)
 }
 
+/// A step of section 5.6: the presses that were not taken, and the next state.
+pub fn press_step(tasks: &[Task], state: &State, done: bool, pressed: u32) -> Result<(u32, State), Refusal> {
+    belongs(tasks, state)?;
+    if state.counted(tasks) == u128::from(u64::MAX) {
+        return refuse(9, 0);
+    }
+    let mut next = *state;
+    if done && state.last != NONE {
+        next.left[state.last as usize] = 0;
+    }
+    close_late(tasks, &mut next);
+    let untaken = come(tasks, &mut next, pressed);
+    give_slot(tasks, &mut next);
+    Ok((untaken, next))
+}
+
+/// Jobs come of periodic tasks that are due and of buttons that are pressed and may be; every other press is told.
+fn come(tasks: &[Task], state: &mut State, pressed: u32) -> u32 {
+    let mut untaken = pressed;
+    for (number, task) in tasks.iter().enumerate() {
+        let due = state.wait[number] == 0 && (!task.button || pressed >> number & 1 == 1);
+        if due {
+            state.left[number] = task.cost;
+            state.wait[number] = task.period;
+        }
+        if due && task.button {
+            untaken &= !(1 << number);
+        }
+    }
+    untaken
+}
+
 // The exported calls.
 
 fn check_buffer(request: &Request) -> Result<(), Refusal> {
@@ -809,7 +855,7 @@ fn check_buffer(request: &Request) -> Result<(), Refusal> {
     match request.call {
         Call::Check | Call::CheckPlainly if length < REPORT_BYTES => refuse(30, length),
         Call::Answer if length < ANSWER_BYTES => refuse(30, length),
-        Call::Start | Call::Step if length != STATE_BYTES => refuse(50, length.min(LARGEST_PLACE)),
+        Call::Start | Call::Step | Call::PressStart | Call::PressStep if length != STATE_BYTES => refuse(50, length.min(LARGEST_PLACE)),
         Call::LogStart | Call::LogFeed | Call::LogFinish if length != LOG_BYTES => refuse(50, length.min(LARGEST_PLACE)),
         _ => Ok(()),
     }
@@ -819,7 +865,7 @@ fn read_table(request: &Request) -> Result<(u64, Vec<Task>), Refusal> {
     check_buffer(request)?;
     let (budget, tasks) = read_file(file_in(request))?;
     match request.call {
-        Call::ToText | Call::Distance => judge(&tasks)?,
+        Call::ToText | Call::Distance | Call::Room | Call::PressStart | Call::PressStep => judge(&tasks)?,
         _ => judge_periodic(&tasks)?,
     }
     Ok((budget, tasks))
@@ -878,11 +924,17 @@ fn answered(request: &Request) -> Result<(u64, Vec<u8>), Refusal> {
             let (budget, tasks) = read_table(request)?;
             Ok((0, numbers(&tasks, budget)))
         }
-        Call::Start => Ok((0, start(&read_table(request)?.1).to_bytes())),
+        Call::Start | Call::PressStart => Ok((0, start(&read_table(request)?.1).to_bytes())),
         Call::Step => {
             let (_, tasks) = read_table(request)?;
             let state = step(&tasks, &State::from_bytes(&request.buffer), request.number != 0)?;
             Ok((u64::from(state.last), state.to_bytes()))
+        }
+        Call::PressStep => {
+            let (_, tasks) = read_table(request)?;
+            let (done, pressed) = (request.number as u32 != 0, (request.number >> 32) as u32);
+            let (untaken, state) = press_step(&tasks, &State::from_bytes(&request.buffer), done, pressed)?;
+            Ok((u64::from(untaken) << 32 | u64::from(state.last), state.to_bytes()))
         }
         Call::Write => {
             let tasks = table_from(&request.file)?;
@@ -907,6 +959,10 @@ fn answered(request: &Request) -> Result<(u64, Vec<u8>), Refusal> {
         Call::Largest => {
             let (budget, tasks) = read_table(request)?;
             Ok((largest(&tasks, asked_task(request, &tasks)?, budget), Vec::new()))
+        }
+        Call::Room => {
+            let (_, tasks) = read_table(request)?;
+            Ok((room(&tasks, asked_task(request, &tasks)?), Vec::new()))
         }
         Call::LogStart => Ok((0, Log::start(&read_table(request)?.1).to_bytes())),
         Call::LogFeed | Call::LogFinish => {

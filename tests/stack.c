@@ -23,9 +23,9 @@ _Static_assert(sizeof(struct yolizadwa_state) == YOLIZADWA_STATE_BYTES && offset
 _Static_assert(sizeof(struct yolizadwa_log) == YOLIZADWA_LOG_BYTES, "as the library lays a log out");
 _Static_assert(offsetof(struct yolizadwa_log, opened) == YOLIZADWA_STATE_BYTES && offsetof(struct yolizadwa_log, slots) == 552, "as the library lays a log out");
 
-enum { ROOM = 1 << 18, MOST_WORDS = 400000 };
+enum { STACK_BYTES = 1 << 18, MOST_WORDS = 400000 };
 
-static _Alignas(16) uint8_t room[ROOM];
+static _Alignas(16) uint8_t room[STACK_BYTES];
 static uint32_t words[MOST_WORDS];
 
 static struct {
@@ -56,6 +56,7 @@ static uint64_t write_words(const uint8_t *bytes, size_t len, uint64_t budget, u
 #define FILLS(function) function(file, file_len, buffer, buffer_len)
 #define COMPARES(function) function(file, file_len, buffer, buffer_len)
 #define STEPS(function) function(file, file_len, buffer, buffer_len, (uint32_t)number)
+#define PRESSES(function) function(file, file_len, buffer, buffer_len, (uint32_t)number, (uint32_t)(number >> 32))
 #define FEEDS(function) function(file, (size_t)number, buffer, buffer_len, file + number, file_len - (size_t)number)
 #define WRITES(function) write_words(file, file_len, number, buffer, buffer_len)
 
@@ -83,7 +84,7 @@ static void on_own_stack(void (*run)(void))
                      "call *%[run]\n\t"
                      "movq %%rbx, %%rsp"
                      :
-                     : [top] "r"(room + ROOM), [run] "r"(run)
+                     : [top] "r"(room + STACK_BYTES), [run] "r"(run)
                      : "rax", "rbx", "rcx", "rdx", "rsi", "rdi", "r8", "r9", "r10", "r11", "xmm0", "xmm1", "xmm2", "xmm3",
                        "xmm4", "xmm5", "xmm6", "xmm7", "xmm8", "xmm9", "xmm10", "xmm11", "xmm12", "xmm13", "xmm14",
                        "xmm15", "cc", "memory");
@@ -92,12 +93,12 @@ static void on_own_stack(void (*run)(void))
 static uint64_t depth_over(int paint)
 {
     size_t untouched = 0;
-    memset(room, paint, ROOM);
+    memset(room, paint, STACK_BYTES);
     on_own_stack(make_wanted_call);
-    while (untouched < ROOM && room[untouched] == paint) {
+    while (untouched < STACK_BYTES && room[untouched] == paint) {
         untouched++;
     }
-    return ROOM - untouched;
+    return STACK_BYTES - untouched;
 }
 
 static uint8_t *copy_of(const uint8_t *bytes, size_t len)

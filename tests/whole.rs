@@ -89,8 +89,12 @@ pub fn stack(bench: &mut Bench) {
     deepest(bench, "distance", &files.iter().cloned().map(Request::distance).collect::<Vec<_>>());
     deepest(bench, "eased", &hard_pairs(&files));
     deepest_largest(bench, &files);
+    let rooms = files.iter().flat_map(|file| [0, u32::MAX].map(|task| Request::room(file.clone(), task)));
+    measure(bench, "room", &rooms.collect::<Vec<_>>());
     deepest(bench, "start", &starts);
     deepest(bench, "step", &steps);
+    deepest(bench, "press start", &files.iter().cloned().map(Request::press_start).collect::<Vec<_>>());
+    deepest(bench, "press step", &steps.into_iter().map(pressed).collect::<Vec<_>>());
     deepest(bench, "log start", &files.iter().cloned().map(Request::log_start).collect::<Vec<_>>());
     deepest(bench, "log feed", &files.iter().flat_map(|file| hard_logs(file)).collect::<Vec<_>>());
     deepest(bench, "log finish", &files.iter().flat_map(|file| hard_finishes(file)).collect::<Vec<_>>());
@@ -134,6 +138,11 @@ fn hard_steps(file: Vec<u8>) -> Vec<Request> {
     }
     strange.last = 99;
     [first, due, strange].iter().map(|state| Request::step(file.clone(), state.to_bytes(), 1)).collect()
+}
+
+/// The same step with everything pressed.
+fn pressed(step: Request) -> Request {
+    Request::press_step(step.file, step.buffer, step.number as u32, u32::MAX)
 }
 
 /// States of logs: at the start, with every job at its deadline and a task's number to come, and one that is refused.
@@ -200,17 +209,23 @@ pub fn needs(bench: &mut Bench) {
     bench.end_group("what the library needs of the C library");
 }
 
-fn host_run(words: &[&str]) -> String {
-    let output = program("target/host/host").args(words).output().expect("the example host starts");
+fn example_run(name: &str, words: &[&str]) -> String {
+    let output = program(&format!("target/host/{name}")).args(words).output().expect("the example starts");
     let status = output.status.code().map_or("no status".to_string(), |code| format!("status {code}"));
-    format!("$ host {}\n{}{status}\n", words.join(" "), String::from_utf8_lossy(&output.stdout))
+    let line = [&[name][..], words].concat().join(" ");
+    format!("$ {line}\n{}{status}\n", String::from_utf8_lossy(&output.stdout))
 }
 
-/// What it wrote stays in target/host/host.written, to be looked at or, once judged right, stored.
-pub fn example_host(bench: &mut Bench) {
-    let written: String = HOST_RUNS.iter().map(|words| host_run(words)).collect();
-    let stored = std::fs::read_to_string("examples/host.expected").unwrap_or_default();
-    std::fs::write("target/host/host.written", &written).expect("target/host can be written");
-    bench.count(written == stored, || "target/host/host.written is not examples/host.expected".to_string());
-    bench.end_group("the example host");
+/// What it wrote stays in target/host/NAME.written, to be looked at or, once judged right, stored.
+fn example(bench: &mut Bench, name: &str, runs: &[&[&str]]) {
+    let written: String = runs.iter().map(|words| example_run(name, words)).collect();
+    let stored = std::fs::read_to_string(format!("examples/{name}.expected")).unwrap_or_default();
+    std::fs::write(format!("target/host/{name}.written"), &written).expect("target/host can be written");
+    bench.count(written == stored, || format!("target/host/{name}.written is not examples/{name}.expected"));
+}
+
+pub fn example_hosts(bench: &mut Bench) {
+    example(bench, "host", HOST_RUNS);
+    example(bench, "shutter", &[&[]]);
+    bench.end_group("the example hosts");
 }

@@ -6,7 +6,7 @@ static unsigned box_height(const struct block *block)
     return block->lane * 4 / 9;
 }
 
-static uint8_t signs_at(const struct block *block, unsigned number, unsigned long instant)
+static uint16_t signs_at(const struct block *block, unsigned number, unsigned long instant)
 {
     return block->picture->lanes[number].signs[instant - block->picture->from];
 }
@@ -14,7 +14,7 @@ static uint8_t signs_at(const struct block *block, unsigned number, unsigned lon
 /* A layer draws stretches of slots that have these of the signs that it looks at; a break ends a stretch. */
 struct layer {
     const char *group;
-    uint8_t looks, signs, breaks;
+    uint16_t looks, signs, breaks;
     void (*put)(const struct block *block, unsigned number, unsigned long from, unsigned long to);
 };
 
@@ -113,14 +113,16 @@ static const struct layer layers[] = {
     {"class=\"missed meant\" fill=\"#c00\" stroke=\"#000\" stroke-width=\"1.4\"", MISSED | BLAMED, MISSED | BLAMED, CLOSED, put_missed},
 };
 
-/* An arrow up where a job is released, down where it is due. */
-static void put_mark(const struct block *block, unsigned number, unsigned long instant, uint8_t sign)
+/* An arrow up where a job is released, with a button at its foot where it is pressed, down where it is due; a crossed line where it is pressed
+ * too early. */
+static void put_mark(const struct block *block, unsigned number, unsigned long instant, uint16_t sign)
 {
     unsigned x = x_of(block, instant), top = lane_top(block, number) + 1, floor = floor_of(block, number);
-    if (sign == RELEASED) {
-        printf("M%u %uV%um0 -4l-3 5h6z", x, floor, top + 4);
-    } else {
-        printf("M%u %uV%um0 4l-3 -5h6z", x, top, floor - 4);
+    switch (sign) {
+    case RELEASED: printf("M%u %uV%um0 -4l-3 5h6z", x, floor, top + 4); break;
+    case PRESSED: printf("M%u %uV%um0 -4l-3 5h6zm-3 %ua3 3 0 1 0 6 0a3 3 0 1 0 -6 0", x, floor - 2, top + 4, floor - 2 - top); break;
+    case TOO_EARLY: printf("M%u %uV%um-4 %ul8 8m0 -8l-8 8", x, floor, top, (floor - top) / 2 - 4); break;
+    default: printf("M%u %uV%um0 4l-3 -5h6z", x, top, floor - 4);
     }
 }
 
@@ -129,14 +131,14 @@ static unsigned long marks_end(const struct block *block)
     return block->end == block->picture->to ? block->end + 1 : block->end;
 }
 
-/* One path has all marks of a lane with these of the signs that are looked at. */
-static void put_marks(const struct block *block, unsigned number, const char *what, uint8_t looks, uint8_t signs)
+/* One path has all marks of a lane with this one of the signs that are looked at. */
+static void put_marks(const struct block *block, unsigned number, const char *what, uint16_t looks, uint16_t sign)
 {
     unsigned long marks = 0;
     for (unsigned long instant = block->begin; instant < marks_end(block); instant++) {
-        if ((signs_at(block, number, instant) & looks) == signs) {
+        if ((signs_at(block, number, instant) & looks) == sign) {
             printf("%s", marks++ == 0 ? "<path d=\"" : "");
-            put_mark(block, number, instant, signs & RELEASED ? RELEASED : DUE);
+            put_mark(block, number, instant, sign);
         }
     }
     if (marks > 0) {
@@ -146,11 +148,11 @@ static void put_marks(const struct block *block, unsigned number, const char *wh
     }
 }
 
-static void put_all_marks(const struct block *block, const char *group, const char *what, uint8_t looks, uint8_t signs)
+static void put_all_marks(const struct block *block, const char *group, const char *what, uint16_t looks, uint16_t sign)
 {
     printf("<g %s>\n", group);
     for (unsigned number = 0; number < block->picture->tasks; number++) {
-        put_marks(block, number, what, looks, signs);
+        put_marks(block, number, what, looks, sign);
     }
     printf("</g>\n");
 }
@@ -188,7 +190,11 @@ static void put_layers(const struct block *block)
 void put_lanes(const struct block *block)
 {
     put_layers(block);
-    put_all_marks(block, "class=\"released\" stroke=\"#000\"", "is released", RELEASED, RELEASED);
+    put_all_marks(block, "class=\"released\" stroke=\"#000\"", "is released", RELEASED | PRESSED, RELEASED);
+    if (button_count(block->picture->table) > 0) {
+        put_all_marks(block, "class=\"pressed\" stroke=\"#000\"", "is pressed", PRESSED, PRESSED);
+        put_all_marks(block, "class=\"early\" stroke=\"#000\" stroke-width=\"2\" fill=\"none\"", "is pressed too early", TOO_EARLY, TOO_EARLY);
+    }
     put_all_marks(block, "class=\"due\" stroke=\"#000\"", "is due", DUE | CLOSED, DUE);
     put_all_closed(block);
 }

@@ -28,7 +28,7 @@ static int has_excess(const struct picture *picture)
 
 /* A sign of the legend and its words. It is shown if `when` says so or, without a `when`, if a lane has these signs. */
 struct key {
-    uint8_t looks, signs;
+    uint16_t looks, signs;
     int (*when)(const struct picture *picture);
     const char *sign, *words;
 };
@@ -37,7 +37,11 @@ static const struct key keys[] = {
     {HAS | MEANT, HAS, NULL, "<rect x=\"0\" y=\"-11\" width=\"26\" height=\"13\" fill=\"#c5d8ea\" stroke=\"#1c3f5e\"/>",
      "has these slots"},
     {WAITS | MEANT, WAITS, NULL, "<path d=\"M0 -4H26\" stroke=\"#555\" stroke-width=\"2\" stroke-dasharray=\"1 2\"/>", "waits"},
-    {RELEASED, RELEASED, NULL, "<path d=\"M13 2V-8m0 -4l-3 5h6z\" stroke=\"#000\"/>", "is released"},
+    {RELEASED | PRESSED, RELEASED, NULL, "<path d=\"M13 2V-8m0 -4l-3 5h6z\" stroke=\"#000\"/>", "is released"},
+    {PRESSED, PRESSED, NULL, "<path d=\"M13 0V-8m0 -4l-3 5h6zM10 0a3 3 0 1 0 6 0a3 3 0 1 0 -6 0\" stroke=\"#000\"/>", "is pressed"},
+    {TOO_EARLY, TOO_EARLY, NULL,
+     "<path d=\"M13 2V-11M9 -9l8 8m0 -8l-8 8\" stroke=\"#000\" stroke-width=\"2\"/>",
+     "is pressed too early: not taken"},
     {DUE | CLOSED, DUE, NULL, "<path d=\"M13 -12V-2m0 4l-3 -5h6z\" stroke=\"#000\"/>", "is due"},
     {CLOSED, CLOSED, NULL,
      "<path d=\"M13 -12V-2m0 4l-3 -5h6z\" fill=\"#c00\" stroke=\"#c00\" stroke-width=\"2\"/>",

@@ -2,7 +2,7 @@
 #ifndef PICTURE_H
 #define PICTURE_H
 
-#include "../command.h"
+#include "../course.h"
 
 enum { MOST_WINDOW = 2000 };
 
@@ -15,7 +15,10 @@ enum sign {
     RELEASED = 16,
     DUE = 32,
     CLOSED = 64,  /* closed late */
-    BLAMED = 128  /* one of the jobs that ask for too much is missing this */
+    BLAMED = 128, /* one of the jobs that ask for too much is missing this */
+    PRESSED = 256, /* a press releases the job */
+    TOO_EARLY = 512, /* a press that was not taken */
+    ALL_SIGNS = 1024
 };
 
 /* A job closed late: when it was due, and how many slots were missing then. */
@@ -25,7 +28,7 @@ struct lack {
 
 struct lane {
     struct task task;
-    uint8_t signs[MOST_WINDOW + 1];
+    uint16_t signs[MOST_WINDOW + 1];
     struct lack lacks[MOST_WINDOW + 1]; /* where the signs say CLOSED or MISSED */
     /* While the run goes by. */
     int released, blamed;
@@ -50,9 +53,11 @@ struct picture {
     int early, is_late; /* is_late: there is an excess */
     unsigned long most; /* slots that are shown without being asked for; 0: as many as are usual */
     uint8_t any_idle;   /* in the window */
-    uint8_t seen[256];  /* which sums of signs the window has */
+    uint8_t seen[ALL_SIGNS]; /* which sums of signs the window has */
     struct excess excess;
-    uint64_t horizon;
+    uint64_t horizon; /* a table with buttons has none: UINT64_MAX */
+    struct press_list pressed;
+    unsigned long pressed_later; /* presses behind the window */
     struct sentence verdict;
     uint8_t idle[MOST_WINDOW + 1];
     struct lane lanes[YOLIZADWA_TASKS];
@@ -61,7 +66,8 @@ struct picture {
 /* Call them in this order. take_window tells TROUBLE if the window of the request cannot be drawn. */
 int take_window(struct picture *picture, const struct request *request);
 void take_verdict(struct picture *picture, const struct table *table, const struct yolizadwa_numbers *numbers);
-void trace_run(struct picture *picture, const struct table *table, int early);
+void take_answer(struct picture *picture, const struct table *table, const struct presses *presses); /* with buttons, the verdict is told */
+void trace_run(struct picture *picture, const struct table *table, const struct presses *presses, int early);
 
 /* The drawing as one element of SVG; or for a page as a caption, blocks whose labels can stay in view, and a legend. */
 void put_drawing(const struct picture *picture);

@@ -83,10 +83,40 @@ static void put_heading(const struct picture *picture)
     }
 }
 
+static int closes_late(const struct picture *picture)
+{
+    for (unsigned signs = 0; signs < ALL_SIGNS; signs++) {
+        if (picture->seen[signs] && (signs & CLOSED)) {
+            return 1;
+        }
+    }
+    return 0;
+}
+
+/* Those from 0 on are counted. */
+static void put_presses(const struct picture *picture)
+{
+    const struct press_list *list = &picture->pressed;
+    if (list->taken + list->untaken == 0) {
+        printf("; from 0 to %lu no button is pressed", picture->to);
+    } else {
+        printf("; from 0 to %lu presses taken: %lu, too early: %lu", picture->to, list->taken, list->untaken);
+    }
+    if (picture->pressed_later > 0) {
+        printf(", later: %lu", picture->pressed_later);
+    }
+    printf("%s", closes_late(picture) ? "; a job is closed late" : "");
+}
+
 void put_caption(const struct picture *picture)
 {
     put_slots(picture->from, picture->to);
-    printf("%s; horizon %" PRIu64, picture->early ? ", every job done after half its cost" : "", picture->horizon);
+    printf("%s", picture->early ? ", every job done after half its cost" : "");
+    if (picture->horizon == UINT64_MAX) {
+        put_presses(picture);
+        return;
+    }
+    printf("; horizon %" PRIu64, picture->horizon);
     if (picture->is_late && (picture->excess.start < picture->from || picture->excess.end > picture->to)) {
         printf("; the late interval is from %" PRIu64 " to %" PRIu64, picture->excess.start, picture->excess.end);
     }

@@ -8,31 +8,36 @@ static int is_meant(const struct picture *picture, const struct lane *lane)
            lane->release + lane->task.deadline <= picture->excess.end;
 }
 
-/* The job before the instant is due or closed late first, then one is released. A wait of 0 is a release. */
-static uint8_t look_at_instant(const struct picture *picture, struct lane *lane, const struct course *course, unsigned number)
+static int has_bit(uint32_t set, unsigned number)
+{
+    return set >> number & 1;
+}
+
+/* The job before the instant is due or closed late first, then one is released. */
+static uint16_t look_at_instant(const struct picture *picture, struct lane *lane, const struct course *course, unsigned number)
 {
     uint64_t now = course->slots - 1;
-    uint8_t signs = 0;
-    if (lane->released && now == lane->release + lane->task.deadline) {
+    uint16_t signs = has_bit(course->untaken, number) ? TOO_EARLY : 0;
+    if (has_bit(course->due, number)) {
         signs |= DUE;
     }
-    if (course->state.late >> number & 1) {
+    if (has_bit(course->state.late, number)) {
         signs |= CLOSED;
         lane->lack.due = (uint32_t)now;
         lane->lack.missing = course->before.left[number];
         lane->blamed = is_meant(picture, lane);
     }
-    if (course->before.wait[number] == 0) {
-        signs |= RELEASED;
+    if (has_bit(course->came, number)) {
+        signs |= lane->task.button ? RELEASED | PRESSED : RELEASED;
         lane->released = 1;
         lane->release = now;
     }
     return signs;
 }
 
-static uint8_t look_at_slot(const struct picture *picture, const struct lane *lane, const struct course *course, unsigned number)
+static uint16_t look_at_slot(const struct picture *picture, const struct lane *lane, const struct course *course, unsigned number)
 {
-    uint8_t signs = 0;
+    uint16_t signs = 0;
     if (course->state.last == number) {
         signs |= HAS;
     } else if (course->state.left[number] > 0) {
@@ -51,7 +56,7 @@ static void look_at_lane(struct picture *picture, const struct course *course, u
 {
     struct lane *lane = &picture->lanes[number];
     uint64_t now = course->slots - 1;
-    uint8_t signs = look_at_instant(picture, lane, course, number);
+    uint16_t signs = look_at_instant(picture, lane, course, number);
     if (now < picture->from) {
         return;
     }
@@ -83,16 +88,18 @@ static void trace_slot(struct picture *picture, struct course *course)
     if (now >= picture->from) {
         note_idle(picture, now, idle, empty);
     }
+    note_presses(&picture->pressed, course);
     for (unsigned number = 0; number < picture->tasks; number++) {
         look_at_lane(picture, course, number);
     }
 }
 
 /* The instant after the last slot is shown too, so one more step is taken. */
-void trace_run(struct picture *picture, const struct table *table, int early)
+void trace_run(struct picture *picture, const struct table *table, const struct presses *presses, int early)
 {
     struct course course;
     begin_course(&course, table, early);
+    course.presses = presses;
     picture->early = early;
     picture->table = table;
     picture->tasks = course.tasks;
@@ -101,5 +108,8 @@ void trace_run(struct picture *picture, const struct table *table, int early)
     }
     while (course.slots <= picture->to) {
         trace_slot(picture, &course);
+    }
+    if (presses != NULL) {
+        picture->pressed_later = presses->count - picture->pressed.taken - picture->pressed.untaken;
     }
 }

@@ -84,3 +84,20 @@ void take_verdict(struct picture *picture, const struct table *table, const stru
         show_first(picture, table);
     }
 }
+
+/* Shows every press that is told, or those from the first on that there is room for. */
+void take_answer(struct picture *picture, const struct table *table, const struct presses *presses)
+{
+    unsigned long usual = usual_window(picture);
+    picture->horizon = UINT64_MAX;
+    if (picture->to > 0) {
+        return;
+    }
+    picture->to = usual_slots(table, usual);
+    if (presses->due > usual) {
+        picture->from = shortly_before(presses->first);
+        picture->to = within_run(picture->from + usual);
+    } else if (presses->due > picture->to) {
+        picture->to = (unsigned long)presses->due;
+    }
+}

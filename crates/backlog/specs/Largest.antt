@@ -37,7 +37,7 @@ pass-iff (Verdict.Late from to asked) = (λ h. absurd h, λ e. let z : _≡_ {A 
 pass-iff Verdict.Undecided = (λ h. absurd h, λ e. let z : _≡_ {A = ℕ} 0 1 = cc in absurd (omega arith))
 
 -- With its own cost a table is what it was.
-own-cost : (t : Table) (i : ℕ) → withCost t i (task t i .cost) ≡ t
+pub own-cost : (t : Table) (i : ℕ) → withCost t i (task t i .cost) ≡ t
 own-cost t i = rw (set-getD (t .tasks) i noTask)
 
 module _ (t : Table) (r : Ranged t) (i : ℕ) (l : i < t .count) where

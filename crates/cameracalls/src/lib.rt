@@ -14,7 +14,7 @@ use values::SlotAnswer;
 use values::Table;
 use values::Turn;
 
-fn quiet() -> Turn
+pub fn quiet() -> Turn
     ensures { λ r. ⌜ r ≡ quiet ⌝ }
 {
     Turn {
@@ -61,7 +61,7 @@ pub fn start(file: &[u8], state: &mut [u8]) -> u64
 }
 
 // Any number but 0 is a done report.
-fn said_done(done: u32) -> bool
+pub fn said_done(done: u32) -> bool
     ensures { λ r. ⌜ r ≡ not (eqb done 0) ⌝ }
 {
     done != 0

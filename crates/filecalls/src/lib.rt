@@ -1,4 +1,4 @@
-// The calls on table files alone: the quick test, the distance test, the largest cost of a task, and whether one is an easing of another.
+// The calls on table files alone: the quick test, the distance test, the largest cost of a task, the room of a table, and whether one is an easing of another.
 ghost use mathlib.Core.Path.{_≡_};
 ghost use Prim.Native.Nat.{_+_, _*_, _<_, _≤_, min};
 ghost use Rattle.values.specs.declared.Admission.{Admission};
@@ -7,6 +7,7 @@ ghost use Rattle.model.specs.TableFile.{periodicFrom};
 ghost use Rattle.model.specs.Report.{quickNumber, quickExported, distanceNumber, distanceExported};
 ghost use Rattle.model.specs.Easing.{easingNumber, easedNumber, easedExported};
 ghost use Rattle.model.specs.Largest.{costNumber, largestExported};
+ghost use Rattle.model.specs.Room.{roomExported};
 use values::Admission;
 use values::DistanceAnswer;
 use values::Easing;
@@ -106,6 +107,21 @@ pub fn largest_file(file: &[u8], task: u32) -> u64
         Admission::Admitted => {
             let table = form.table;
             cost_number(largest::largest_cost(table, tellable_task(task), form.budget))
+        }
+    }
+}
+
+// Any file and any task number, with buttons or without.
+pub fn room_file(file: &[u8], task: u32) -> u64
+    ensures { λ r. ⌜ r ≡ roomExported (now (file .entry)) task ⌝ }
+{
+    let form = tablefile::form_of(file);
+    let admission = form.admission;
+    match admission {
+        Admission::Refused(why) => numbers::refusal_number(why),
+        Admission::Admitted => {
+            let table = form.table;
+            room::room_number(table, tellable_task(task))
         }
     }
 }

@@ -18,7 +18,7 @@ use values::Refusal;
 use values::Table;
 use values::Verdict;
 
-fn with_cost(t: Table, i: usize, cost: u32) -> Table
+pub fn with_cost(t: Table, i: usize, cost: u32) -> Table
     requires { ⌜ i < taskLimit ⌝ }
     ensures { λ r. ⌜ r ≡ withCost t i cost ⌝ }
 {

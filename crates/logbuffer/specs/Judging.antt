@@ -153,10 +153,11 @@ module _ (file buffer : List ℕ) where
   by-admission Taken (Admission.Refused r) next n b h = inr (r, refl, n, omega (arith, n .1))
   by-admission Taken Admission.Admitted next n b h = h
 
-  on-file : (Taken : ℕ → Type 0) (go : Table → Exported) → Apart Taken buffer (go (formOf file .table)) → Apart Taken buffer (onFile logBytes file buffer go)
-  on-file Taken go h =
-      by-admission Taken (cond (eqb (length buffer) logBytes) (formOf file .admission) unfit) (go (formOf file .table))
-      (by (eqb (length buffer) logBytes) .0) (by (eqb (length buffer) logBytes) .1) h
+  pub on-file : (bytes : ℕ) (Taken : ℕ → Type 0) (go : Table → Exported) → Apart Taken buffer (go (formOf file .table))
+      → Apart Taken buffer (onFile bytes file buffer go)
+  on-file bytes Taken go h =
+      by-admission Taken (cond (eqb (length buffer) bytes) (formOf file .admission) unfit) (go (formOf file .table))
+      (by (eqb (length buffer) bytes) .0) (by (eqb (length buffer) bytes) .1) h
     where
       unfit : Admission
       unfit = Admission.Refused (refusal 50 (min (length buffer) 65535))
@@ -168,7 +169,7 @@ module _ (file buffer : List ℕ) where
   pub start-apart : Apart (λ n. n ≡ 0) buffer (logStartExported file buffer)
   unfolding logStarted started
   start-apart =
-      on-file (λ n. n ≡ 0) (λ t. let f = logStarted t (logIn buffer) in logWritten buffer (f .log) (f .admission))
+      on-file logBytes (λ n. n ≡ 0) (λ t. let f = logStarted t (logIn buffer) in logWritten buffer (f .log) (f .admission))
       (by (formOf file .table) (judged (formOf file .table)) (judged-tellable (formOf file .table)) (judged-below (formOf file .table)))
     where
       by : (t : Table) (j : Judgement) → JudgementTellable j → JudgedBelow j → let s = startJudged t (logIn buffer .state) j in
@@ -213,7 +214,7 @@ module _ (file buffer : List ℕ) where
   unfolding fed
   feed-apart piece =
       let t = formOf file .table in
-      on-file Going (λ k. let f = fed k (logIn buffer) piece in logWritten buffer (f .log) (f .admission))
+      on-file logBytes Going (λ k. let f = fed k (logIn buffer) piece in logWritten buffer (f .log) (f .admission))
       (onto Going t (readAll t (logIn buffer) piece)
       (λ e. going (readAll t (logIn buffer) piece .found) (numbered-all t (logIn buffer) piece (read-most t e) read-numbered)))
 
@@ -221,5 +222,5 @@ module _ (file buffer : List ℕ) where
   unfolding logFinished
   finish-apart =
       let t = formOf file .table in
-      on-file (λ n. wordLimit ≤ n) (λ k. let f = logFinished k (logIn buffer) in logWritten buffer (f .log) (f .admission))
+      on-file logBytes (λ n. wordLimit ≤ n) (λ k. let f = logFinished k (logIn buffer) in logWritten buffer (f .log) (f .admission))
       (onto (λ n. wordLimit ≤ n) t (closed (logIn buffer)) (λ e. over (logIn buffer .bytes) (logIn buffer .found) read-numbered))

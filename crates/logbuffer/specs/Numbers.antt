@@ -71,7 +71,7 @@ fault-below k =
     (either Small (not (within 1 (k .deadline) (k .cost))) (lit< tt)
     (either Small (not (within 0 slotLimit (offset k))) (lit< tt) (lit< tt))))
 
-mixed-below : (t : Table) → JudgedBelow (judgedMixed t)
+pub mixed-below : (t : Table) → JudgedBelow (judgedMixed t)
 unfolding judgedMixed
 mixed-below t =
     either JudgedBelow (eqb (t .count) 0) (lit< tt)
@@ -87,20 +87,16 @@ judged-below t = go (judgedMixed t) (mixed-below t)
     go (Judgement.Refused r) h = h
     go (Judgement.WellFormed m) h = either JudgedBelow (ltb (firstButton t) (t .count)) (lit< tt) tt
 
--- A dispatcher's state, and a log.
-state-below : (t : Table) (d : State) → Below (admitted t d)
-unfolding admitted
-state-below t d = go (judged t) (judged-below t)
-  where
-    go : (j : Judgement) → JudgedBelow j → Below (admittedBy t d j)
-    go (Judgement.Refused r) h = h
-    go (Judgement.WellFormed m) h =
-        either Below (ltb (firstStrange t d) (t .count)) (lit< tt)
-        (either Below (lastStrange t d) (lit< tt) (either Below (ltb slotCountLimit (slotCount t d)) (lit< tt) tt))
+-- A dispatcher's state, by what its table is judged to be, and a log.
+pub state-below : (t : Table) (d : State) (j : Judgement) → JudgedBelow j → Below (admittedBy t d j)
+state-below t d (Judgement.Refused r) h = h
+state-below t d (Judgement.WellFormed m) h =
+    either Below (ltb (firstStrange t d) (t .count)) (lit< tt)
+    (either Below (lastStrange t d) (lit< tt) (either Below (ltb slotCountLimit (slotCount t d)) (lit< tt) tt))
 
 pub log-below : (t : Table) (l : Log) → Below (logAdmitted t l)
-unfolding logAdmitted
-log-below t l = go (admitted t (l .state)) (state-below t (l .state))
+unfolding logAdmitted admitted
+log-below t l = go (admitted t (l .state)) (state-below t (l .state) (judged t) (judged-below t))
   where
     go : (a : Admission) → Below a → Below (logAdmittedBy t l a)
     go (Admission.Refused r) h = h

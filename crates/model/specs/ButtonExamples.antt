@@ -4,13 +4,14 @@ use mathlib.Core.List.{List, [], _∷_, _++_, map}
 use mathlib.Core.Bool.{_||_, true, false}
 use Prim.Native.Nat.{ℕ, zero, suc, _+_, _-_, _*_}
 use lib.Dec.{eqb}
-use lib.ListN.{replicate}
+use lib.ListN.{getD, replicate}
 use Rattle.model.specs.Values.{Sort, Task, Table, QuickAnswer, DistanceAnswer, LargestCost, Admission, SlotAnswer}
 use Rattle.model.specs.Values.{judgementSaid, refusal}
 use Rattle.model.specs.Notation.{sum, largest, count, first, last, bits, fill, text, digits, decimal}
-use Rattle.model.specs.Limits.{taskLimit}
+use Rattle.model.specs.Limits.{taskLimit, wordLimit}
 use Rattle.model.specs.Tasks.{taskFault, firstFaulty, firstButton, round, load, horizon, judgedMixed, judged}
 use Rattle.model.specs.Demand.{arrivedIn, demandFor}
+use Rattle.model.specs.Arrivals.{asTasks}
 use Rattle.model.specs.Run.{choose, ownerOf, served}
 use Rattle.model.specs.Idle.{idleAt, firstIdle, missedAt}
 use Rattle.model.specs.Patterns.{startingAt, light, calm, quickAnswer, commonDivisor, distance, pattern}
@@ -19,11 +20,14 @@ use Rattle.model.specs.TableFile.{tableOf, bytesOf, taskRecords, fileOf,
 use Rattle.model.specs.Dispatcher.{State, slotCount, firstStrange, startOf, admitted, started, stepped, steppedBy}
 use Rattle.model.specs.Presses.{Pressed, startedMixed, admittedMixed, notTaken, comes, ownerCome, afterCome}
 use Rattle.model.specs.Presses.{steppedPressed, stateUnder, arrivals, ownerUnder}
+use Rattle.model.specs.StateBuffer.{stateBytes, halves, bufferOf, stateIn}
+use Rattle.model.specs.PressBuffer.{pressStartExported, pressStepExported, handedPressed}
 use Rattle.model.specs.Writer.{tableIn, firstStranger}
 use Rattle.model.specs.PlainText.{split, filled, allDigits, valueAfter, numbersFault, same, budgetLine, taskLine}
 use Rattle.model.specs.PlainText.{lineOf, readLines, textForm, textRead, taskTexts, textOf}
 use Rattle.model.specs.Easing.{easedExported}
 use Rattle.model.specs.Largest.{costAnswer}
+use Rattle.model.specs.Room.{room, roomAnswer}
 use Rattle.model.specs.Examples.{of, padded, uncounted, at, budgetOf, rowOf, file-b}
 use Rattle.model.specs.FileExamples.{refusalOf}
 
@@ -237,3 +241,41 @@ pressed-history :
     × (ownerUnder table-shutter (λ n. false) (λ n. 4) 5 ≡ taskLimit)
 unfolding stateUnder afterCome ownerCome startOf fill choose
 pressed-history = (refl, refl)
+
+-- Over bytes: in slot 0 the shutter's press is taken and those of the lamps are not; in slot 1 it comes too early.
+-- The button has slot 0, a lamp slot 1, the button slot 2.
+pressedThrice : ℕ → ℕ
+pressedThrice n = getD (7 ∷ 4 ∷ 4 ∷ []) n 0
+
+press-bytes :
+    (pressStartExported file-shutter (replicate stateBytes 9) .number ≡ 0)
+    × (map (λ n. pressStepExported file-shutter (handedPressed file-shutter (replicate stateBytes 9) (λ k. 0) pressedThrice n)
+    0 (pressedThrice n) .number) (0 ∷ 1 ∷ 2 ∷ []) ≡ (3 * wordLimit + 2) ∷ (4 * wordLimit) ∷ 2 ∷ [])
+unfolding pressedThrice handedPressed stateIn bufferOf bytesOf halves startedMixed startOf steppedPressed admittedMixed
+    slotCount notTaken ownerCome afterCome choose fill bits firstStrange formOf readFrom judgedMixed
+    firstFaulty taskFault first round load horizon largest sum count
+press-bytes = (refl, refl)
+
+-- A state that is not the table's is 8 and stays, and no press is taken; a buffer of another length is 50.
+press-bytes-refused :
+    (pressStepExported file-shutter (replicate stateBytes 7) 0 4
+    ≡ record { number = 524288; buffer = replicate stateBytes 7 })
+    × (pressStartExported file-shutter (7 ∷ []) ≡ record { number = 3276801; buffer = 7 ∷ [] })
+unfolding stateIn steppedPressed admittedMixed slotCount fill firstStrange formOf readFrom judgedMixed
+    firstFaulty taskFault first round load horizon largest sum count bytesOf
+press-bytes-refused = (refl, refl)
+
+-- A button as a periodic task starts at 0, and has its spacing as period.
+button-as-task :
+    asTasks (tableOf (of 1 1 1 2 ∷ button 1 2 3 ∷ [])) ≡ tableOf (of 1 1 1 2 ∷ of 0 1 2 3 ∷ [])
+button-as-task = refl
+
+-- The room beside a task of one slot in four is three slots, of a task and of a button; a third task there is none.
+-- Without a pass there is no number: no answer is 60,003, and overload 60,001.
+rooms :
+    (map (roomAnswer (tableOf (of 0 1 4 4 ∷ button 1 4 4 ∷ []))) (0 ∷ 1 ∷ 2 ∷ []) ≡ 3 ∷ 3 ∷ (65536 * 12 + 2) ∷ [])
+    × (map (λ t. roomAnswer t 0) (tableOf (of 0 1 1 2 ∷ button 1 1 2 ∷ []) ∷ tableOf (of 0 1 1 2 ∷ button 2 2 2 ∷ []) ∷ [])
+    ≡ 60003 ∷ 60001 ∷ [])
+unfolding roomAnswer room distanceAnswer distancePass distance commonDivisor calm startingAt fill firstIdle idleAt missedAt
+    last judgedMixed firstFaulty taskFault first round load horizon largest sum count served ownerOf choose
+rooms = (refl, refl)

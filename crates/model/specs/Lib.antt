@@ -17,11 +17,13 @@ pub mod Presses
 pub mod Report
 pub mod StateBuffer
 pub mod AnswerBuffer
+pub mod PressBuffer
 pub mod Writer
 pub mod PlainText
 pub mod ReportRead
 pub mod Easing
 pub mod Largest
+pub mod Room
 pub mod Log
 pub mod LogMeaning
 pub mod LogBuffer

@@ -3,7 +3,7 @@
 pub use mathlib.Core.Path.{_≡_}
 pub use mathlib.Core.Logic.{_⊎_}
 pub use mathlib.Core.Bool.{Bool, true, false, cond, not, _&&_, _||_}
-pub use mathlib.Core.List.{List, [], _∷_, _++_}
+pub use mathlib.Core.List.{List, [], _∷_, _++_, map}
 pub use Prim.Native.Nat.{ℕ, zero, suc, _+_, _-_, _*_, _/_, _%_, _^_, min, max, _≤_, _<_}
 pub use lib.Dec.{T, leb, ltb, eqb}
 pub use lib.IntN.{ℤ, pos, negsuc, _-ℤ_}

@@ -34,6 +34,10 @@ pub mod NoButton
 pub mod GoodReleased
 pub mod DemandFor
 pub mod ButtonsAlone
+pub mod AsTasks
+-- The distance test with lower costs, and the room of a table.
+pub mod CostsFall
+pub mod Room
 -- The dispatcher that is told of presses.
 pub mod TakenArrivals
 pub mod PressTaken

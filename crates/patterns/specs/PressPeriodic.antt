@@ -30,11 +30,11 @@ module _ (t : Table) (none : Buttonless t) where
     by-clock : (d : State) (pressed i : ℕ) → i < t .count → comes t d pressed i ≡ eqb (waitOf d i) 0
     by-clock d pressed i l = rw (none i l)
 
-    owner-is : (d : State) (done : Bool) (pressed : ℕ) → ownerCome t d done (comes t d pressed) ≡ ownerNow t d done
+    pub owner-is : (d : State) (done : Bool) (pressed : ℕ) → ownerCome t d done (comes t d pressed) ≡ ownerNow t d done
     unfolding ownerCome ownerNowBy
     owner-is d done pressed = owner-same t r d done (comes t d pressed) (λ i. eqb (waitOf d i) 0) (by-clock d pressed)
 
-    after-is : (d : State) (done : Bool) (pressed : ℕ) → afterCome t d done (comes t d pressed) ≡ after t d done
+    pub after-is : (d : State) (done : Bool) (pressed : ℕ) → afterCome t d done (comes t d pressed) ≡ after t d done
     unfolding ownerCome ownerNowBy afterCome afterBy
     after-is d done pressed = after-same t r d done (comes t d pressed) (λ i. eqb (waitOf d i) 0) (by-clock d pressed)
 

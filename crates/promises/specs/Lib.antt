@@ -1,5 +1,6 @@
 -- What is promised, demand by demand.
 pub mod Headlines
+pub mod Shutter
 pub mod Demand1
 pub mod OneResult
 pub mod Demand2
@@ -15,8 +16,10 @@ pub mod QuickTests
 pub mod DistanceTest
 pub mod Buttons
 pub mod Presses
+pub mod PressCamera
 pub mod Easing
 pub mod Largest
+pub mod Room
 pub mod Engines
 pub mod Ties
 pub mod Logs

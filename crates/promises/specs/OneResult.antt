@@ -10,10 +10,12 @@ use Rattle.model.specs.Writer.{fileWritten, writeExported}
 use Rattle.model.specs.PlainText.{textForm, textWritten, fromText, toText, fromTextExported, toTextExported}
 use Rattle.model.specs.Patterns.{quickAnswer, distanceAnswer}
 use Rattle.model.specs.Largest.{costAnswer, largestExported}
+use Rattle.model.specs.Room.{roomAnswer, roomExported}
 use Rattle.model.specs.ReportRead.{passesExported}
 use Rattle.model.specs.Report.{quickExported, distanceExported}
 use Rattle.model.specs.Easing.{easedExported}
 use Rattle.model.specs.StateBuffer.{startExported, stepExported}
+use Rattle.model.specs.PressBuffer.{pressStartExported, pressStepExported}
 use Rattle.model.specs.LogBuffer.{logStartExported, logFeedExported, logFinishExported}
 
 -- Two results that are both this word are equal.
@@ -31,13 +33,15 @@ pub each-one-result :
     × ((t : Table) (budget : ℕ) (buffer : List ℕ) → One (textWritten t budget buffer))
     × ((bytes buffer : List ℕ) → One (fromText bytes buffer) × One (toText bytes buffer))
     × ((t : Table) → One (quickAnswer t) × One (distanceAnswer t))
-    × ((t : Table) (i budget : ℕ) → One (costAnswer t i budget))
+    × ((t : Table) (i budget : ℕ) → One (costAnswer t i budget) × One (roomAnswer t i))
     × ((report : List ℕ) → One (passesExported report))
     × ((file : List ℕ) → One (quickExported file) × One (distanceExported file))
     × ((old new : List ℕ) → One (easedExported old new))
-    × ((file : List ℕ) (i : ℕ) → One (largestExported file i))
+    × ((file : List ℕ) (i : ℕ) → One (largestExported file i) × One (roomExported file i))
     × ((file buffer : List ℕ) → One (startExported file buffer))
     × ((file buffer : List ℕ) (done : ℕ) → One (stepExported file buffer done))
+    × ((file buffer : List ℕ) → One (pressStartExported file buffer))
+    × ((file buffer : List ℕ) (done pressed : ℕ) → One (pressStepExported file buffer done pressed))
     × ((file buffer piece : List ℕ)
     → One (logStartExported file buffer) × One (logFeedExported file buffer piece) × One (logFinishExported file buffer))
     × ((words : List ℕ) (budget : ℕ) (buffer : List ℕ) → One (writeExported words budget buffer))
@@ -50,13 +54,15 @@ each-one-result = (
   λ t budget buffer. one-result _,
   λ bytes buffer. (one-result _, one-result _),
   λ t. (one-result _, one-result _),
-  λ t i budget. one-result _,
+  λ t i budget. (one-result _, one-result _),
   λ report. one-result _,
   λ file. (one-result _, one-result _),
   λ old new. one-result _,
-  λ file i. one-result _,
+  λ file i. (one-result _, one-result _),
   λ file buffer. one-result _,
   λ file buffer done. one-result _,
+  λ file buffer. one-result _,
+  λ file buffer done pressed. one-result _,
   λ file buffer piece. (one-result _, one-result _, one-result _),
   λ words budget buffer. one-result _,
   λ bytes buffer. (one-result _, one-result _),

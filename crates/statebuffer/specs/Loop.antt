@@ -19,7 +19,7 @@ use Rattle.model.specs.Notation.{count}
 use Rattle.model.specs.Tasks.{judged}
 use Rattle.model.specs.TableFile.{four, eight, formOf}
 use Rattle.model.specs.Run.{tieOrder}
-use Rattle.model.specs.Dispatcher.{State, givenOf, started, stepped, turn, turnBy, isLate}
+use Rattle.model.specs.Dispatcher.{State, givenOf, slotCount, started, stepped, turn, turnBy, isLate, slotTold}
 use Rattle.model.specs.History.{stateAt, stateAtBy, ownerAt}
 use Rattle.model.specs.Report.{Exported}
 use Rattle.model.specs.StateBuffer.{countsAt, stateBytes, bufferOf, stateIn, quiet, startWritten, stepWritten, onFile, startExported, stepExported, handed}
@@ -27,65 +27,63 @@ use Rattle.counting.specs.Bits.{bits-lt}
 use Rattle.counting.specs.Search.{first-le}
 use Rattle.counting.specs.Count.{count-bound, one-of-iff}
 use Rattle.counting.specs.Fill.{fill-passed}
+use Rattle.counting.specs.Sum.{sum-member}
 use Rattle.wellformed.specs.Ranges.{Ranged}
 use Rattle.wellformed.specs.WellFormed.{well-formed}
-use Rattle.backlog.specs.Taken.{known}
+use Rattle.backlog.specs.Taken.{Belongs, known}
 use Rattle.backlog.specs.Stepping.{sound, past-none}
-use Rattle.backlog.specs.Accounts.{empty-is, given-is}
+use Rattle.backlog.specs.Accounts.{empty-is, given-is, slots-are}
 use Rattle.backlog.specs.NeverRefused.{never-refused}
 use Rattle.statebuffer.specs.RoundTrip.{turn-back, Fits, state-back, buffer-size}
 
--- Every state of a history fits its buffer.
-module _ (t : Table) (r : Ranged t) (done : ℕ → Bool) where
-  wait-small : (n i : ℕ) → getD (stateAt t done n .wait) i 0 < wordLimit
-  wait-small n i = elim (decLt i (t .count)) [
-    | yes l ↦ omega (arith, known t (stateAt t done n) (sound t r (tieOrder t) done n .belongs) i l .wait-le, r .each i l .offset-le, r .each i l .period-le)
-    | no l ↦ omega (arith, past-none t (tieOrder t) done n i (omega arith) .0)
+-- What stands past the table's last task is 0.
+abbrev pub PastNone : Table → State → Type 0
+PastNone t d = (i : ℕ) → t .count ≤ i → (getD (d .wait) i 0 ≡ 0) × (getD (d .left) i 0 ≡ 0) × (getD (d .given) i 0 ≡ 0)
+
+-- A state that belongs to its table, with nothing past the last task and no slot too many, fits its buffer.
+module _ (t : Table) (r : Ranged t) (d : State) (b : Belongs t d) (past : PastNone t d) (room : slotCount t d ≤ slotCountLimit) where
+  wait-small : (i : ℕ) → getD (d .wait) i 0 < wordLimit
+  wait-small i = elim (decLt i (t .count)) [
+    | yes l ↦ omega (arith, known t d b i l .wait-le, r .each i l .offset-le, r .each i l .period-le)
+    | no l ↦ omega (arith, past i (omega arith) .0)
   ]
 
-  left-small : (n i : ℕ) → getD (stateAt t done n .left) i 0 < wordLimit
-  left-small n i = elim (decLt i (t .count)) [
-    | yes l ↦
-        omega (
-          arith,
-          known t (stateAt t done n) (sound t r (tieOrder t) done n .belongs) i l .left-le,
-          r .each i l .cost-le,
-          r .each i l .deadline-le,
-          r .each i l .period-le,
-        )
-    | no l ↦ omega (arith, past-none t (tieOrder t) done n i (omega arith) .1)
+  left-small : (i : ℕ) → getD (d .left) i 0 < wordLimit
+  left-small i = elim (decLt i (t .count)) [
+    | yes l ↦ omega (arith, known t d b i l .left-le, r .each i l .cost-le, r .each i l .deadline-le, r .each i l .period-le)
+    | no l ↦ omega (arith, past i (omega arith) .1)
   ]
 
-  last-small : (n : ℕ) → stateAt t done n .last < wordLimit
-  last-small n =
-      elim (one-of-iff (stateAt t done n .last) taskLimit (t .count) .0 (sound t r (tieOrder t) done n .belongs .ran)) [
-        | inl e ↦ omega arith
-        | inr l ↦ omega (arith, r .few)
-      ]
-
-  given-small : (n : ℕ) → n ≤ slotCountLimit → (i : ℕ) → getD (stateAt t done n .given) i 0 < budgetLimit
-  given-small n h i = elim (decLt i (t .count)) [
-    | yes l ↦ omega (arith, given-is t r (tieOrder t) done n i l, count-bound (λ k. eqb (ownerAt t done k) i) n)
-    | no l ↦ omega (arith, past-none t (tieOrder t) done n i (omega arith) .2)
+  given-small : (i : ℕ) → getD (d .given) i 0 < budgetLimit
+  unfolding slotCount
+  given-small i = elim (decLt i (t .count)) [
+    | yes l ↦ omega (arith, room, sum-member (t .count) (givenOf d) i l)
+    | no l ↦ omega (arith, past i (omega arith) .2)
   ]
 
-  pub fits : (n : ℕ) → n ≤ slotCountLimit → Fits (stateAt t done n)
-  fits n h = record {
-    waits = sound t r (tieOrder t) done n .belongs .waits;
-    lefts = sound t r (tieOrder t) done n .belongs .lefts;
-    gives = sound t r (tieOrder t) done n .belongs .gives;
-    given-fits = λ i l. given-small n h i;
-    empty-fits = omega (arith, empty-is t (tieOrder t) done n, count-bound (λ k. eqb (ownerAt t done k) taskLimit) n);
-    wait-fits = λ i l. wait-small n i;
-    left-fits = λ i l. left-small n i;
-    last-fits = last-small n;
+  pub belongs-fits : Fits d
+  unfolding slotCount
+  belongs-fits = record {
+    waits = b .waits;
+    lefts = b .lefts;
+    gives = b .gives;
+    wait-fits = λ i l. wait-small i;
+    left-fits = λ i l. left-small i;
+    last-fits = elim (one-of-iff (d .last) taskLimit (t .count) .0 (b .ran)) [ inl e ↦ omega arith | inr l ↦ omega (arith, r .few) ];
+    given-fits = λ i l. given-small i;
+    empty-fits = omega (arith, room);
   }
 
--- What a step says fits into words.
-told-small : (t : Table) (d : State) (done : Bool) → let u = turn t d done in
+-- Every state of a history does.
+pub fits : (t : Table) → Ranged t → (done : ℕ → Bool) (n : ℕ) → n ≤ slotCountLimit → Fits (stateAt t done n)
+fits t r done n h =
+    belongs-fits t r (stateAt t done n) (sound t r (tieOrder t) done n .belongs) (past-none t (tieOrder t) done n)
+    (omega (arith, slots-are t r (tieOrder t) done n))
+
+-- What a step says fits into words, whoever has the slot.
+pub told-small : (t : Table) (d : State) (done : Bool) (owner : ℕ) → let u = slotTold t d done owner in
     (u .late < wordLimit) × (u .closed < wordLimit) × (u .lowest < wordLimit)
-unfolding turnBy
-told-small t d done = (
+told-small t d done owner = (
   bits-lt (isLate t d done) taskLimit,
   omega (arith, count-bound (isLate t d done) taskLimit),
   omega (arith, first-le (isLate t d done) 0 taskLimit),
@@ -134,13 +132,13 @@ module _ (file : List ℕ) (t : Table) (m : Measure) (formed : formOf file .admi
   pub said : (n : ℕ) → n < slotCountLimit → let u = turn t (stateAt t reports n) (reports n) in
       let b = handed file lent done (suc n) in
       (four b (8 * taskLimit + 4) ≡ u .late) × (four b (8 * taskLimit + 8) ≡ u .closed) × (four b (8 * taskLimit + 12) ≡ u .lowest)
-  unfolding handed
+  unfolding handed turnBy
   said n h =
       let e : handed file lent done (suc n) ≡ bufferOf (stateAt t reports (suc n)) (told n) = ap (λ (x : Exported). x .buffer) (steps n h) in
       rw e (turn-back (stateAt t reports (suc n)) (told n) (fits t r reports (suc n) h) (small .0) (small .1) (small .2))
     where
       small : (told n .late < wordLimit) × (told n .closed < wordLimit) × (told n .lowest < wordLimit)
-      small = told-small t (stateAt t reports n) (reports n)
+      small = told-small t (stateAt t reports n) (reports n) (ownerAt t reports n)
 
   -- After n steps the counts in the buffer are those of the history of owners.
   pub counts : (n : ℕ) → n ≤ slotCountLimit → let b = handed file lent done n in

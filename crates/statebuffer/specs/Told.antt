@@ -10,6 +10,7 @@ use lib.Dec.{eqb, ltb}
 use lib.ListN.{length}
 use Rattle.values.specs.declared.Table.{Table}
 use Rattle.values.specs.declared.Refusal.{Refusal}
+use Rattle.values.specs.declared.Measure.{Measure}
 use Rattle.values.specs.declared.Judgement.{Judgement}
 use Rattle.values.specs.declared.Admission.{Admission}
 use Rattle.values.specs.declared.SlotAnswer.{SlotAnswer}
@@ -78,22 +79,23 @@ owner-range t d done few = go (owner-one t (tieOrder t) d done few)
     go (inl e) = (omega arith, inl e)
     go (inr l) = (omega arith, inr l)
 
--- The refusal of a state is tellable.
+-- The refusal of a state is tellable, by what its table is judged to be.
+pub state-tellable : (t : Table) (d : State) (j : Judgement) → ((m : Measure) → j ≡ Judgement.WellFormed m → t .count ≤ taskLimit) → JudgementTellable j
+    → AdmissionTellable (admittedBy t d j)
+state-tellable t d (Judgement.Refused r) few n = n
+state-tellable t d (Judgement.WellFormed m) few n = go (ltb (firstStrange t d) (t .count)) (lastStrange t d) (ltb slotCountLimit (slotCount t d)) refl
+  where
+    go : (a b c : Bool) → ltb (firstStrange t d) (t .count) ≡ a → AdmissionTellable
+        (cond a (Admission.Refused (refusal 8 (firstStrange t d)))
+        (cond b (Admission.Refused (refusal 8 taskLimit)) (cond c (Admission.Refused (refusal 8 sumPlace)) Admission.Admitted)))
+    go true b c p = (omega arith, omega (arith, few m refl, ltb-true (firstStrange t d) (t .count) p))
+    go false true c p = (omega arith, omega arith)
+    go false false true p = (omega arith, omega arith)
+    go false false false p = tt
+
 pub admitted-tellable : (t : Table) (d : State) → AdmissionTellable (admitted t d)
 unfolding admitted
-admitted-tellable t d = by (judged t) refl (judged-tellable t)
-  where
-    by : (j : Judgement) → judged t ≡ j → JudgementTellable j → AdmissionTellable (admittedBy t d j)
-    by (Judgement.Refused r) e n = n
-    by (Judgement.WellFormed m) e n = go (ltb (firstStrange t d) (t .count)) (lastStrange t d) (ltb slotCountLimit (slotCount t d)) refl
-      where
-        go : (a b c : Bool) → ltb (firstStrange t d) (t .count) ≡ a → AdmissionTellable
-            (cond a (Admission.Refused (refusal 8 (firstStrange t d)))
-            (cond b (Admission.Refused (refusal 8 taskLimit)) (cond c (Admission.Refused (refusal 8 sumPlace)) Admission.Admitted)))
-        go true b c p = (omega arith, omega (arith, well-formed t m e .ranged .few, ltb-true (firstStrange t d) (t .count) p))
-        go false true c p = (omega arith, omega arith)
-        go false false true p = (omega arith, omega arith)
-        go false false false p = tt
+admitted-tellable t d = state-tellable t d (judged t) (λ m e. well-formed t m e .ranged .few) (judged-tellable t)
 
 pub step-apart : (file buffer : List ℕ) (done : ℕ) → Apart (TakenStep (formOf file .table)) buffer (stepExported file buffer done)
 unfolding steppedBy

@@ -6,6 +6,9 @@ pub mod FileTold
 pub mod Reported
 pub mod Steps
 pub mod PressSteps
+pub mod PressApart
+pub mod PressLoop
+pub mod PressBytes
 -- A report determines what it tells, and says that a table passes exactly if the verdict is that.
 pub mod Apart
 pub mod Determined
@@ -19,10 +22,12 @@ pub mod Late
 pub mod Longer
 pub mod AnyOrder
 pub mod Rows
--- The other tests, easings, the largest cost and logs.
+-- The other tests, buttons as tasks, easings, the largest cost and logs.
 pub mod Quick
 pub mod Distance
+pub mod AsDemand
 pub mod Easings
 pub mod LargestCosts
+pub mod Rooms
 pub mod GoodLogs
 pub mod Examples

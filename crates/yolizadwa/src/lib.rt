@@ -4,11 +4,13 @@ ghost use Rattle.model.specs.Report.{quickExported, distanceExported, Checked};
 ghost use Rattle.model.specs.AnswerBuffer.{Answered};
 ghost use Rattle.model.specs.ReportRead.{passesExported};
 ghost use Rattle.model.specs.StateBuffer.{startExported, stepExported};
+ghost use Rattle.model.specs.PressBuffer.{pressStartExported, pressStepExported};
 ghost use Rattle.model.specs.LogBuffer.{logStartExported, logFeedExported, logFinishExported};
 ghost use Rattle.model.specs.Writer.{writeExported};
 ghost use Rattle.model.specs.PlainText.{fromTextExported, toTextExported};
 ghost use Rattle.model.specs.Easing.{easedExported};
 ghost use Rattle.model.specs.Largest.{largestExported};
+ghost use Rattle.model.specs.Room.{roomExported};
 
 #[no_mangle]
 pub extern "C" fn yolizadwa_check(file: &[u8], report: &mut [u8]) -> u64
@@ -62,6 +64,13 @@ pub extern "C" fn yolizadwa_largest(file: &[u8], task: u32) -> u64
 }
 
 #[no_mangle]
+pub extern "C" fn yolizadwa_room(file: &[u8], task: u32) -> u64
+    ensures { λ r. ⌜ r ≡ roomExported (now (file .entry)) task ⌝ }
+{
+    filecalls::room_file(file, task)
+}
+
+#[no_mangle]
 pub extern "C" fn yolizadwa_eased(old: &[u8], new: &[u8]) -> u64
     ensures { λ r. ⌜ r ≡ easedExported (now (old .entry)) (now (new .entry)) ⌝ }
 {
@@ -80,6 +89,25 @@ pub extern "C" fn yolizadwa_step(file: &[u8], state: &mut [u8], done: u32) -> u6
     ensures { λ r. ⌜ record { number = r; buffer = now (state .exit) } ≡ stepExported (now (file .entry)) (now (state .entry)) done ⌝ }
 {
     cameracalls::step(file, state, done)
+}
+
+#[no_mangle]
+pub extern "C" fn yolizadwa_press_start(file: &[u8], state: &mut [u8]) -> u64
+    ensures { λ r. ⌜ record { number = r; buffer = now (state .exit) } ≡ pressStartExported (now (file .entry)) (now (state .entry)) ⌝ }
+{
+    presscalls::start(file, state)
+}
+
+#[no_mangle]
+pub extern "C" fn yolizadwa_press_step(
+    file: &[u8],
+    state: &mut [u8],
+    done: u32,
+    pressed: u32,
+) -> u64
+    ensures { λ r. ⌜ record { number = r; buffer = now (state .exit) } ≡ pressStepExported (now (file .entry)) (now (state .entry)) done pressed ⌝ }
+{
+    presscalls::step(file, state, done, pressed)
 }
 
 #[no_mangle]

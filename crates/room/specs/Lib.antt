@@ -1,0 +1,2 @@
+-- The search for the room.
+pub mod Halving
