@@ -1,4 +1,6 @@
 // The whole answer of a check as numbers in a lent buffer, the lowest byte first.
+#![tactic(auto)]
+
 ghost use Rattle.std.specs.Prelude.{◌≡◌, cond, ◌++◌, ◌≤◌, length, replicate, drop};
 ghost use Rattle.model.specs.Limits.{task_limit};
 ghost use Rattle.model.specs.TableFile.{bytes_of};

@@ -63,7 +63,7 @@ module _ (J J' : Jobs) (t : ℕ) (a : Agree J J' t) where
             )
 
         one : k ≡ k'
-        one = J.Key-apart k _ k' _ l l' keys
+        one = J.key_apart k _ k' _ l l' keys
 
         at : (i : ℕ) → i < J.n → Dec (i ≡ k) → n' i ≡ n i
         at i m (yes e) = rw e (omega (arith, d.one, rw (← one) at d'.one, same k l))

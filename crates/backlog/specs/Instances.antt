@@ -10,7 +10,7 @@ use Rattle.model.specs.Run.{Order, Worst}
 use Rattle.model.specs.Verdict.{needed, late_start, verdict, Worsts}
 use Rattle.model.specs.Dispatcher.{State, first_strange}
 use Rattle.model.specs.TableFile.{table_of}
-use Rattle.model.specs.Easing.{Eased, Lowered}
+use Rattle.model.specs.Easing.{EasedTask, Eased, Lowered}
 use Rattle.model.specs.Examples.{padded, of, table_b, table_d, table_g}
 use Rattle.wellformed.specs.Ranges.{Ranged}
 use Rattle.wellformed.specs.WellFormed.{well_mixed}
@@ -101,7 +101,7 @@ b_eased = record {
   kept = λ i. suc i;
   in_order = λ i k l m. omega arith;
   of_before = λ i l. omega arith;
-  each = λ i. elim i [
+  each = λ i. elim i as (λ n. n < 1 → EasedTask (task table_b (suc n)) (task (table_of (of 0 1 3 5 ∷ [])) n)) [
     | zero ↦ λ l. record { same_sort = refl; same_offset = refl; same_period = refl; lower_cost = lit≤ tt; longer_deadline = lit≤ tt }
     | suc k ↦ λ l. absurd (omega arith)
   ];
@@ -111,11 +111,14 @@ b_eased = record {
 b_lowered : Lowered table_b (table_of (of 8 4 7 15 ∷ of 0 2 2 5 ∷ []))
 b_lowered = record {
   same_count = refl;
-  each = λ i. elim i [
+  each = λ i. elim i as (λ n. n < 2 → EasedTask (task table_b n) (task (table_of (of 8 4 7 15 ∷ of 0 2 2 5 ∷ [])) n)) [
     | zero ↦ λ l. record { same_sort = refl; same_offset = refl; same_period = refl; lower_cost = lit≤ tt; longer_deadline = lit≤ tt }
     | suc k ↦ λ l. record { same_sort = refl; same_offset = refl; same_period = refl; lower_cost = omega arith; longer_deadline = omega arith }
   ];
-  same_deadline = λ i. elim i [ zero ↦ λ l. refl | suc k ↦ λ l. refl ];
+  same_deadline = λ i. elim i as (λ n. n < 2 → (task (table_of (of 8 4 7 15 ∷ of 0 2 2 5 ∷ [])) n).deadline ≡ (task table_b n).deadline) [
+    | zero ↦ λ l. refl
+    | suc k ↦ λ l. refl
+  ];
 }
 
 -- Table g has load exactly 1, and passes.

@@ -120,7 +120,7 @@ module _ (J : Jobs) (s : ℕ → ℕ → ℕ) (R : Run J s) where
               each m q (yes f) x y = rw f (omega (arith, work_at J i j l))
               each m q (no f) (yes x) (yes y) =
                   let v : J.key i j ≡ key_at J m (s t m) = omega (arith, ap (J.key i) now, c.least m q x, (in_class J (J.key i j) m q (s t m)).0 y) in
-                  absurd (f (sym (J.Key-apart i j m (s t m / J.cost m) l q v)))
+                  absurd (f (sym (J.key_apart i j m (s t m / J.cost m) l q v)))
               each m q (no f) (yes x) (no y) = omega (arith, c.rest m q f)
               each m q (no f) (no x) y = omega (arith, c.rest m q f)
 

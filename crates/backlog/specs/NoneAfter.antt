@@ -24,6 +24,7 @@ module _ (t : Table) (r : Ranged t) (rank : Order) (done : ℕ → Bool) where
     where
       empty : (b : Bool) → T b → cond b 0 (open' t rank done u i) ≡ 0
       empty true h = refl
+      empty mathlib.Core.Bool.false h = elim h [ ]
 
       go : ((k : ℕ) × Fresh t r rank done u i k) ⊎ Kept t r rank done u i → ready t rank done u i ≡ 0
       go (inl (k, f)) = absurd (none k f.now)

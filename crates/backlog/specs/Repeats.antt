@@ -41,7 +41,7 @@ module _ (J : Jobs) (s : ℕ → ℕ → ℕ) where
       other k q d = rw same
         where
           apart : (b : ℕ) → J.key k b ≢ J.key i j
-          apart b v = d (J.Key-apart k b i j q l v)
+          apart b v = d (J.key_apart k b i j q l v)
 
           same : below (J.key k) (suc (J.key i j)) ≡ below (J.key k) (suc κ)
           same = sym (below_same (J.key k) (J.key_grows k q) (suc κ) (suc (J.key i j)) (omega arith) (λ b h. omega (arith, apart b)))

@@ -1,4 +1,6 @@
 // Whether a state belongs to a table: the places of 8 in their order, or how many slots the state can still count.
+#![tactic(auto)]
+
 ghost use Rattle.std.specs.Prelude.{◌≡◌, not, ◌||◌, ◌-◌, max, ◌≤◌, ltb, eqb};
 ghost use Rattle.model.specs.Limits.{task_limit};
 ghost use Rattle.model.specs.Values.{refusal};
@@ -16,7 +18,7 @@ const SUM_PLACE: u32 = NO_TASK + 1;
 pub type Counts = [u64; TASK_LIMIT];
 
 // A state's refusal, or how many slots it can still count.
-#[derive(Drop)]
+#[derive(Clone, Copy)]
 pub enum Room {
     Refused(Refusal),
     Slots(u64),

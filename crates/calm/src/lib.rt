@@ -1,4 +1,6 @@
 // A walk to the first idle instant after 0, for the distance test.
+#![tactic(auto)]
+
 ghost use Rattle.std.specs.Prelude.{◌≡◌, ◌≤◌};
 ghost use Rattle.model.specs.Limits.{task_limit, round_limit};
 ghost use Rattle.model.specs.Tasks.{round, load};

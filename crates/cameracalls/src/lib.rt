@@ -1,4 +1,6 @@
 // A camera's own loop over a file and a lent buffer: start and step.
+#![tactic(auto)]
+
 ghost use Rattle.std.specs.Prelude.{◌≡◌, not, eqb, length};
 ghost use Rattle.model.specs.Dispatcher.{started, stepped};
 ghost use Rattle.model.specs.StateBuffer.{state_bytes, state_in, quiet, start_written, step_written, start_exported, step_exported};

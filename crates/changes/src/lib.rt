@@ -1,4 +1,6 @@
 // A table with one cost, one deadline or every cost changed, in steps from easy to hard.
+#![tactic(auto)]
+
 ghost use Rattle.std.specs.Prelude.{◌≡◌, ◌≤◌, ◌<◌};
 ghost use Rattle.model.specs.Limits.{task_limit, slot_limit, share_limit};
 ghost use Rattle.model.specs.Tasks.{task};

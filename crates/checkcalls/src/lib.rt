@@ -1,5 +1,7 @@
 // The check of a table file, by leaps or slot by slot, as a report or as numbers in a lent buffer; and whether a report says that the
 // table passes.
+#![tactic(auto)]
+
 ghost use Rattle.std.specs.Prelude.{◌≡◌, ◌≤◌, length};
 ghost use Rattle.model.specs.Limits.{task_limit, report_bytes};
 ghost use Rattle.model.specs.Tasks.{judged};
@@ -15,7 +17,7 @@ use values::{
 };
 
 // What a check finds of a file: an answer, which may be a refusal, to so many tasks, which the quick test passes or not.
-#[derive(Drop)]
+#[derive(Clone, Copy)]
 struct FileAnswer {
     tasks: usize,
     quick: bool,

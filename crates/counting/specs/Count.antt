@@ -17,6 +17,7 @@ and_iff false b = (λ t. absurd t, λ h. h.0)
 -- One of two tests that holds is enough.
 pub or_left : (a b : Bool) → T a → T (a || b)
 or_left true b h = tt
+or_left false b h = elim h [ ]
 
 pub or_right : (a b : Bool) → T b → T (a || b)
 or_right true b h = tt

@@ -192,7 +192,7 @@ least P d (suc t) h = go (d 0) (least (λ k. P (suc k)) (λ k. d (suc k)) t h)
   where
     go : Dec (P 0) → (u : ℕ) × (u ≤ t) × Least (λ k. P (suc k)) u → (u : ℕ) × (u ≤ suc t) × Least P u
     go (yes x) r = (0, omega arith, (x, λ u l. absurd (omega arith)))
-    go (no x) (u, l, q) = (suc u, omega arith, (q.0, λ v. elim v [ zero ↦ λ a. x | suc w ↦ λ a. q.1 w (omega arith) ]))
+    go (no x) (u, l, q) = (suc u, omega arith, (q.0, λ v. elim v as (λ k. k < suc u → P k → ⊥) [ zero ↦ λ a. x | suc w ↦ λ a. q.1 w (omega arith) ]))
 
 -- Two properties that hold together hold first together.
 pub least_iff : (P Q : ℕ → Type 0) → ((t : ℕ) → P t ↔ Q t) → (t : ℕ) → Least P t ↔ Least Q t

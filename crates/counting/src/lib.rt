@@ -1,1 +1,2 @@
 // Laws of sums, counts, searches, quotients, divisors, lists and bits. No word of scheduling.
+#![tactic(auto)]

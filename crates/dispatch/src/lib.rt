@@ -1,4 +1,6 @@
 // The dispatcher: a start on any table, and a step on any table and any state.
+#![tactic(auto)]
+
 ghost use Rattle.std.specs.Prelude.{◌≡◌, cond, List, ℕ, ◌+◌, ◌<◌, eqb, get_or};
 ghost use Rattle.values.specs.declared.Table.{Table};
 ghost use Rattle.model.specs.Limits.{task_limit, slot_count_limit};
@@ -15,18 +17,18 @@ use belonging::{Counts, Room};
 use slots::{NO_TASK, Numbers, Ranks};
 use values::{Admission, FULL_STATE, Refusal, SlotAnswer, State, TASK_LIMIT, Table, Turn};
 
-#[derive(Drop)]
+#[derive(Clone, Copy)]
 pub struct Dispatcher {
     pub state: State,
 }
 
-#[derive(Drop)]
+#[derive(Clone, Copy)]
 pub struct Started {
     pub admission: Admission,
     pub dispatcher: Dispatcher,
 }
 
-#[derive(Drop)]
+#[derive(Clone, Copy)]
 pub struct Stepped {
     pub answer: SlotAnswer,
     pub next: Dispatcher,
@@ -144,7 +146,7 @@ fn step_taken(
 }
 
 // The lists after a slot, the slot's owner, and the tasks that were closed late.
-#[derive(Drop)]
+#[derive(Clone, Copy)]
 pub struct Moved {
     pub wait: Numbers,
     pub left: Numbers,

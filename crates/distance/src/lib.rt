@@ -1,4 +1,6 @@
 // The distance test: each periodic task as first at 0, every other at its smallest distance, and a walk to the first idle instant.
+#![tactic(auto)]
+
 ghost use Rattle.std.specs.Prelude.{◌≡◌, not, ◌||◌, ◌^◌, ◌≤◌, ◌<◌, pos, ◌-ℤ◌};
 ghost use Rattle.std.specs.Int.Signed.{rem_z};
 ghost use Rattle.values.specs.declared.Judgement.{Judgement};

@@ -1,4 +1,6 @@
 // The greatest common divisor of two numbers, by halving and subtracting. Its meaning is final; the way to it may change.
+#![tactic(auto)]
+
 ghost use Rattle.std.specs.Prelude.{◌≡◌, min, ◌<◌};
 ghost use Rattle.counting.specs.Divisors.{IsGcd};
 ghost use Rattle.divisor.specs.Halves.{Odd, twos, OddPart};

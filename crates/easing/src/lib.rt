@@ -1,4 +1,6 @@
 // Whether one table is an easing of another: each of its tasks is looked for behind what the one before it was found to be.
+#![tactic(auto)]
+
 ghost use Rattle.std.specs.Prelude.{◌≡◌, cond, not, ◌+◌, ◌^◌, ◌≤◌, ◌<◌};
 ghost use Rattle.model.specs.Limits.{task_limit};
 ghost use Rattle.model.specs.Tasks.{is_button};

@@ -1,4 +1,6 @@
 // The exact test: a table is judged, its load looked at, one of two engines walks it, and what it found is said.
+#![tactic(auto)]
+
 ghost use Rattle.std.specs.Prelude.{◌≡◌, ◌≤◌};
 ghost use Rattle.values.specs.declared.Judgement.{Judgement};
 ghost use Rattle.model.specs.Tasks.{judged};
@@ -100,7 +102,7 @@ pub fn test(t: Table, budget: u64, plainly: bool) -> Answer
 }
 
 // What the two engines answer to one table and budget: the same.
-#[derive(Drop)]
+#[derive(Clone, Copy)]
 pub struct Twice {
     pub leaping: Answer,
     pub plain: Answer,

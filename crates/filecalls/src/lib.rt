@@ -1,4 +1,6 @@
 // The calls on table files alone: the quick test, the distance test, the largest cost of a task, the room of a table, and whether one is an easing of another.
+#![tactic(auto)]
+
 ghost use Rattle.std.specs.Prelude.{◌≡◌, ◌+◌, ◌*◌, ◌<◌, ◌≤◌, min};
 ghost use Rattle.values.specs.declared.Admission.{Admission};
 ghost use Rattle.model.specs.Limits.{task_limit};

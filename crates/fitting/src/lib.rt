@@ -1,4 +1,6 @@
 // What would fit: the steps of a change are halved by trials of the exact test.
+#![tactic(auto)]
+
 ghost use Rattle.std.specs.Prelude.{◌≡◌, suc, ◌≤◌, ◌<◌, T};
 ghost use Rattle.values.specs.declared.Fit.{Fit};
 ghost use Rattle.values.specs.declared.Judgement.{Judgement};

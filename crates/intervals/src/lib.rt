@@ -1,4 +1,6 @@
 // What an interval asks for, in closed form, and which starts need no look.
+#![tactic(auto)]
+
 ghost use Rattle.std.specs.Prelude.{◌≡◌, ℕ, ◌-◌, ◌≤◌, ◌<◌};
 ghost use Rattle.model.specs.Demand.{jobs_in, demand};
 ghost use Rattle.wellformed.specs.Ranges.{InRange, Ranged};

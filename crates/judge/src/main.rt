@@ -1,4 +1,6 @@
 // The judge: reads a table file from standard input, and prints the report on it or the line that names its refusal.
+#![tactic(auto)]
+
 ghost use Rattle.std.specs.Prelude.{◌≡◌, suc, ◌≤◌, length, take};
 ghost use Rattle.io.specs.Counts.{IsPrefixLen};
 ghost use Rattle.model.specs.Limits.{task_limit, report_bytes, longest_file};

@@ -1,4 +1,6 @@
 // The largest cost that one task of a table can take: the costs up to its deadline are halved by trials of the exact test.
+#![tactic(auto)]
+
 ghost use Rattle.std.specs.Prelude.{◌≡◌, ◌≤◌, ◌<◌};
 ghost use Rattle.values.specs.declared.Judgement.{Judgement};
 ghost use Rattle.values.specs.declared.LargestCost.{LargestCost};

@@ -1,4 +1,6 @@
 // The leaping engine of the exact test: from one release or finish to the next, and at the first late deadline a search for the largest start.
+#![tactic(auto)]
+
 ghost use Rattle.std.specs.Prelude.{◌≡◌, true, false, ◌/◌, ◌≤◌, ◌<◌};
 ghost use Rattle.values.specs.declared.Judgement.{Judgement};
 ghost use Rattle.model.specs.Limits.{task_limit, slot_limit};
@@ -18,7 +20,7 @@ use values::{Measure, TASK_LIMIT, Table};
 use walks::Course;
 
 // The jobs to be counted next in a search for a start: how far before the late deadline each is released.
-#[derive(Drop)]
+#[derive(Clone, Copy)]
 pub struct Lasts {
     pub queue: Times,
     pub jobs: usize,

@@ -1,4 +1,6 @@
 // The leaps of a walk over a table, from one release or finish to the next.
+#![tactic(auto)]
+
 ghost use Rattle.std.specs.Prelude.{◌≡◌, true, false, cond, ◌+◌, ◌-◌, ◌*◌, ◌/◌, ◌%◌, ◌^◌, ◌≤◌, ◌<◌, leb, set};
 ghost use Rattle.values.specs.declared.Table.{Table};
 ghost use Rattle.model.specs.Limits.{task_limit};
@@ -66,7 +68,7 @@ pub fn insert(queue: &mut Times, m: usize, x: u64)
 }
 
 // What a walk reads of a table, a list for each number. Period and deadline are entries: now as an entry is added to them.
-#[derive(Drop)]
+#[derive(Clone, Copy)]
 pub struct Columns {
     pub period: Times,
     pub cost: Times,
@@ -168,7 +170,7 @@ fn release_all(
 }
 
 // Where a leap ends: the time, the open jobs, the first idle instant so far or 0; whether the walk is over there, and late.
-#[derive(Drop)]
+#[derive(Clone, Copy)]
 pub struct Landed {
     pub time: u64,
     pub jobs: usize,

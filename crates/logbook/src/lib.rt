@@ -1,4 +1,6 @@
 // The judge of a camera's log, in pieces cut anywhere: any table, any state and any bytes.
+#![tactic(auto)]
+
 ghost use Rattle.std.specs.Prelude.{◌≡◌, false, true, cond, not, ◌&&◌, ◌||◌, ◌-◌, ◌≤◌, ◌<◌, ltb, eqb, length};
 ghost use Rattle.values.specs.declared.Table.{Table};
 ghost use Rattle.values.specs.declared.Admission.{Admission};
@@ -26,7 +28,7 @@ const COUNT_PLACE: u32 = NO_TASK + 2;
 
 // What is kept between pieces beside the dispatcher: whether a task's record is open, whose number is still to come; whether a
 // done report waits for the next slot; the slots and the bytes that were read; and what was found.
-#[derive(Drop)]
+#[derive(Clone, Copy)]
 pub struct Reading {
     pub opened: bool,
     pub done: bool,
@@ -35,13 +37,13 @@ pub struct Reading {
     pub found: Finding,
 }
 
-#[derive(Drop)]
+#[derive(Clone, Copy)]
 pub struct Log {
     pub state: State,
     pub reading: Reading,
 }
 
-#[derive(Drop)]
+#[derive(Clone, Copy)]
 pub struct Fed {
     pub admission: Admission,
     pub log: Log,
@@ -258,7 +260,7 @@ fn is_final(reading: Reading) -> bool
 }
 
 // How far a piece is read, and the log then.
-#[derive(Drop)]
+#[derive(Clone, Copy)]
 struct Run {
     at: usize,
     log: Log,

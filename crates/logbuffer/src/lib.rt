@@ -1,4 +1,6 @@
 // A log's judge in a lent buffer: a dispatcher's state, then words of four bytes and counts of eight, the lowest byte first.
+#![tactic(auto)]
+
 ghost use Rattle.std.specs.Prelude.{◌≡◌, ◌+◌, ◌≤◌, length};
 ghost use Rattle.model.specs.Notation.{bit};
 ghost use Rattle.model.specs.TableFile.{bytes_of};

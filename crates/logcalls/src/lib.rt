@@ -1,4 +1,6 @@
 // The judge of a camera's log over a file and a lent buffer: start, pieces, finish.
+#![tactic(auto)]
+
 ghost use Rattle.std.specs.Prelude.{◌≡◌, length};
 ghost use Rattle.model.specs.LogBuffer.{log_bytes, log_written, log_start_exported, log_feed_exported, log_finish_exported};
 ghost use Rattle.logbook.specs.State.{log_state_of};

@@ -1,4 +1,6 @@
 // What every exported call shares: a refusal as one number, and a file's form read for a buffer of one length.
+#![tactic(auto)]
+
 ghost use Rattle.std.specs.Prelude.{◌≡◌, ◌+◌, ◌*◌, min};
 ghost use Rattle.model.specs.Report.{refusal_number};
 ghost use Rattle.numbers.specs.Form.{form_for};

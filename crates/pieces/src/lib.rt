@@ -1,11 +1,13 @@
 // The pieces of a text: how far it is to the next mark, whether two words are the same, whether a text has a line.
+#![tactic(auto)]
+
 ghost use Rattle.std.specs.Prelude.{◌≡◌, ◌≤◌, length};
 ghost use Rattle.model.specs.PlainText.{is_gap, is_digit, same, lines_of};
 ghost use Rattle.model.specs.ReportRead.{has_line};
 ghost use Rattle.pieces.specs.Marks.{is_mark, length_to};
 
 // What is looked for: the end of a line, a comment, a gap between words, a word, a byte that is no digit.
-#[derive(Drop)]
+#[derive(Clone, Copy)]
 pub enum Mark {
     LineEnd,
     Comment,

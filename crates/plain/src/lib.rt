@@ -1,4 +1,6 @@
 // The plain engine of the exact test: a walk slot by slot, and at the first late deadline a search for the largest start.
+#![tactic(auto)]
+
 ghost use Rattle.std.specs.Prelude.{◌≡◌, ◌≤◌, max};
 ghost use Rattle.values.specs.declared.Judgement.{Judgement};
 ghost use Rattle.model.specs.Limits.{task_limit};

@@ -1,4 +1,6 @@
 // Tables in plain text, read where they lie and written into a lent buffer.
+#![tactic(auto)]
+
 ghost use Rattle.std.specs.Prelude.{◌≡◌, true, suc, ◌+◌, ◌-◌, ◌≤◌, ◌<◌, min, ◌++◌, length, take};
 ghost use Rattle.model.specs.Notation.{decimal};
 ghost use Rattle.model.specs.Limits.{task_limit, longest_text};
@@ -40,7 +42,7 @@ const LAST_LINE: u32 = 65_535;
 const ASIDE: usize = 28 + TASK_LIMIT * 29 + 60;
 
 // Where the first word begins and ends; they are the same where there is none.
-#[derive(Drop)]
+#[derive(Clone, Copy)]
 struct Word {
     from: usize,
     to: usize,
@@ -58,7 +60,7 @@ fn next_word(s: &[u8]) -> Word
 }
 
 // A number, unless it has a fault.
-#[derive(Drop)]
+#[derive(Clone, Copy)]
 struct Number {
     fault: u32,
     value: u64,
@@ -104,7 +106,7 @@ fn digit_of(byte: u8) -> u64
 }
 
 // The numbers of a line, unless they have a fault.
-#[derive(Drop)]
+#[derive(Clone, Copy)]
 struct Numbers {
     fault: u32,
     values: [u64; TASK_NUMBERS],

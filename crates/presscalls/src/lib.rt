@@ -1,4 +1,6 @@
 // A camera's loop on a table with buttons, over a file and a lent buffer: start and step.
+#![tactic(auto)]
+
 ghost use Rattle.std.specs.Prelude.{◌≡◌, not, ◌+◌, ◌*◌, eqb, length};
 ghost use Rattle.model.specs.Limits.{word_limit};
 ghost use Rattle.model.specs.Presses.{started_mixed, stepped_pressed};

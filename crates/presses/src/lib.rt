@@ -1,4 +1,6 @@
 // The dispatcher of tables with buttons: a start on any table, and a step on any table, any state and any presses.
+#![tactic(auto)]
+
 ghost use Rattle.std.specs.Prelude.{◌≡◌};
 ghost use Rattle.model.specs.Presses.{started_mixed, refuse_pressed, press_taken, stepped_pressed};
 ghost use Rattle.wellformed.specs.Ranges.{Ranged};
@@ -11,19 +13,19 @@ use slots::{NO_TASK, Numbers};
 use values::{Admission, FULL_STATE, Refusal, SlotAnswer, State, TASK_LIMIT, Table};
 
 // A dispatcher's state. A button's wait is the slots until it may be pressed again.
-#[derive(Drop)]
+#[derive(Clone, Copy)]
 pub struct Presses {
     pub state: State,
 }
 
-#[derive(Drop)]
+#[derive(Clone, Copy)]
 pub struct Started {
     pub admission: Admission,
     pub presses: Presses,
 }
 
 // The answer of a step, the presses that it did not take, as a set of bits, and the successor.
-#[derive(Drop)]
+#[derive(Clone, Copy)]
 pub struct Pressed {
     pub answer: SlotAnswer,
     pub untaken: u32,
@@ -133,7 +135,7 @@ fn step_taken(d: State, t: Table, done: bool, pressed: u32) -> Pressed
 }
 
 // The lists after a slot, the slot's owner, the tasks that were closed late, and the presses that were not taken.
-#[derive(Drop)]
+#[derive(Clone, Copy)]
 pub struct Moved {
     pub wait: Numbers,
     pub left: Numbers,

@@ -1,4 +1,6 @@
 // The quick test: no overload, and with all tasks started at 0 no instant by which the jobs due ask for more slots than there are.
+#![tactic(auto)]
+
 ghost use Rattle.std.specs.Prelude.{◌≡◌, suc, ◌≤◌, ◌<◌};
 ghost use Rattle.values.specs.declared.Judgement.{Judgement};
 ghost use Rattle.model.specs.Limits.{round_limit};
@@ -17,7 +19,7 @@ use values::{Judgement, Measure, QuickAnswer, SLOT_LIMIT, Table, Task};
 const EARLY: u64 = 1_000_000;
 
 // The slots that are asked for by an instant, and the first deadline after it, where the way up looks next.
-#[derive(Drop)]
+#[derive(Clone, Copy)]
 struct Seen {
     asked: u64,
     next: u64,

@@ -1,4 +1,6 @@
 // The text of an answer, written byte for byte into a lent buffer.
+#![tactic(auto)]
+
 ghost use Rattle.std.specs.Prelude.{◌≡◌, ◌++◌, ◌+◌, ◌*◌, ◌<◌, ◌≤◌, length};
 ghost use Rattle.model.specs.Limits.{task_limit, report_bytes};
 ghost use Rattle.model.specs.Notation.{text, decimal};

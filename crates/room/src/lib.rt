@@ -1,4 +1,6 @@
 // The room of a table that may have buttons: the costs of one task up to its deadline are halved by trials of the distance test.
+#![tactic(auto)]
+
 ghost use Rattle.std.specs.Prelude.{◌≡◌, ◌≤◌, ◌<◌};
 ghost use Rattle.values.specs.declared.DistanceAnswer.{DistanceAnswer};
 ghost use Rattle.model.specs.Tasks.{task};

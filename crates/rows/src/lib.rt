@@ -1,4 +1,6 @@
 // A table handed over as words, five for each task.
+#![tactic(auto)]
+
 ghost use Rattle.std.specs.Prelude.{◌≡◌, cond, not, ◌/◌, ◌%◌, ◌<◌, min, eqb};
 ghost use Rattle.model.specs.Limits.{task_limit};
 ghost use Rattle.values.specs.declared.Sort.{Sort};

@@ -1,4 +1,6 @@
 // One slot, over two numbers for each task: its wait, the slots until its next release, and the slots left to its open job.
+#![tactic(auto)]
+
 ghost use Rattle.std.specs.Prelude.{◌≡◌, cond, not, ◌&&◌, ◌+◌, ◌-◌, ◌*◌, ◌^◌, ◌≤◌, ◌<◌, ltb, eqb, set};
 ghost use Rattle.model.specs.Limits.{task_limit, slot_limit};
 ghost use Rattle.model.specs.Notation.{bit, bits, in_set};
@@ -28,7 +30,7 @@ const RANKS: u64 = 0x1_0000;
 const NO_KEY: u64 = 0xffff_ffff_ffff_ffff;
 
 // What a slot reads of a table, a list for each number. The slack is T - D: the wait of a job at its deadline.
-#[derive(Drop)]
+#[derive(Clone, Copy)]
 pub struct Columns {
     pub period: Numbers,
     pub cost: Numbers,
@@ -216,14 +218,14 @@ fn key_of(left: u32, due: u32, rank: u16) -> u64
 }
 
 // What one pass over the tasks sees at a slot: an open job at its deadline, or else the slot's owner.
-#[derive(Drop)]
+#[derive(Clone, Copy)]
 pub struct Seen {
     pub late: bool,
     pub owner: u32,
 }
 
 // The wait and the slots left of one task once its job, if one is due, is released.
-#[derive(Drop)]
+#[derive(Clone, Copy)]
 struct Renewed {
     wait: u32,
     left: u32,

@@ -1,4 +1,6 @@
 // What the sort of a task says.
+#![tactic(auto)]
+
 ghost use Rattle.std.specs.Prelude.{◌≡◌, ◌^◌, ◌<◌};
 ghost use Rattle.model.specs.Tasks.{is_button, offset};
 

@@ -1,4 +1,6 @@
 // The dispatcher's state in a lent buffer: words of four bytes and counts of eight, the lowest byte first.
+#![tactic(auto)]
+
 ghost use Rattle.std.specs.Prelude.{◌≡◌, ◌+◌, ◌*◌, ◌≤◌, length};
 ghost use Rattle.model.specs.Limits.{task_limit};
 ghost use Rattle.model.specs.TableFile.{bytes_of};

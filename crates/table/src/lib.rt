@@ -1,4 +1,6 @@
 // Judges any table: refusals 1 to 7, and 11 where only periodic tasks are allowed, or what a well-formed table measures.
+#![tactic(auto)]
+
 ghost use Rattle.std.specs.Prelude.{◌≡◌, ◌≤◌, ◌<◌};
 ghost use Rattle.model.specs.Values.{refusal};
 ghost use Rattle.model.specs.Limits.{task_limit, slot_limit, round_limit};
@@ -76,7 +78,7 @@ fn has_button(button: usize) -> Refusal
 }
 
 // A refusal, or the round and the first button: the count if there is none.
-#[derive(Drop)]
+#[derive(Clone, Copy)]
 pub enum Found {
     Refused(Refusal),
     Kept { round: u64, button: usize },

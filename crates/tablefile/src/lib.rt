@@ -1,4 +1,6 @@
 // A table file, read record by record where it lies.
+#![tactic(auto)]
+
 ghost use Rattle.std.specs.Prelude.{◌≡◌, [], ◌+◌, ◌<◌, ◌≤◌, length};
 ghost use Rattle.model.specs.Limits.{longest_file};
 ghost use Rattle.model.specs.TableFile.{table_of, refuse_file, judged_table, form_of, file_read, periodic_from};
@@ -29,7 +31,7 @@ pub const BUDGET_BYTES: usize = 1 + BUDGET_BODY;
 pub const TASK_BYTES: usize = 1 + TASK_BODY;
 
 // A record is a budget, a task of either sort or the end, with its numbers.
-#[derive(Drop)]
+#[derive(Clone, Copy)]
 pub enum Record {
     Budget(u64),
     OneTask(Task),
@@ -37,7 +39,7 @@ pub enum Record {
 }
 
 // What reading at a place comes to.
-#[derive(Drop)]
+#[derive(Clone, Copy)]
 pub enum Reading {
     Refused(Refusal),
     Whole(Record),

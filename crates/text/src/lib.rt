@@ -1,4 +1,6 @@
 // Texts and numbers, written byte for byte into a lent buffer.
+#![tactic(auto)]
+
 ghost use Rattle.std.specs.Prelude.{◌++◌, ◌∷◌, [], ◌+◌, ◌*◌, ◌<◌, ◌≤◌, length};
 ghost use Rattle.model.specs.Notation.{decimal};
 ghost use Rattle.model.specs.Report.{line};

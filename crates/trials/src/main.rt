@@ -1,4 +1,6 @@
 // Runs the specification's tables and states through judge, test and dispatcher, a line for each; `stdout` says what it demands of them.
+#![tactic(auto)]
+
 mod dispatching;
 mod judging;
 mod say;

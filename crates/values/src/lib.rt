@@ -1,4 +1,5 @@
 // The values that pass between the calls. What they mean stands in `model`.
+#![tactic(auto)]
 
 // The limits of the code, each once: they are those of `model`, or the proofs fail.
 pub const TASK_LIMIT: usize = 32;
@@ -106,14 +107,14 @@ pub const LATE: u32 = 3;
 pub const PASSES: u32 = 4;
 
 // How the jobs of a task come: from an offset on, every period, or as a button is pressed, with no offset at all.
-#[derive(Drop)]
+#[derive(Clone, Copy)]
 pub enum Sort {
     Periodic(u32),
     Button,
 }
 
 // A task: its sort, the slots of each job, the deadline after each release, and the period, which is a button's least spacing.
-#[derive(Drop)]
+#[derive(Clone, Copy)]
 pub struct Task {
     pub sort: Sort,
     pub cost: u32,
@@ -122,21 +123,21 @@ pub struct Task {
 }
 
 // The tasks below `count`. Any value may be handed to a public call; entries from `count` on are not read.
-#[derive(Drop)]
+#[derive(Clone, Copy)]
 pub struct Table {
     pub count: usize,
     pub tasks: [Task; TASK_LIMIT],
 }
 
 // A refusal: the number and place of section 7.1 of the specification.
-#[derive(Drop)]
+#[derive(Clone, Copy)]
 pub struct Refusal {
     pub number: u32,
     pub place: u32,
 }
 
 // What a well-formed table measures: H, the slots its jobs ask for in H slots, and its horizon.
-#[derive(Drop)]
+#[derive(Clone, Copy)]
 pub struct Measure {
     pub round: u64,
     pub load: u64,
@@ -144,14 +145,14 @@ pub struct Measure {
 }
 
 // Whether a table is well-formed.
-#[derive(Drop)]
+#[derive(Clone, Copy)]
 pub enum Judgement {
     Refused(Refusal),
     WellFormed(Measure),
 }
 
 // What the exact test decides.
-#[derive(Drop)]
+#[derive(Clone, Copy)]
 pub enum Verdict {
     Passes,
     Overload,
@@ -160,14 +161,14 @@ pub enum Verdict {
 }
 
 // The answer of the exact test: a refusal or a verdict.
-#[derive(Drop)]
+#[derive(Clone, Copy)]
 pub enum Outcome {
     Refused(Refusal),
     Tested(Verdict),
 }
 
 // The largest cost of a task with which its table passes: a refusal, why the table does not pass as it is, or that cost.
-#[derive(Drop)]
+#[derive(Clone, Copy)]
 pub enum LargestCost {
     Refused(Refusal),
     Overload,
@@ -177,7 +178,7 @@ pub enum LargestCost {
 }
 
 // What is changed in a table: the cost or the deadline of the task of this number, or every cost by one share of it.
-#[derive(Drop)]
+#[derive(Clone, Copy)]
 pub enum Change {
     Cost(u32),
     Deadline(u32),
@@ -185,7 +186,7 @@ pub enum Change {
 }
 
 // What would fit: a refusal, why the table does not pass with the change at its easiest, or the number.
-#[derive(Drop)]
+#[derive(Clone, Copy)]
 pub enum Fit {
     Refused(Refusal),
     Overload,
@@ -195,7 +196,7 @@ pub enum Fit {
 }
 
 // All that the exact test says: the first idle instant after 0 stands last. What the outcome leaves nothing to say of is 0.
-#[derive(Drop)]
+#[derive(Clone, Copy)]
 pub struct Answer {
     pub outcome: Outcome,
     pub measure: Measure,
@@ -206,7 +207,7 @@ pub struct Answer {
 
 // The whole answer of a check as numbers, as a C program reads it: `quick` is 1 for pass, and `verdict` the number by which the
 // verdict is said.
-#[derive(Drop)]
+#[derive(Clone, Copy)]
 pub struct AnswerNumbers {
     pub round: u64,
     pub load: u64,
@@ -223,7 +224,7 @@ pub struct AnswerNumbers {
 }
 
 // What the quick test says: a refusal, pass, or no answer.
-#[derive(Drop)]
+#[derive(Clone, Copy)]
 pub enum QuickAnswer {
     Refused(Refusal),
     Pass,
@@ -231,7 +232,7 @@ pub enum QuickAnswer {
 }
 
 // What the distance test says: a refusal, overload, pass, or no answer.
-#[derive(Drop)]
+#[derive(Clone, Copy)]
 pub enum DistanceAnswer {
     Refused(Refusal),
     Overload,
@@ -241,21 +242,21 @@ pub enum DistanceAnswer {
 
 // Whether one table is an easing of another: the first of its tasks that is none, or the tasks of the other that are kept, as a
 // set of bits.
-#[derive(Drop)]
+#[derive(Clone, Copy)]
 pub enum Easing {
     Unmatched(u32),
     Kept(u32),
 }
 
 // Whether a buffer, a file, or a table to start with, is taken.
-#[derive(Drop)]
+#[derive(Clone, Copy)]
 pub enum Admission {
     Refused(Refusal),
     Admitted,
 }
 
 // What a table file holds. Of a refused file the budget is 0 and the table empty.
-#[derive(Drop)]
+#[derive(Clone, Copy)]
 pub struct Contents {
     pub admission: Admission,
     pub budget: u64,
@@ -263,14 +264,14 @@ pub struct Contents {
 }
 
 // What a writer into a lent buffer says: a refusal, or how many bytes it wrote at the buffer's front.
-#[derive(Drop)]
+#[derive(Clone, Copy)]
 pub enum Writing {
     Refused(Refusal),
     Bytes(usize),
 }
 
 // What a line of a plain text says: nothing, a budget, a task, or by its number the fault that it has.
-#[derive(Drop)]
+#[derive(Clone, Copy)]
 pub enum Line {
     Nothing,
     Budget(u64),
@@ -280,7 +281,7 @@ pub enum Line {
 
 // A dispatcher's state: for each task its wait, the slots until its next release, and the slots left to its open job; which task ran
 // last, or `TASK_LIMIT`; the slots given to each task, and the empty ones.
-#[derive(Drop)]
+#[derive(Clone, Copy)]
 pub struct State {
     pub wait: [u32; TASK_LIMIT],
     pub left: [u32; TASK_LIMIT],
@@ -291,7 +292,7 @@ pub struct State {
 
 // What a step says: the task that owns the slot; the tasks closed late as a set of bits, how many they are, and the lowest of
 // them. No task is `TASK_LIMIT`.
-#[derive(Drop)]
+#[derive(Clone, Copy)]
 pub struct Turn {
     pub owner: u32,
     pub late: u32,
@@ -300,7 +301,7 @@ pub struct Turn {
 }
 
 // The answer of a step: a refusal, or what it says.
-#[derive(Drop)]
+#[derive(Clone, Copy)]
 pub enum SlotAnswer {
     Refused(Refusal),
     Slot(Turn),
@@ -308,7 +309,7 @@ pub enum SlotAnswer {
 
 // What is found of a camera's log: nothing yet; its end, with nothing wrong before it; the first slot that differs from the
 // dispatcher's; a fault, by its number (section 7.3 of the specification) and the place of its byte.
-#[derive(Drop)]
+#[derive(Clone, Copy)]
 pub enum Finding {
     Nothing,
     Good,

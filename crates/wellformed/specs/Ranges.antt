@@ -50,6 +50,7 @@ kept false n e = absurd (omega arith)
 
 kept_test : (p : Bool) (n : ℕ) {m : ℕ} → T p → cond (not p) n m ≡ m
 kept_test true n t = refl
+kept_test false n {m = m} t = elim t [ ]
 
 -- A task without a fault keeps its ranges.
 pub faultless : (k : Task) → task_fault k ≡ 0 → InRange k

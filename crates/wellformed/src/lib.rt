@@ -1,1 +1,2 @@
 // What a table keeps that is not refused.
+#![tactic(auto)]

@@ -1,4 +1,6 @@
 // Numbers of four bytes and of eight, the lowest byte first, read and written where they lie.
+#![tactic(auto)]
+
 ghost use Rattle.std.specs.Prelude.{◌≡◌, not, ◌+◌, ◌/◌, ◌%◌, ◌^◌, ◌<◌, ◌≤◌, min, eqb, length};
 ghost use Rattle.model.specs.Limits.{word_limit};
 ghost use Rattle.model.specs.TableFile.{four, eight, word_bytes, two_words, bytes_of};

@@ -1,4 +1,6 @@
 // The writer of a table file from words, and from text to file and back.
+#![tactic(auto)]
+
 ghost use Rattle.std.specs.Prelude.{◌≡◌};
 ghost use Rattle.model.specs.Writer.{write_exported};
 ghost use Rattle.model.specs.PlainText.{from_text_exported, to_text_exported};

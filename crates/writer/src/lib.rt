@@ -1,4 +1,6 @@
 // The table file of a table and a budget, written into a lent buffer.
+#![tactic(auto)]
+
 ghost use Rattle.std.specs.Prelude.{◌≡◌, [], ◌∷◌, ◌+◌, ◌≤◌, ◌<◌, length};
 ghost use Rattle.model.specs.Limits.{task_limit, budget_bytes};
 ghost use Rattle.model.specs.TableFile.{budget_record, sort_bytes, task_record, task_records, file_of};

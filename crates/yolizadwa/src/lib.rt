@@ -1,4 +1,6 @@
 // The exported calls, as C makes them: each is a call of its kind, and nothing more.
+#![tactic(auto)]
+
 ghost use Rattle.std.specs.Prelude.{◌≡◌};
 ghost use Rattle.model.specs.Report.{quick_exported, distance_exported, Checked};
 ghost use Rattle.model.specs.AnswerBuffer.{Answered};

@@ -1,0 +1,23 @@
+-- The load so far is the sum over the tasks read, and at most a whole round for each; the latest offset so far is the largest.
+use mathlib.Core.Path.{◌≡◌, refl}
+use mathlib.Core.Logic.{⊎_elim}
+use Prim.Native.Nat.{ℕ, ◌-◌, ◌*◌, max, ◌≤◌}
+use native.Mathlib.Omega.{arith}
+use borrow.Author.Rules.{rules}
+use Rattle.values.specs.declared.Table.{Table}
+use Rattle.model.specs.Limits.{slot_limit, round_limit}
+use Rattle.model.specs.Notation.{sum, largest}
+use Rattle.model.specs.Tasks.{task, offset, round, load, horizon}
+use Rattle.counting.specs.Sum.{sum_none, sum_more}
+use Rattle.counting.specs.Search.{largest_none, largest_more}
+use Rattle.wellformed.specs.Round.{share, share_le}
+use Rattle.table.proofs.measure_of.Given as goal
+
+abbrev pub start : Table → ℕ → ℕ
+start t i = offset (task t i)
+
+abbrev pub invariant-loop-i : goal.invariant-loop-i
+invariant-loop-i l = (l.i ≤ l.n) × (l.load ≤ l.i * round_limit) × (l.load ≡ sum l.i (share l.t l.round)) × (l.latest ≤ slot_limit) × (l.latest ≡ largest l.i (start l.t))
+
+abbrev pub decreases-loop-i : goal.decreases-loop-i
+decreases-loop-i l = l.n - l.i
