@@ -13,6 +13,7 @@ use Rattle.counting.specs.Search.{largest_none, largest_more}
 use Rattle.wellformed.specs.Round.{share, share_le}
 use Rattle.table.proofs.measure_of.Invariants.{start}
 use Rattle.table.proofs.measure_of.Goals.{In-loop-i}
+use Rattle.table.proofs.measure_of.Goals.{then-offset-latest, else-offset-latest}
 use Rattle.table.proofs.measure_of.Goals as goal
 
 share-fits : (c : In-loop-i) → share c.args.t c.args.round c.loop-i.i ≤ round_limit
@@ -36,4 +37,26 @@ pub overflow_add-load : goal.overflow_add-load
 overflow_add-load c = omega (arith, share-fits (goal.at.overflow_add-load c).In-loop-i)
 
 pub loop-i-preserved : goal.loop-i-preserved
-loop-i-preserved c = ?
+loop-i-preserved c =
+    let f = start c.args.t in
+    let inside = (goal.at.loop-i-preserved c).In-loop-i in
+    let later : c.if-offset-latest.latest ≡ max c.loop-i.latest (f c.loop-i.i) =
+        elim c.if-offset-latest.branch [
+          | then-offset-latest w ↦ omega (arith, c.offset_of-offset.ensures)
+          | else-offset-latest w ↦ omega (arith, c.offset_of-offset.ensures)
+        ] in (
+      omega arith,
+      omega (arith, share-fits inside),
+      sum_more (share c.args.t c.args.round) c.loop-i.i c.loop-i.invariant.2 refl,
+      omega (arith, offset_le inside),
+      largest_more f c.loop-i.i c.loop-i.invariant.4 later,
+    )
+
+pub returns : goal.returns
+unfolding load horizon
+returns c =
+    let t = c.args.t in
+    let all : c.loop-i.i ≡ t.count = omega arith in
+    let loads = rw all at c.loop-i.invariant.2 in
+    let latest = rw all at c.loop-i.invariant.4 in
+    rw (loads, latest, c.requires.round_kept.is)

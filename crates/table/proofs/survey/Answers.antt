@@ -12,6 +12,8 @@ use Rattle.wellformed.specs.Ranges.{faulty, faultless, marked}
 use Rattle.wellformed.specs.WellFormed.{mixed_long}
 use Rattle.table.specs.Survey.{button, Read, read_none, read_button, read_on, read_ranged, read_kept, read_long, read_first}
 use Rattle.table.proofs.survey.Goals.{After-loop-i, After-struct_known-1}
+use Rattle.table.proofs.survey.Goals.{then-button-n+then-is_button, else-button-n}
+use Rattle.table.proofs.survey.Goals.{else-button-n-via-then-button-n+else-is_button, else-button-n-via-else-button-n}
 use Rattle.table.proofs.survey.Goals as goal
 
 pub returns-then-n-eq0 : goal.returns-then-n-eq0
@@ -56,7 +58,23 @@ pub overflow_cast-task : goal.overflow_cast-task
 overflow_cast-task c = omega (arith, (faultless _ (fine (goal.at.overflow_cast-task c).After-struct_known-1)).period_le)
 
 pub loop-i-preserved : goal.loop-i-preserved
-loop-i-preserved c = ?
+loop-i-preserved c =
+    let t = c.args.t in
+    let sound = fine (goal.at.loop-i-preserved c).After-struct_known-1 in
+    let on = read_on t c.loop-i.i c.loop-i.round c.common_multiple-round.result c.loop-i.button (omega arith) c.loop-i.invariant.1 sound
+    c.common_multiple-round.ensures in (
+      omega arith,
+      elim c.if-button-n.branch [
+        | then-button-n+then-is_button w ↦
+            rw w.button-is (read_button t c.loop-i.i c.loop-i.round c.common_multiple-round.result c.loop-i.button (omega arith)
+            c.loop-i.invariant.1 sound c.common_multiple-round.ensures w.if-button-n.true (rw (← w.is_button.ensures, w.if-is_button.true) tt))
+        | else-button-n w ↦
+            rw w.button-is (on (λ q h. elim w.else-button-n.branch [
+              | else-button-n-via-then-button-n+else-is_button v ↦ rw (← v.is_button.ensures, v.if-is_button.false) at h
+              | else-button-n-via-else-button-n v ↦ absurd (v.if-button-n.false q)
+            ]))
+      ],
+    )
 
 -- All tasks are read.
 read : (c : After-loop-i) → Read c.args.t c.args.t.count c.loop-i.round
