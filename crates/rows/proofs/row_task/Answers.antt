@@ -1,0 +1,5 @@
+use borrow.Author.Rules.{rules}
+use Rattle.rows.proofs.row_task.Goals as goal
+
+pub returns : goal.returns
+returns c = rw c.sort_of.ensures
