@@ -1,0 +1,24 @@
+-- The loop has moved the entries from j on; what is left to do is to put x in among the first j.
+use mathlib.Core.Path.{◌≡◌, refl, ◌∙◌}
+use mathlib.Core.Logic.{inl, inr}
+use Prim.Native.Nat.{◌≤◌, ◌-◌}
+use native.Mathlib.Omega.{arith}
+use Rattle.leaps.specs.Queue.{inserted, inserted_none, inserted_here, inserted_below}
+use borrow.Author.Rules.{rules}
+use Rattle.leaps.proofs.insert.Goals as goal
+
+pub loop-j-init : goal.loop-j-init
+loop-j-init c = (omega arith, refl)
+
+pub loop-j-preserved : goal.loop-j-preserved
+loop-j-preserved c =
+    let v = c.loop-j.invariant in
+    (omega (arith, v.0), inserted_below _ _ _ c.loop-j-test.true (omega (arith, c.if-x-above.false)) ∙ v.1)
+
+pub returns : goal.returns
+returns c =
+    let v = c.loop-j.invariant in
+    elim c.loop-j-test.branch [
+      | inl test ↦ inserted_none _ _ _ (omega (arith, test.left)) ∙ v.1
+      | inr (test, above, if1) ↦ inserted_here _ _ _ test.taken (omega (arith, if1.taken)) ∙ v.1
+    ]
