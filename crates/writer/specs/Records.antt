@@ -35,7 +35,9 @@ file_bytes t = budget_bytes + records_bytes t + 1
 pub records_more : (ks : List Task) (i n : ℕ) → i ≤ n → length (task_records (take i ks)) ≤ length (task_records (take n ks))
 unfolding task_records
 records_more ks zero n h = omega arith
+records_more [] (suc i) zero h = elim h [ ]
 records_more [] (suc i) (suc n) h = omega arith
+records_more (k ∷ ks) (suc i) zero h = elim h [ ]
 records_more (k ∷ ks) (suc i) (suc n) h =
     omega (
       arith,
