@@ -1,0 +1,11 @@
+-- The words stand one after another.
+use Rattle.model.specs.Notation.{text}
+use Rattle.counting.specs.Put.{join}
+use Rattle.plaintext.specs.Texts.{task_put}
+use Rattle.plaintext.proofs.put_task.Goals as goal
+
+pub returns : goal.returns
+unfolding text
+returns c =
+    task_put c.args.task
+    (join c.put_name-at.ensures.put (join c.put_number-at.ensures.put c.put_line.ensures.put))
