@@ -5,6 +5,7 @@ use Prim.Native.Nat.{◌≤◌, ◌-◌}
 use native.Mathlib.Omega.{arith}
 use Rattle.leaps.specs.Queue.{inserted, inserted_none, inserted_here, inserted_below}
 use borrow.Author.Rules.{rules}
+use Rattle.leaps.proofs.insert.Goals.{else-loop-j-test, then-loop-j-test+then-x-above}
 use Rattle.leaps.proofs.insert.Goals as goal
 
 pub loop-j-init : goal.loop-j-init
@@ -19,6 +20,6 @@ pub returns : goal.returns
 returns c =
     let v = c.loop-j.invariant in
     elim c.loop-j-test.branch [
-      | inl test ↦ inserted_none _ _ _ (omega (arith, test.left)) ∙ v.1
-      | inr (test, above, if1) ↦ inserted_here _ _ _ test.taken (omega (arith, if1.taken)) ∙ v.1
+      | else-loop-j-test w ↦ inserted_none _ _ _ (omega (arith, w.loop-j-test.false)) ∙ v.1
+      | then-loop-j-test+then-x-above w ↦ inserted_here _ _ _ w.loop-j-test.true (omega (arith, w.if-x-above.true)) ∙ v.1
     ]

@@ -18,19 +18,19 @@ Of s t =
     let a = s.args in Due t a.period.now a.cost.now a.deadline.now a.releases.now a.ready.now a.left.now a.last a.at a.opened
 
 -- The next release is now.
-now-is : (c : After-task_of-i) (t : Table) → Of c.before.before.before.before.before.before t
+now-is : (c : After-task_of-i) (t : Table) → Of c.before.before.before.before.before.before.before.before t
     → at c.loop-i.releases (t.count - 1) / span ≡ c.args.at
 now-is c t y =
     ap (λ (k : ℕ). at c.loop-i.releases k / span) (sym y.columns.last_is) ∙ sym c.time_of.ensures
     ∙ c.loop-i-test.true
 
 -- The task that is released, and room for its job.
-task_is : (c : After-task_of-i) (t : Table) → Of c.before.before.before.before.before.before t
+task_is : (c : After-task_of-i) (t : Table) → Of c.before.before.before.before.before.before.before.before t
     → c.task_of-i.result ≡ at c.loop-i.releases (t.count - 1) % places
 task_is c t y =
     c.task_of-i.ensures ∙ ap (λ (k : ℕ). at c.loop-i.releases k % places) y.columns.last_is
 
-own : (c : After-task_of-i) (t : Table) → Of c.before.before.before.before.before.before t
+own : (c : After-task_of-i) (t : Table) → Of c.before.before.before.before.before.before.before.before t
     → (c.task_of-i.result < t.count) × (c.loop-i.jobs < t.count)
 own c t y =
     let (i, j) = released_task t y.ranged (c.loop-i.invariant t y) (now-is c t y) in

@@ -12,50 +12,44 @@ use Rattle.leaps.specs.Held.{crowd}
 use Rattle.leaps.specs.Turn.{rests, owner_is, bound, left_small, spare_le, stops, preempt, finishes}
 use Rattle.leaps.specs.Leaping.{Ready}
 use borrow.Author.Rules.{rules}
-use Rattle.leaps.proofs.turn.Goals.{After-task_of-i, After-time_of-soon, Else-jobs-eq0, Start}
+use Rattle.leaps.proofs.turn.Goals.{After-task_of-i, After-time_of-soon, Else-jobs-eq0}
 use Rattle.leaps.proofs.turn.Goals as goal
 
--- The turn is one of this table.
-abbrev Of : Start → Table → Type 0
-Of s t =
-    let a = s.args in
-    Ready t a.deadline.now a.releases.now a.ready.now a.left.now a.worst.now a.last a.at a.end a.jobs a.idle
-
 -- When the next release is.
-soon : (c : After-time_of-soon) (t : Table) → Of c.before.before t → c.time_of-soon.result ≡ at c.args.releases.now (t.count - 1) / span
+soon : (c : After-time_of-soon) (t : Table)
+    → Ready t c.args.deadline.now c.args.releases.now c.args.ready.now c.args.left.now c.args.worst.now c.args.last c.args.at c.args.end c.args.jobs c.args.idle
+    → c.time_of-soon.result ≡ at c.args.releases.now (t.count - 1) / span
 soon c t y = c.time_of-soon.ensures ∙ ap (λ (k : ℕ). at c.args.releases.now k / span) y.last_is
 
--- Where the function began.
-abbrev start : Else-jobs-eq0 → Start
-start c = c.before.before.before
-
 -- A job is open, and there are not too many.
-busy : (c : Else-jobs-eq0) → 0 < (start c).args.jobs
+busy : (c : Else-jobs-eq0) → 0 < c.args.jobs
 busy c = omega (arith, c.if-jobs-eq0.false)
 
-few : (c : Else-jobs-eq0) → (start c).args.jobs ≤ task_limit
-few c = let (t, y) = (start c).requires in omega (arith, crowd t y.ranged y.held, y.ranged.few)
+few : (c : Else-jobs-eq0) → c.args.jobs ≤ task_limit
+few c = let (t, y) = c.requires in omega (arith, crowd t y.ranged y.held, y.ranged.few)
 
 -- The task of the first key is one of the table, and its job has few slots left.
-own : (c : After-task_of-i) (t : Table) → Of (start c.before.before) t → c.task_of-i.result < t.count
+own : (c : After-task_of-i) (t : Table)
+    → Ready t c.args.deadline.now c.args.releases.now c.args.ready.now c.args.left.now c.args.worst.now c.args.last c.args.at c.args.end c.args.jobs c.args.idle
+    → c.task_of-i.result < t.count
 own c t y =
-    let k = soon c.before.before.before t y in
+    let k = c.time_of-soon.ensures ∙ ap (λ (k : ℕ). at c.args.releases.now k / span) y.last_is in
     omega (
       arith,
       c.task_of-i.ensures,
-      owner_is t y.ranged y.light y.clear y.held y.tally k y.before (busy c.before.before),
-      bound t y.ranged y.light y.clear y.held y.tally k y.before (busy c.before.before),
+      owner_is t y.ranged y.light y.clear y.held y.tally k y.before (omega (arith, c.if-jobs-eq0.false)),
+      bound t y.ranged y.light y.clear y.held y.tally k y.before (omega (arith, c.if-jobs-eq0.false)),
     )
 
-small : (c : After-task_of-i) → at (start c.before.before).args.left.now c.task_of-i.result ≤ slot_limit
+small : (c : After-task_of-i) → at c.args.left.now c.task_of-i.result ≤ slot_limit
 small c =
-    let (t, y) = (start c.before.before).requires in
+    let (t, y) = c.requires in
     rw c.task_of-i.ensures
-    (left_small t y.ranged y.light y.clear y.held y.tally (soon c.before.before.before t y) y.before (busy c.before.before))
+    (left_small t y.ranged y.light y.clear y.held y.tally (c.time_of-soon.ensures ∙ ap (λ (k : ℕ). at c.args.releases.now k / span) y.last_is) y.before (omega (arith, c.if-jobs-eq0.false)))
 
 -- It is within the arrays.
 low : (c : After-task_of-i) → c.task_of-i.result < task_limit
-low c = let (t, y) = (start c.before.before).requires in omega (arith, own c t y, y.ranged.few)
+low c = let (t, y) = c.requires in omega (arith, own c t y, y.ranged.few)
 
 pub offset_bounds-releases-last : goal.offset_bounds-releases-last
 offset_bounds-releases-last c = let y = c.requires.1 in omega (arith, y.last_is, y.ranged.few, y.ranged.some)
@@ -80,7 +74,7 @@ pub bounds-left-i : goal.bounds-left-i
 bounds-left-i c = omega (arith, low (goal.at.bounds-left-i c).After-task_of-i)
 
 pub overflow_add-done : goal.overflow_add-done
-overflow_add-done c = let y = (start c.before.before.before.before).requires.1 in omega (arith, small (goal.at.overflow_add-done c).After-task_of-i, y.before, y.limit)
+overflow_add-done c = let y = c.requires.1 in omega (arith, small (goal.at.overflow_add-done c).After-task_of-i, y.before, y.limit)
 
 pub returns-then-due-soon : goal.returns-then-due-soon
 returns-then-due-soon c t y =
@@ -132,13 +126,15 @@ pub overflow_sub-jobs : goal.overflow_sub-jobs
 overflow_sub-jobs c = omega (arith, busy (goal.at.overflow_sub-jobs c).Else-jobs-eq0)
 
 -- The owner's deadline, read from its entry.
-deadline-is : (c : After-task_of-i) (t : Table) → (y : Of (start c.before.before) t)
-    → at (start c.before.before).args.deadline.now c.task_of-i.result / span ≡ (task t c.task_of-i.result).deadline
+deadline-is : (c : After-task_of-i) (t : Table) → 
+    (y : Ready t c.args.deadline.now c.args.releases.now c.args.ready.now c.args.left.now c.args.worst.now c.args.last c.args.at c.args.end c.args.jobs c.args.idle)
+   
+    → at c.args.deadline.now c.task_of-i.result / span ≡ (task t c.task_of-i.result).deadline
 deadline-is c t y = ap (λ (x : ℕ). x / span) (y.deadlines _ (own c t y)) ∙ entry_time t y.ranged _ c.task_of-i.result (own c t y)
 
 pub finish-requires : goal.finish-requires
 finish-requires c =
-    let (t, y) = (start c.before.before.before.before.before.before.before.before.before).requires in
+    let (t, y) = c.requires in
     let d = deadline-is (goal.at.finish-requires c).After-task_of-i t y in
     let spare = spare_le t y.ranged y.light y.clear y.held y.tally (soon (goal.at.finish-requires c).After-time_of-soon t y) y.before
     (busy (goal.at.finish-requires c).Else-jobs-eq0) c.task_of-i.ensures c.time_of-due.ensures refl in (
