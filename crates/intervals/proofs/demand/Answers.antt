@@ -31,8 +31,11 @@ pub overflow_add-asked : goal.overflow_add-asked
 overflow_add-asked c = omega (arith, product (goal.at.overflow_add-asked c).After-jobs_in, fits (goal.at.overflow_add-asked c).After-jobs_in)
 
 pub loop-i-preserved : goal.loop-i-preserved
-loop-i-preserved c =
-    (omega arith, omega (arith, product (goal.at.loop-i-preserved c).After-jobs_in, fits (goal.at.loop-i-preserved c).After-jobs_in), sum_more (asks c.args.t c.args.from c.args.to) c.loop-i.i c.loop-i.invariant.2 (rw (product (goal.at.loop-i-preserved c).After-jobs_in)))
+loop-i-preserved c = let at = (goal.at.loop-i-preserved c).After-jobs_in in (
+  omega arith,
+  omega (arith, product at, fits at),
+  sum_more (asks c.args.t c.args.from c.args.to) c.loop-i.i c.loop-i.invariant.2 (rw (product at)),
+)
 
 pub returns : goal.returns
 unfolding demand
