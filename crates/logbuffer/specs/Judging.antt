@@ -32,9 +32,9 @@ use Rattle.wellformed.specs.Ranges.{Ranged}
 use Rattle.wellformed.specs.WellFormed.{well_formed}
 use Rattle.wellformed.specs.Refused.{Tellable, JudgementTellable, judged_tellable}
 use Rattle.tablefile.specs.Refused.{AdmissionTellable, form_tellable}
-use Rattle.logbook.specs.Fits.{log_admitted_iff, after_byte}
-use Rattle.logbook.specs.Cuts.{fits_sized, read_joined, start_admitted, judged_bytes}
-use Rattle.logbook.specs.Kept.{Kept, kept}
+use Rattle.slotlog.specs.Fits.{log_admitted_iff, after_byte}
+use Rattle.slotlog.specs.Cuts.{fits_sized, read_joined, start_admitted, judged_bytes}
+use Rattle.slotlog.specs.Kept.{Kept, kept}
 use Rattle.statebuffer.specs.RoundTrip.{Fits}
 use Rattle.statebuffer.specs.Loop.{fits, on_table}
 use Rattle.statebuffer.specs.Told.{admitted_tellable}

@@ -7,8 +7,8 @@ use Rattle.model.specs.StateBuffer.{state_bytes, buffer_of, quiet}
 use Rattle.model.specs.Log.{Log}
 use Rattle.model.specs.LogBuffer.{log_bytes, number_of, place_of, finding_of, log_buffer_of}
 use Rattle.counting.specs.Put.{Put, join}
-use Rattle.logbook.specs.declared.Reading.{Reading}
-use Rattle.logbook.specs.Fits.{Sized}
+use Rattle.slotlog.specs.declared.Reading.{Reading}
+use Rattle.slotlog.specs.Fits.{Sized}
 use Rattle.statebuffer.specs.Words.{whole, buffer_length}
 
 -- What is kept beside the dispatcher, in a buffer.

@@ -11,7 +11,7 @@ use Rattle.model.specs.StateBuffer.{state_bytes, buffer_of, state_in, quiet}
 use Rattle.model.specs.Log.{Log}
 use Rattle.model.specs.LogBuffer.{number_of, place_of, finding_of, log_buffer_of, log_in}
 use Rattle.words.specs.Bytes.{bytes_append}
-use Rattle.logbook.specs.Kept.{Told}
+use Rattle.slotlog.specs.Kept.{Told}
 use Rattle.statebuffer.specs.RoundTrip.{Fits, word_at, state_back, state_front, buffer_size}
 
 -- A word is read behind what stands before it.

@@ -7,10 +7,10 @@ ghost use Rattle.model.specs.TableFile.{bytes_of};
 ghost use Rattle.model.specs.StateBuffer.{quiet};
 ghost use Rattle.model.specs.LogBuffer.{log_bytes, number_of, place_of, finding_of, answer_number, log_buffer_of, log_in};
 ghost use Rattle.counting.specs.Put.{Put};
-ghost use Rattle.logbook.specs.State.{log_state_of};
+ghost use Rattle.slotlog.specs.State.{log_state_of};
 ghost use Rattle.logbuffer.specs.Parts.{reading_in, words_of};
 
-use logbook::{Log, Reading};
+use slotlog::{Log, Reading};
 use slots::NO_TASK;
 use values::{Finding, STATE_BYTES, Turn};
 

@@ -3,10 +3,10 @@
 
 ghost use Rattle.std.specs.Prelude.{◌≡◌, length};
 ghost use Rattle.model.specs.LogBuffer.{log_bytes, log_written, log_start_exported, log_feed_exported, log_finish_exported};
-ghost use Rattle.logbook.specs.State.{log_state_of};
+ghost use Rattle.slotlog.specs.State.{log_state_of};
 ghost use Rattle.report.specs.Put.{exported};
 
-use logbook::{Fed, Log};
+use slotlog::{Fed, Log};
 use values::{Admission, LOG_STATE_BYTES};
 
 // What a log's call says as a number; its buffer is written unless it refuses.

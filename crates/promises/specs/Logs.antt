@@ -28,12 +28,12 @@ use Rattle.model.specs.LogMeaning.{Final, Begins, Found}
 use Rattle.model.specs.LogBuffer.{log_bytes, answer_number, log_buffer_of, log_in, log_start_exported, log_feed_exported}
 use Rattle.model.specs.LogBuffer.{log_finish_exported, judged_in}
 use Rattle.tablefile.specs.Admitted.{periodic_for}
-use Rattle.logbook.specs.declared.Log.{Log}
-use Rattle.logbook.specs.declared.Fed.{Fed}
-use Rattle.logbook.specs.State.{log_state_of, fed_of, one_fed}
-use Rattle.logbook.specs.Fits.{Sized}
-use Rattle.logbook.specs.Cuts as cuts
-use Rattle.logbook.specs.Answers as answers
+use Rattle.slotlog.specs.declared.Log.{Log}
+use Rattle.slotlog.specs.declared.Fed.{Fed}
+use Rattle.slotlog.specs.State.{log_state_of, fed_of, one_fed}
+use Rattle.slotlog.specs.Fits.{Sized}
+use Rattle.slotlog.specs.Cuts as cuts
+use Rattle.slotlog.specs.Answers as answers
 use Rattle.logbuffer.specs.Judging as judging
 use Rattle.telling.specs.GoodLogs.{good_written}
 use Rattle.promises.specs.Demand3.{all_in_time}

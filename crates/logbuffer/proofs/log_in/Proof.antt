@@ -3,7 +3,7 @@ use mathlib.Core.Path.{ap, ◌∙◌}
 use Rattle.model.specs.Dispatcher.{State}
 use Rattle.model.specs.StateBuffer.{state_in}
 use Rattle.model.specs.LogBuffer.{log_in}
-use Rattle.logbook.specs.State.{joined}
+use Rattle.slotlog.specs.State.{joined}
 use borrow.Author.Rules.{rules}
 use Rattle.logbuffer.proofs.log_in.Statement.{statement}
 use Rattle.logbuffer.proofs.log_in.Tie as tie

@@ -1,6 +1,6 @@
 -- The parts stand one after another, and fill the buffer.
-use Rattle.logbook.specs.Fits.{Sized}
-use Rattle.logbook.specs.State.{log_state_of}
+use Rattle.slotlog.specs.Fits.{Sized}
+use Rattle.slotlog.specs.State.{log_state_of}
 use Rattle.logbuffer.specs.Parts.{log_whole}
 use borrow.Author.Rules.{rules}
 use Rattle.logbuffer.proofs.write_log.Statement.{statement}
