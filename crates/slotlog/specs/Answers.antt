@@ -110,6 +110,8 @@ says_final t l rest f e h = rw (stays t l rest (rw e h)) (go l.found (rw e h) �
     go : (x : Finding) → Final x → at_end l.bytes x ≡ x
     go (Finding.Differs k) h = refl
     go (Finding.Fault k p) h = refl
+    go Finding.Nothing h = elim h [ ]
+    go Finding.Good h = elim h [ ]
 
 stop : (t : Table) (l : Log) (b : ℕ) (rest : List ℕ) (f : Finding) → (read_byte t l b).found ≡ f → Final f → says t l (b ∷ rest) ≡ f
 unfolding read_all

@@ -79,6 +79,8 @@ byte_stays t l b = go l.found
     go : (x : Finding) → Final x → read_by t l b x ≡ l
     go (Finding.Differs slot) h = refl
     go (Finding.Fault n p) h = refl
+    go Finding.Nothing h = elim h [ ]
+    go Finding.Good h = elim h [ ]
 
 -- WHAT IS FOUND STAYS: behind a fault or a difference nothing moves any more.
 pub stays : (t : Table) (l : Log) (s : List ℕ) → Final l.found → read_all t l s ≡ l

@@ -305,3 +305,5 @@ module _ (t : Table) (few : t.count ≤ task_limit) where
       go : (x : Finding) → Final x → Found t s x → Found t s (at_end l.bytes x)
       go (Finding.Differs k) f y = y
       go (Finding.Fault k p) f y = y
+      go Finding.Nothing f y = elim f [ ]
+      go Finding.Good f y = elim f [ ]

@@ -1,0 +1,24 @@
+-- Refused as the table is, or a step on a well-formed table.
+use mathlib.Core.Path.{sym, ◌∙◌}
+use borrow.Author.Rules.{rules}
+use Rattle.model.specs.Tasks.{judged_mixed}
+use Rattle.model.specs.Presses.{admitted_mixed, stepped_pressed}
+use Rattle.wellformed.specs.WellFormed.{well_mixed, refused_is, admitted_is}
+use Rattle.presses.proofs.Presses.step.Goals as goal
+
+pub step_well_formed-requires : goal.step_well_formed-requires
+step_well_formed-requires c =
+    let (m, well) = admitted_is (judged_mixed _) (sym c.admit_mixed.ensures ∙ c.in-Admitted.is) in
+    (well_mixed _ m well).ranged
+
+pub returns-in-Refused : goal.returns-in-Refused
+unfolding stepped_pressed admitted_mixed
+returns-in-Refused c =
+    rw (refused_is (judged_mixed _) _ (sym c.admit_mixed.ensures ∙ c.in-Refused.is))
+    c.handed_back.ensures
+
+pub returns-in-Admitted : goal.returns-in-Admitted
+unfolding stepped_pressed admitted_mixed
+returns-in-Admitted c =
+    let (m, well) = admitted_is (judged_mixed _) (sym c.admit_mixed.ensures ∙ c.in-Admitted.is) in
+    rw well c.step_well_formed.ensures

@@ -1,0 +1,29 @@
+-- Refused as it is, or what was found at the end.
+use mathlib.Core.Path.{refl, sym, ap, ◌∙◌}
+use Rattle.values.specs.declared.Admission.{Admission}
+use Rattle.model.specs.Log.{Log, log_finished}
+use Rattle.slotlog.specs.Fits.{Sized}
+use Rattle.slotlog.specs.State.{log_state_of}
+use Rattle.slotlog.specs.Bytes.{readable}
+use borrow.Author.Rules.{rules}
+use Rattle.slotlog.proofs.Log.finish.Goals.{Start}
+use Rattle.slotlog.proofs.Log.finish.Goals as goal
+
+-- The arrays of the state have their length.
+sizes : (c : Start) → Sized c.args.self.state
+sizes c = record { waits = search rules; lefts = search rules; gives = search rules }
+
+pub close-requires : goal.close-requires
+close-requires c =
+    (readable c.args.t (log_state_of c.args.self) (sizes (goal.at.close-requires c).Start)
+    (sym c.admission.ensures ∙ c.in-Admitted.is)).fits.bytes_le
+
+pub returns-in-Refused : goal.returns-in-Refused
+unfolding log_finished
+returns-in-Refused c = rw (← c.admission.ensures, c.in-Refused.is) refl
+
+pub returns-in-Admitted : goal.returns-in-Admitted
+unfolding log_finished
+returns-in-Admitted c =
+    rw (← c.admission.ensures, c.in-Admitted.is)
+    (ap (λ (l : Log). record { admission = Admission.Admitted; log = l }) c.close.ensures)

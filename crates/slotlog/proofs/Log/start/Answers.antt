@@ -1,0 +1,34 @@
+-- As the dispatcher is started.
+use mathlib.Core.Path.{◌≡◌, refl, sym, ap, ◌∙◌}
+use Prim.Native.Nat.{ℕ}
+use native.Mathlib.Omega.{arith}
+use borrow.Author.Rules.{rules}
+use Rattle.values.specs.declared.Table.{Table}
+use Rattle.values.specs.declared.State.{State}
+use Rattle.values.specs.declared.Judgement.{Judgement}
+use Rattle.values.specs.declared.Admission.{Admission}
+use Rattle.model.specs.Tasks.{judged}
+use Rattle.model.specs.Dispatcher.{Started, start_of, start_judged, started}
+use Rattle.model.specs.Log.{log_started}
+use Rattle.slotlog.proofs.Log.start.Goals as goal
+
+-- A dispatcher that is started is in its first state.
+first-state : (t : Table) (d : State) → (started t d).admission ≡ Admission.Admitted → (started t d).state ≡ start_of t
+unfolding started
+first-state t d = go (judged t)
+  where
+    go : (j : Judgement) → (start_judged t d j).admission ≡ Admission.Admitted → (start_judged t d j).state ≡ start_of t
+    go (Judgement.Refused r) e = let z : ◌≡◌ {A = ℕ} 0 1 = cc in absurd (omega arith)
+    go (Judgement.WellFormed m) e = refl
+
+pub returns-in-Refused : goal.returns-in-Refused
+unfolding log_started
+returns-in-Refused c =
+    rw (← c.start-started.ensures, c.in-Refused.is)
+
+pub returns-in-Admitted : goal.returns-in-Admitted
+unfolding log_started
+returns-in-Admitted c =
+    let same = c.start-started.ensures in
+    let admitted = ap (λ (x : Started). x.admission) (sym same) ∙ c.in-Admitted.is in
+    rw (admitted, c.unread.ensures, ← first-state c.args.t _ admitted, ← same)

@@ -1,0 +1,24 @@
+-- The bytes below `i` are read.
+use mathlib.Core.Path.{◌≡◌, sym, ap, ◌∙◌}
+use mathlib.Core.Logic.{inl, inr}
+use Prim.Native.Nat.{◌-◌, ◌≤◌}
+use native.Mathlib.Omega.{arith}
+use lib.ListN.{get_or}
+use Rattle.values.specs.declared.Table.{Table}
+use Rattle.model.specs.Limits.{log_limit}
+use Rattle.model.specs.Dispatcher.{slot_count}
+use Rattle.model.specs.Log.{Log, read_byte}
+use Rattle.dispatch.specs.Step.{Unpacked, Advanced, state_with, owner_room, state_is}
+use Rattle.slotlog.specs.State.{joined}
+use Rattle.slotlog.specs.Bytes.{Readable, ReadTo, steps, slot_same, slot_other, slot_byte, other_byte, one_more}
+use borrow.Author.Rules.{rules}
+use Rattle.slotlog.proofs.read_bytes.Given as goal
+
+abbrev pub invariant-loop-i : goal.invariant-loop-i
+invariant-loop-i l =
+    let log = joined (state_with l.initial.wait l.initial.left l.initial.last l.initial.given l.initial.empty) l.initial.read in
+    let here = joined (state_with l.wait l.left l.last l.given l.empty) l.read in
+    (l.from ≤ l.i) × (l.i ≤ l.to) × ((t : Table) (start : Log) → Unpacked t l.period l.cost l.slack l.rank l.n → ReadTo t start l.piece l.from log → ReadTo t start l.piece l.i here)
+
+abbrev pub decreases-loop-i : goal.decreases-loop-i
+decreases-loop-i l = l.to - l.i
