@@ -12,22 +12,22 @@ belongs c = record { waits = search rules; lefts = search rules; gives = search 
 
 -- The places that were passed.
 abbrev held-from : After-rank-2-1 → After-put_all
-held-from c = c.before.before.before.before.before.before
+held-from c = (goal.at.After-rank-2-1 c).After-put_all
 
 abbrev closing-from : After-put_all → After-close_all
-closing-from c = c.before.before.before
+closing-from c = (goal.at.After-put_all c).After-close_all
 
 abbrev late-from : After-close_all → After-late_set-late
-late-from c = c.before.before.before
+late-from c = (goal.at.After-close_all c).After-late_set-late
 
 abbrev report-from : After-late_set-late → After-after_report-open
-report-from c = c.before.before.before.before
+report-from c = (goal.at.After-late_set-late c).After-after_report-open
 
 abbrev free-from : After-after_report-open → After-free_set-free
-free-from c = c.before.before.before
+free-from c = (goal.at.After-after_report-open c).After-free_set-free
 
 abbrev unpack-from : After-free_set-free → After-unpack-columns
-unpack-from c = c.before.before.before.before.before.before.before
+unpack-from c = (goal.at.After-free_set-free c).After-unpack-columns
 
 pub serve-seen-requires : goal.serve-seen-requires
 serve-seen-requires c = (unpack-from (free-from (report-from (late-from (closing-from (held-from (goal.at.serve-seen-requires c).After-rank-2-1)))))).before.requires.ranged.few
@@ -41,6 +41,6 @@ returns c =
     let free = free-from report in
     let unpacked = unpack-from free in
     let s = unpacked.before.args in
-    advanced_is s.t s.d s.done s.pressed unpacked.before.pre (belongs unpacked.before) (refl, unpacked.unpack.ensures)
-    free.free-set.ensures report.before.before.only-in.ensures report.before.only-in2.ensures report.after-report.ensures
-    late.late-set.ensures closing.close-all.ensures held.put_all.ensures c.serve-seen.ensures
+    advanced_is s.t s.d s.done s.pressed unpacked.before.requires (belongs unpacked.before) (refl, unpacked.unpack-columns.ensures)
+    free.free_set-free.ensures report.before.before.only_in-untaken.ensures report.before.only_in-idle.ensures report.after_report-open.ensures
+    late.late_set-late.ensures closing.close_all.ensures held.put_all.ensures c.serve-seen.ensures

@@ -7,22 +7,22 @@ use Rattle.presses.proofs.step_taken.Goals.{After-advance-moved, After-given-2-1
 use Rattle.presses.proofs.step_taken.Goals as goal
 
 abbrev moved-from : After-given-2-1 → After-advance-moved
-moved-from c = c.before.before.before
+moved-from c = (goal.at.After-given-2-1 c).After-advance-moved
 
 pub advance-moved-requires : goal.advance-moved-requires
 advance-moved-requires c = c.requires
 
 pub count_given-requires : goal.count_given-requires
 count_given-requires c = let a = moved-from (goal.at.count_given-requires c).After-given-2-1 in
-    owner_room _ _ _ _ a.before.before.pre _ a.advance.ensures
+    owner_room _ _ _ _ a.before.before.requires _ a.advance-moved.ensures
 
 pub count_empty-requires : goal.count_empty-requires
 unfolding slot_count
-count_empty-requires c = let a = moved-from (goal.at.count_empty-requires c).After-given-2-1 in omega (arith, a.before.before.pre.room)
+count_empty-requires c = let a = moved-from (goal.at.count_empty-requires c).After-given-2-1 in omega (arith, a.before.before.requires.room)
 
 pub returns : goal.returns
 returns c =
     let a = moved-from (goal.at.returns c).After-given-2-1 in
     let s = a.before.before.args in
-    taken_is s.t s.d s.done s.pressed a.before.before.pre a.advance.result a.advance.ensures
+    taken_is s.t s.d s.done s.pressed a.before.before.requires a.advance-moved.result a.advance-moved.ensures
     c.count_given.ensures c.turn_of.ensures c.count_empty.ensures

@@ -36,7 +36,7 @@ counts c =
     (fits, rw counted at c.miscounted.ensures)
 
 abbrev told : After-miscounted → In-Admitted
-told c = c.before.before.before.before
+told c = (goal.at.After-miscounted c).In-Admitted
 
 pub returns-then-miscounted : goal.returns-then-miscounted
 unfolding log_admitted admitted

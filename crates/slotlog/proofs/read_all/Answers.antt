@@ -15,15 +15,15 @@ unpack-columns-requires c = (ready (goal.at.unpack-columns-requires c).Start).ra
 
 -- The table is unpacked.
 abbrev unpack-from : After-rank-2-1 → After-unpack-columns
-unpack-from c = c.before.before.before.before.before.before.before.before.before
+unpack-from c = (goal.at.After-rank-2-1 c).After-unpack-columns
 
 unpacked : (c : After-rank-2-1) → let u = unpack-from c in
-    Unpacked u.before.before.args.t u.unpack.result.period u.unpack.result.cost u.unpack.result.slack u.unpack.result.rank
+    Unpacked u.before.before.args.t u.unpack-columns.result.period u.unpack-columns.result.cost u.unpack-columns.result.slack u.unpack-columns.result.rank
     u.before.before.args.t.count
-unpacked c = (refl, (unpack-from c).unpack.ensures)
+unpacked c = (refl, (unpack-from c).unpack-columns.ensures)
 
 pub read_blocks-requires : goal.read_blocks-requires
-read_blocks-requires c = let s = (unpack-from (goal.at.read_blocks-requires c).After-rank-2-1).before.before in (s.args.t, unpacked (goal.at.read_blocks-requires c).After-rank-2-1, ready s)
+read_blocks-requires c = let s = (unpack-from (goal.at.read_blocks-requires c).After-rank-2-1).before.before in (s.args.t, unpacked (goal.at.read_blocks-requires c).After-rank-2-1, ready s.before)
 
 pub returns : goal.returns
-returns c = let s = (unpack-from (goal.at.returns c).After-rank-2-1).before.before in c.read_blocks.ensures s.args.t (unpacked (goal.at.returns c).After-rank-2-1) (ready s)
+returns c = let s = (unpack-from (goal.at.returns c).After-rank-2-1).before.before in c.read_blocks.ensures s.args.t (unpacked (goal.at.returns c).After-rank-2-1) (ready s.before)

@@ -20,7 +20,7 @@ loop-i-init c = (omega arith, omega arith, λ t start u r. r)
 
 -- The start, from inside the loop; and the log here.
 abbrev start-from : At-loop-i → Start
-start-from c = c.before.before.before.before.before.before.before.before
+start-from c = (goal.at.At-loop-i c).Start
 
 abbrev here : At-loop-i → Log
 here c = joined (state_with c.loop-i.wait c.loop-i.left c.loop-i.last c.loop-i.given c.loop-i.empty) c.loop-i.read
@@ -30,10 +30,10 @@ now : (c : At-loop-i) → Readable (start-from c).requires.unpacked.0 (here c)
 now c = let (t, start, u, r) = (start-from c).requires.unpacked in (c.loop-i.invariant.2 t start u r).may
 
 -- What a slot's rules make of it, of any such table.
-moved : (c : After-advance-moved) (t : Table) → let s = (start-from c.before.before.before.before.before.before).args in
-    Unpacked t s.period.now s.cost.now s.slack.now s.rank.now s.n → Readable t (here c.before.before.before.before.before)
-    → Advanced t (here c.before.before.before.before.before).state c.loop-i.read.done c.advance-moved.result
-moved c t unpacked readable = c.advance-moved.ensures t c.loop-i.given c.loop-i.empty unpacked (steps t (here c.before.before.before.before.before) readable)
+moved : (c : After-advance-moved) (t : Table) → let s = (start-from (goal.at.After-advance-moved c).At-loop-i).args in
+    Unpacked t s.period.now s.cost.now s.slack.now s.rank.now s.n → Readable t (here (goal.at.After-advance-moved c).At-loop-i)
+    → Advanced t (here (goal.at.After-advance-moved c).At-loop-i).state c.loop-i.read.done c.advance-moved.result
+moved c t unpacked readable = c.advance-moved.ensures t c.loop-i.given c.loop-i.empty unpacked (steps t (here (goal.at.After-advance-moved c).At-loop-i) readable)
 
 pub advance-moved-requires : goal.advance-moved-requires
 advance-moved-requires c =
@@ -44,7 +44,7 @@ pub count_given-requires : goal.count_given-requires
 count_given-requires c =
     let s = start-from (goal.at.count_given-requires c).At-loop-i in
     owner_room s.requires.unpacked.0 (here (goal.at.count_given-requires c).At-loop-i).state c.loop-i.read.done (steps _ (here (goal.at.count_given-requires c).At-loop-i) (now (goal.at.count_given-requires c).At-loop-i)) c.advance-moved.result
-    (moved (goal.at.count_given-requires c).After-advance-moved s.pre.1.0 s.pre.1.2 (now (goal.at.count_given-requires c).At-loop-i))
+    (moved (goal.at.count_given-requires c).After-advance-moved s.requires.unpacked.0 s.requires.unpacked.2 (now (goal.at.count_given-requires c).At-loop-i))
 
 pub count_empty-empty-requires : goal.count_empty-empty-requires
 unfolding slot_count
@@ -65,25 +65,25 @@ pub read_other-read-requires : goal.read_other-read-requires
 read_other-read-requires c = (room (goal.at.read_other-read-requires c).At-loop-i).1
 
 -- One byte more is read, whichever way.
-turned : (c : Joined-ends_slot) (t : Table) → let s = (start-from c.before.before.before.before.before).args in
-    Unpacked t s.period.now s.cost.now s.slack.now s.rank.now s.n → Readable t (here c.before.before.before.before)
+turned : (c : Joined-ends_slot) (t : Table) → let s = (start-from (goal.at.Joined-ends_slot c).At-loop-i).args in
+    Unpacked t s.period.now s.cost.now s.slack.now s.rank.now s.n → Readable t (here (goal.at.Joined-ends_slot c).At-loop-i)
     → joined (state_with c.if-ends_slot.wait c.if-ends_slot.left c.if-ends_slot.new c.if-ends_slot.given c.if-ends_slot.empty) c.if-ends_slot.read
-    ≡ read_byte t (here c.before.before.before.before) (get_or s.piece.now c.loop-i.i 0)
+    ≡ read_byte t (here (goal.at.Joined-ends_slot c).At-loop-i) (get_or s.piece.now c.loop-i.i 0)
 turned c t unpacked readable =
-    let d = (here c.before.before.before.before).state in
+    let d = (here (goal.at.Joined-ends_slot c).At-loop-i).state in
     let read = c.loop-i.read in
-    let b = get_or (start-from c.before.before.before.before).args.piece.now c.loop-i.i 0 in
+    let b = get_or (start-from (goal.at.Joined-ends_slot c).At-loop-i).args.piece.now c.loop-i.i 0 in
     elim c.if-ends_slot.branch [
       | inl (if1, went, due, if2, wait2, left2, given2, gave, emptied, slot, w, l, o, g, e, r) ↦
           let m = moved (record { before = record { before = c.before; if1 = if1 }; advance = went }) t unpacked readable in
-          let next = state_is t d read.done (steps t (here c.before.before.before.before) readable) went.result m gave.ensures emptied.ensures in
+          let next = state_is t d read.done (steps t (here (goal.at.Joined-ends_slot c).At-loop-i) readable) went.result m gave.ensures emptied.ensures in
           rw (w, l, o, g, e, r)
-          (ap (joined _) slot.ensures ∙ slot_same t d read b (start-from c.before.before.before.before).args.n unpacked.0 m.owned due.ensures next if2.taken
+          (ap (joined _) slot.ensures ∙ slot_same t d read b (start-from (goal.at.Joined-ends_slot c).At-loop-i).args.n unpacked.0 m.owned due.ensures next if2.taken
           ∙ slot_byte t d read b (sym c.ends_slot.ensures ∙ if1.taken))
       | inr (inl (if1, went, due, if2, known, found, w, l, o, g, e, r)) ↦
           let m = moved (record { before = record { before = c.before; if1 = if1 }; advance = went }) t unpacked readable in
           rw (w, l, o, g, e, r)
-          (ap (joined d) found.ensures ∙ slot_other t d read b (start-from c.before.before.before.before).args.n unpacked.0 m.owned due.ensures if2.left
+          (ap (joined d) found.ensures ∙ slot_other t d read b (start-from (goal.at.Joined-ends_slot c).At-loop-i).args.n unpacked.0 m.owned due.ensures if2.left
           ∙ slot_byte t d read b (sym c.ends_slot.ensures ∙ if1.taken))
       | inr (inr (if1, other, w, l, o, g, e, r)) ↦
           rw (w, l, o, g, e, r) (ap (joined d) other.ensures ∙ other_byte t d read b (sym c.ends_slot.ensures ∙ if1.left))

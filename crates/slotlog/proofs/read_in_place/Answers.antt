@@ -23,17 +23,17 @@ loop-log-init c = (omega arith, omega arith, λ t start u r. r)
 
 -- The start, from inside the loop; and the log here.
 abbrev start-from : At-loop-log → Start
-start-from c = c.before.before.before.before.before.before.before.before
+start-from c = (goal.at.At-loop-log c).Start
 
 abbrev here : At-loop-log → Log
 here c = joined (state_with c.loop-log.wait c.loop-log.left c.loop-log.last c.loop-log.given c.loop-log.empty) c.loop-log.read
 
 -- A byte is left.
-below : (c : In-loop-log) → c.loop-log.at < (start-from c.before.before.before).args.to
+below : (c : In-loop-log) → c.loop-log.at < (start-from (goal.at.In-loop-log c).At-loop-log).args.to
 below c = c.goes_on.ensures c.loop-log-test.true
 
 pub bounds-piece-at : goal.bounds-piece-at
-bounds-piece-at c = omega (arith, below (goal.at.bounds-piece-at c).In-loop-log, (start-from (goal.at.bounds-piece-at c).At-loop-log).pre.0)
+bounds-piece-at c = omega (arith, below (goal.at.bounds-piece-at c).In-loop-log, (start-from (goal.at.bounds-piece-at c).At-loop-log).requires.from_le_to)
 
 -- Of the table that there is, it may be read on.
 now : (c : At-loop-log) → Readable (start-from c).requires.unpacked.0 (here c)
@@ -49,19 +49,19 @@ returns-then-not-is_met c =
 
 -- The loop's turn, from where the slot is the dispatcher's.
 abbrev turn-from : Else-not-is_met → At-loop-log
-turn-from c = c.before.before.before.before.before.before.before.before.before.before.before.before.before
+turn-from c = (goal.at.Else-not-is_met c).At-loop-log
 
 -- No job was late, and the record is the owner's.
 own : (c : Else-not-is_met) → let turn = turn-from c in let s = (start-from turn).args in let seen = c.serve-seen.result in
-    (seen.late ≡ false) × (is_due turn.loop.read.opened (get_or s.piece.now turn.loop.at 0) s.n seen.owner ≡ true)
+    (seen.late ≡ false) × (is_due turn.loop-log.read.opened (get_or s.piece.now turn.loop-log.at 0) s.n seen.owner ≡ true)
 own c = c.is_met.ensures (not-false _ c.if-not-is_met.false)
 
 -- What a slot's rules make of it, of any such table.
 moved : (c : Else-not-is_met) (t : Table) → let turn = turn-from c in let s = (start-from turn).args in
     Unpacked t s.period.now s.cost.now s.slack.now s.rank.now s.n → Readable t (here turn)
     → let went =
-    c.serve-seen in Advanced t (here turn).state turn.loop.read.done
-    (moved_to t (here turn).state turn.loop.read.done went.last.0 went.last.1.0 went.result.owner)
+    c.serve-seen in Advanced t (here turn).state turn.loop-log.read.done
+    (moved_to t (here turn).state turn.loop-log.read.done went.last.0 went.last.1.0 went.result.owner)
 moved c t unpacked readable =
     let turn = turn-from c in
     moved_if t (here turn).state turn.loop.read.done (steps t (here turn) readable) (whole readable) unpacked c.hear_report.ensures
@@ -71,7 +71,7 @@ pub count_given-requires : goal.count_given-requires
 count_given-requires c =
     let turn = turn-from (goal.at.count_given-requires c).Else-not-is_met in
     let s = start-from turn in
-    owner_room s.pre.1.0 (here turn).state turn.loop.read.done (steps _ (here turn) (now turn)) _
+    owner_room s.requires.unpacked.0 (here turn).state turn.loop-log.read.done (steps _ (here turn) (now turn)) _
     (moved (goal.at.count_given-requires c).Else-not-is_met s.pre.1.0 s.pre.1.2 (now turn))
 
 pub count_empty-empty-requires : goal.count_empty-empty-requires
@@ -95,14 +95,14 @@ pub loop-log-smaller : goal.loop-log-smaller
 loop-log-smaller c = omega (arith, below (goal.at.loop-log-smaller c).In-loop-log)
 
 -- One byte more is read, whichever way.
-turned : (c : Joined-ends_slot) (t : Table) → let s = (start-from c.before.before.before.before.before.before).args in
-    Unpacked t s.period.now s.cost.now s.slack.now s.rank.now s.n → Readable t (here c.before.before.before.before.before)
+turned : (c : Joined-ends_slot) (t : Table) → let s = (start-from (goal.at.Joined-ends_slot c).At-loop-log).args in
+    Unpacked t s.period.now s.cost.now s.slack.now s.rank.now s.n → Readable t (here (goal.at.Joined-ends_slot c).At-loop-log)
     → joined (state_with c.if-ends_slot.wait c.if-ends_slot.left c.if-ends_slot.new c.if-ends_slot.given c.if-ends_slot.empty) c.if-ends_slot.read
-    ≡ read_byte t (here c.before.before.before.before.before) (get_or s.piece.now c.loop-log.at 0)
+    ≡ read_byte t (here (goal.at.Joined-ends_slot c).At-loop-log) (get_or s.piece.now c.loop-log.at 0)
 turned c t unpacked readable =
-    let d = (here c.before.before.before.before.before).state in
+    let d = (here (goal.at.Joined-ends_slot c).At-loop-log).state in
     let read = c.loop-log.read in
-    let b = get_or (start-from c.before.before.before.before.before).args.piece.now c.loop-log.at 0 in
+    let b = get_or (start-from (goal.at.Joined-ends_slot c).At-loop-log).args.piece.now c.loop-log.at 0 in
     elim c.if-ends_slot.branch [
       | inl (if2, left2, heard, wait2, left3, went, due, if3, given2, gave, emptied, slot, w, l, o, g, e, r) ↦
           let c3 : Else-not-is_met = record {
@@ -125,9 +125,9 @@ turned c t unpacked readable =
             if3 = if3;
           } in
           let m = moved c3 t unpacked readable in
-          let next = state_is t d read.done (steps t (here c.before.before.before.before.before) readable) _ m gave.ensures emptied.ensures in
+          let next = state_is t d read.done (steps t (here (goal.at.Joined-ends_slot c).At-loop-log) readable) _ m gave.ensures emptied.ensures in
           rw (w, l, o, g, e, r)
-          (ap (joined _) slot.ensures ∙ slot_same t d read b (start-from c.before.before.before.before.before).args.n unpacked.0 m.owned refl next (own c3).1
+          (ap (joined _) slot.ensures ∙ slot_same t d read b (start-from (goal.at.Joined-ends_slot c).At-loop-log).args.n unpacked.0 m.owned refl next (own c3).1
           ∙ slot_byte t d read b (sym c.ends_slot.ensures ∙ if2.taken))
       | inr (if2, other, w, l, o, g, e, r) ↦
           rw (w, l, o, g, e, r) (ap (joined d) other.ensures ∙ other_byte t d read b (sym c.ends_slot.ensures ∙ if2.left))
@@ -136,7 +136,7 @@ turned c t unpacked readable =
 pub loop-log-preserved : goal.loop-log-preserved
 loop-log-preserved c =
     let left = below (goal.at.loop-log-preserved c).In-loop-log in
-    let within = (start-from (goal.at.loop-log-preserved c).At-loop-log).requires.0.1 in (
+    let within = (start-from (goal.at.loop-log-preserved c).At-loop-log).requires.from_le_to.1 in (
       omega arith,
       omega arith,
       λ t start u r. let here = c.loop-log.invariant.2 t start u r in one_more (omega (arith, left, within)) here (turned (goal.at.loop-log-preserved c).Joined-ends_slot t u here.may),
