@@ -1,0 +1,11 @@
+-- A refusal, or the answer to a table that is judged well-formed.
+use mathlib.Core.Path.{sym, ◌∙◌}
+use borrow.Author.Rules.{rules}
+use Rattle.exact.specs.Answers.{permitted_refused}
+use Rattle.exact.proofs.test.Goals as goal
+
+pub tested-requires : goal.tested-requires
+tested-requires c = sym c.judge.ensures ∙ c.in-WellFormed.is
+
+pub returns-in-Refused : goal.returns-in-Refused
+returns-in-Refused c = rw c.refuse.ensures (permitted_refused _ _ (sym c.judge.ensures ∙ c.in-Refused.is) _)
