@@ -1,0 +1,23 @@
+-- The patterns of the periodic tasks that the loop has passed are calm.
+use mathlib.Core.Path.{◌≡◌, refl, sym, subst, ◌∙◌}
+use mathlib.Core.Bool.{Bool, ◌||◌}
+use Prim.Native.Nat.{ℕ, ◌-◌, ◌≤◌, ◌<◌}
+use native.Mathlib.Omega.{arith}
+use borrow.Author.Count.{below_more}
+use borrow.Author.Tests.{not-true, not-false}
+use borrow.Author.Rules.{rules}
+use lib.Dec.{T}
+use Rattle.values.specs.declared.Table.{Table}
+use Rattle.model.specs.Tasks.{task, is_button}
+use Rattle.model.specs.Patterns.{calm, pattern}
+use Rattle.counting.specs.Count.{all_pass, one_fails}
+use Rattle.distance.proofs.each_calm.Given as goal
+
+abbrev pub stands : Table → ℕ → Bool
+stands t k = is_button (task t k) || calm (pattern t k)
+
+abbrev pub invariant-loop-i : goal.invariant-loop-i
+invariant-loop-i l = (l.n ≡ l.t.count) × (l.i ≤ l.n) × ((k : ℕ) → k < l.i → T (stands l.t k))
+
+abbrev pub decreases-loop-i : goal.decreases-loop-i
+decreases-loop-i l = l.n - l.i

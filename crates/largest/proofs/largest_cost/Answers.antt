@@ -1,0 +1,25 @@
+-- By what the table is judged to be, and whether the number is one of its tasks.
+use mathlib.Core.Path.{sym, ◌∙◌}
+use native.Mathlib.Omega.{arith}
+use borrow.Author.Rules.{rules}
+use borrow.Author.Tests.{lt-ltb, le-ltb}
+use Rattle.model.specs.Largest.{cost_answer}
+use Rattle.largest.proofs.largest_cost.Goals as goal
+
+pub told-requires : goal.told-requires
+told-requires c =
+    record { t_value = sym c.judge.ensures ∙ c.in-WellFormed.is; i_lt_count = omega arith }
+
+pub returns-in-Refused : goal.returns-in-Refused
+unfolding cost_answer
+returns-in-Refused c = rw (← c.judge.ensures, c.in-Refused.is)
+
+pub returns-then-i-t : goal.returns-then-i-t
+unfolding cost_answer
+returns-then-i-t c =
+    rw (← c.judge.ensures, c.in-WellFormed.is, lt-ltb c.args.task c.args.t.count (omega arith)) c.told.ensures
+
+pub returns-else-i-t : goal.returns-else-i-t
+unfolding cost_answer
+returns-else-i-t c =
+    rw (← c.judge.ensures, c.in-WellFormed.is, le-ltb c.args.task c.args.t.count (omega arith)) c.refused_task.ensures
