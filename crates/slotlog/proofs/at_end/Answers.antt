@@ -1,6 +1,5 @@
 -- By what was found.
 use mathlib.Core.Path.{refl}
-use borrow.Author.Rules.{rules}
 use Rattle.slotlog.proofs.at_end.Goals as goal
 
 pub returns-in-Nothing : goal.returns-in-Nothing

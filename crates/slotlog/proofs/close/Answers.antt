@@ -2,7 +2,6 @@
 use mathlib.Core.Path.{ap, ◌∙◌}
 use Rattle.slotlog.specs.State.{joined}
 use Rattle.slotlog.specs.Bytes.{stopped_at}
-use borrow.Author.Rules.{rules}
 use Rattle.slotlog.proofs.close.Goals as goal
 
 pub returns : goal.returns

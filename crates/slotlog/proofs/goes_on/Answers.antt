@@ -1,7 +1,6 @@
 -- Nothing is found, or it does not go on.
 use mathlib.Core.Path.{sym, subst}
 use lib.Dec.{T}
-use borrow.Author.Rules.{rules}
 use Rattle.slotlog.proofs.goes_on.Goals as goal
 
 pub returns-in-Good : goal.returns-in-Good

@@ -1,5 +1,4 @@
 -- A task's record, or an empty slot's.
-use borrow.Author.Rules.{rules}
 use Rattle.slotlog.proofs.is_due.Goals as goal
 
 pub returns-then-opened : goal.returns-then-opened

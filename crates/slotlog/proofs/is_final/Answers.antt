@@ -1,7 +1,6 @@
 -- By what was found.
 use mathlib.Core.Path.{sym, subst}
 use lib.Dec.{T}
-use borrow.Author.Rules.{rules}
 use Rattle.slotlog.proofs.is_final.Goals as goal
 
 pub returns-in-Nothing : goal.returns-in-Nothing

@@ -1,7 +1,6 @@
 -- A late job, or none.
 use mathlib.Core.Path.{sym, subst, ◌∙◌}
 use lib.Dec.{T}
-use borrow.Author.Rules.{rules}
 use Rattle.slotlog.proofs.is_met.Goals as goal
 
 pub returns-then-seen : goal.returns-then-seen

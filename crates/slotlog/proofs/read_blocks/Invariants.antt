@@ -1,13 +1,10 @@
 -- The bytes below `at` are read.
-use mathlib.Core.Path.{◌≡◌}
 use Prim.Native.Nat.{◌-◌, ◌≤◌}
-use native.Mathlib.Omega.{arith}
 use lib.ListN.{length}
 use Rattle.values.specs.declared.Table.{Table}
 use Rattle.dispatch.specs.Step.{Unpacked}
 use Rattle.slotlog.specs.State.{log_state_of}
-use Rattle.slotlog.specs.Bytes.{Readable, ReadTo, read_none, all_read, rest_stays}
-use borrow.Author.Rules.{rules}
+use Rattle.slotlog.specs.Bytes.{Readable, ReadTo}
 use Rattle.slotlog.proofs.read_blocks.Given as goal
 
 abbrev pub invariant-loop-at : goal.invariant-loop-at

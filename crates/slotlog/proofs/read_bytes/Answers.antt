@@ -1,7 +1,6 @@
 -- The bytes below `i` are read.
 use mathlib.Core.Path.{◌≡◌, sym, ap, ◌∙◌}
-use mathlib.Core.Logic.{inl, inr}
-use Prim.Native.Nat.{◌-◌, ◌≤◌}
+use Prim.Native.Nat.{◌≤◌}
 use native.Mathlib.Omega.{arith}
 use lib.ListN.{get_or}
 use Rattle.values.specs.declared.Table.{Table}
@@ -10,9 +9,9 @@ use Rattle.model.specs.Dispatcher.{slot_count}
 use Rattle.model.specs.Log.{Log, read_byte}
 use Rattle.dispatch.specs.Step.{Unpacked, Advanced, state_with, owner_room, state_is}
 use Rattle.slotlog.specs.State.{joined}
-use Rattle.slotlog.specs.Bytes.{Readable, ReadTo, steps, slot_same, slot_other, slot_byte, other_byte, one_more}
-use borrow.Author.Rules.{rules}
+use Rattle.slotlog.specs.Bytes.{Readable, steps, slot_same, slot_other, slot_byte, other_byte, one_more}
 use Rattle.slotlog.proofs.read_bytes.Goals.{After-advance-moved, At-loop-i, Joined-ends_slot, Start}
+use Rattle.slotlog.proofs.read_bytes.Goals.{then-ends_slot+then-is_due, then-ends_slot+else-is_due, else-ends_slot}
 use Rattle.slotlog.proofs.read_bytes.Goals as goal
 
 pub loop-i-init : goal.loop-i-init
@@ -53,7 +52,7 @@ count_empty-empty-requires c =
 
 -- The counts have room for one more.
 room : (c : At-loop-i) → (c.loop-i.read.slots ≤ log_limit) × (c.loop-i.read.bytes ≤ log_limit)
-room c = let f = (now c).ranges in (omega (arith, f.slots_le, f.bytes_le), f.bytes_le)
+room c = let f = (now c).fits in (omega (arith, f.slots_le, f.bytes_le), f.bytes_le)
 
 pub one_slot-read-requires : goal.one_slot-read-requires
 one_slot-read-requires c = room (goal.at.one_slot-read-requires c).At-loop-i
@@ -67,26 +66,28 @@ read_other-read-requires c = (room (goal.at.read_other-read-requires c).At-loop-
 -- One byte more is read, whichever way.
 turned : (c : Joined-ends_slot) (t : Table) → let s = (start-from (goal.at.Joined-ends_slot c).At-loop-i).args in
     Unpacked t s.period.now s.cost.now s.slack.now s.rank.now s.n → Readable t (here (goal.at.Joined-ends_slot c).At-loop-i)
-    → joined (state_with c.if-ends_slot.wait c.if-ends_slot.left c.if-ends_slot.new c.if-ends_slot.given c.if-ends_slot.empty) c.if-ends_slot.read
+    → joined (state_with c.if-ends_slot.wait c.if-ends_slot.left c.if-ends_slot.last c.if-ends_slot.given c.if-ends_slot.empty) c.if-ends_slot.read
     ≡ read_byte t (here (goal.at.Joined-ends_slot c).At-loop-i) (get_or s.piece.now c.loop-i.i 0)
 turned c t unpacked readable =
-    let d = (here (goal.at.Joined-ends_slot c).At-loop-i).state in
+    let turn = (goal.at.Joined-ends_slot c).At-loop-i in
+    let d = (here turn).state in
     let read = c.loop-i.read in
-    let b = get_or (start-from (goal.at.Joined-ends_slot c).At-loop-i).args.piece.now c.loop-i.i 0 in
+    let b = get_or (start-from turn).args.piece.now c.loop-i.i 0 in
     elim c.if-ends_slot.branch [
-      | inl (if1, went, due, if2, wait2, left2, given2, gave, emptied, slot, w, l, o, g, e, r) ↦
-          let m = moved (record { before = record { before = c.before; if1 = if1 }; advance = went }) t unpacked readable in
-          let next = state_is t d read.done (steps t (here (goal.at.Joined-ends_slot c).At-loop-i) readable) went.result m gave.ensures emptied.ensures in
-          rw (w, l, o, g, e, r)
-          (ap (joined _) slot.ensures ∙ slot_same t d read b (start-from (goal.at.Joined-ends_slot c).At-loop-i).args.n unpacked.0 m.owned due.ensures next if2.taken
-          ∙ slot_byte t d read b (sym c.ends_slot.ensures ∙ if1.taken))
-      | inr (inl (if1, went, due, if2, known, found, w, l, o, g, e, r)) ↦
-          let m = moved (record { before = record { before = c.before; if1 = if1 }; advance = went }) t unpacked readable in
-          rw (w, l, o, g, e, r)
-          (ap (joined d) found.ensures ∙ slot_other t d read b (start-from (goal.at.Joined-ends_slot c).At-loop-i).args.n unpacked.0 m.owned due.ensures if2.left
-          ∙ slot_byte t d read b (sym c.ends_slot.ensures ∙ if1.taken))
-      | inr (inr (if1, other, w, l, o, g, e, r)) ↦
-          rw (w, l, o, g, e, r) (ap (joined d) other.ensures ∙ other_byte t d read b (sym c.ends_slot.ensures ∙ if1.left))
+      | then-ends_slot+then-is_due w ↦
+          let m = w.advance-moved.ensures t c.loop-i.given c.loop-i.empty unpacked (steps t (here turn) readable) in
+          let next = state_is t d read.done (steps t (here turn) readable) w.advance-moved.result m w.count_given.ensures w.count_empty-empty.ensures in
+          rw (w.wait-is, w.left-is, w.last-is, w.given-is, w.empty-is, w.read-is)
+          (ap (joined _) w.one_slot-read.ensures ∙ slot_same t d read b (start-from turn).args.n unpacked.0 m.owned w.is_due.ensures next w.if-is_due.true
+          ∙ slot_byte t d read b (sym c.ends_slot.ensures ∙ w.if-ends_slot.true))
+      | then-ends_slot+else-is_due w ↦
+          let m = w.advance-moved.ensures t c.loop-i.given c.loop-i.empty unpacked (steps t (here turn) readable) in
+          rw (w.wait-is, w.left-is, w.last-is, w.given-is, w.empty-is, w.read-is)
+          (ap (joined d) w.found_in-read.ensures ∙ slot_other t d read b (start-from turn).args.n unpacked.0 m.owned w.is_due.ensures w.if-is_due.false
+          ∙ slot_byte t d read b (sym c.ends_slot.ensures ∙ w.if-ends_slot.true))
+      | else-ends_slot w ↦
+          rw (w.wait-is, w.left-is, w.last-is, w.given-is, w.empty-is, w.read-is)
+          (ap (joined d) w.read_other-read.ensures ∙ other_byte t d read b (sym c.ends_slot.ensures ∙ w.if-ends_slot.false))
     ]
 
 pub loop-i-preserved : goal.loop-i-preserved

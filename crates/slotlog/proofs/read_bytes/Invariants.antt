@@ -1,17 +1,10 @@
 -- The bytes below `i` are read.
-use mathlib.Core.Path.{◌≡◌, sym, ap, ◌∙◌}
-use mathlib.Core.Logic.{inl, inr}
 use Prim.Native.Nat.{◌-◌, ◌≤◌}
-use native.Mathlib.Omega.{arith}
-use lib.ListN.{get_or}
 use Rattle.values.specs.declared.Table.{Table}
-use Rattle.model.specs.Limits.{log_limit}
-use Rattle.model.specs.Dispatcher.{slot_count}
-use Rattle.model.specs.Log.{Log, read_byte}
-use Rattle.dispatch.specs.Step.{Unpacked, Advanced, state_with, owner_room, state_is}
+use Rattle.model.specs.Log.{Log}
+use Rattle.dispatch.specs.Step.{Unpacked, state_with}
 use Rattle.slotlog.specs.State.{joined}
-use Rattle.slotlog.specs.Bytes.{Readable, ReadTo, steps, slot_same, slot_other, slot_byte, other_byte, one_more}
-use borrow.Author.Rules.{rules}
+use Rattle.slotlog.specs.Bytes.{ReadTo}
 use Rattle.slotlog.proofs.read_bytes.Given as goal
 
 abbrev pub invariant-loop-i : goal.invariant-loop-i

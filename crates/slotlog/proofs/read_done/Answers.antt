@@ -2,7 +2,6 @@
 use mathlib.Core.Path.{◌≡◌, ◌∙◌}
 use borrow.Author.Tests.{eq-eqb}
 use Rattle.slotlog.specs.Bytes.{heard_twice, heard_once}
-use borrow.Author.Rules.{rules}
 use Rattle.slotlog.proofs.read_done.Goals as goal
 
 pub returns-then-reading-eq0 : goal.returns-then-reading-eq0

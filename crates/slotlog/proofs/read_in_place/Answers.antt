@@ -1,21 +1,19 @@
 -- The bytes below `at` are read.
 use mathlib.Core.Path.{◌≡◌, refl, sym, ap, ◌∙◌}
-use mathlib.Core.Logic.{inl, inr}
 use mathlib.Core.Bool.{true, false}
-use Prim.Native.Nat.{◌-◌, ◌≤◌, ◌<◌}
+use Prim.Native.Nat.{◌≤◌, ◌<◌}
 use native.Mathlib.Omega.{arith}
-use borrow.Author.Tests.{not-false}
 use lib.ListN.{get_or}
 use Rattle.values.specs.declared.Table.{Table}
 use Rattle.model.specs.Limits.{log_limit}
 use Rattle.model.specs.Dispatcher.{slot_count}
 use Rattle.model.specs.Log.{Log, read_byte}
 use Rattle.dispatch.specs.Step.{Unpacked, Advanced, state_with, owner_room, state_is}
-use Rattle.slotlog.specs.State.{joined, log_state_of}
-use Rattle.slotlog.specs.Bytes.{Readable, ReadTo, is_due, steps, slot_same, slot_byte, other_byte, one_more}
+use Rattle.slotlog.specs.State.{joined}
+use Rattle.slotlog.specs.Bytes.{Readable, is_due, steps, slot_same, slot_byte, other_byte, one_more}
 use Rattle.slotlog.specs.InPlace.{moved_to, moved_if, whole}
-use borrow.Author.Rules.{rules}
 use Rattle.slotlog.proofs.read_in_place.Goals.{At-loop-log, Else-not-is_met, In-loop-log, Joined-ends_slot, Start}
+use Rattle.slotlog.proofs.read_in_place.Goals.{then-ends_slot+else-not-is_met, else-ends_slot}
 use Rattle.slotlog.proofs.read_in_place.Goals as goal
 
 pub loop-log-init : goal.loop-log-init
@@ -54,17 +52,17 @@ turn-from c = (goal.at.Else-not-is_met c).At-loop-log
 -- No job was late, and the record is the owner's.
 own : (c : Else-not-is_met) → let turn = turn-from c in let s = (start-from turn).args in let seen = c.serve-seen.result in
     (seen.late ≡ false) × (is_due turn.loop-log.read.opened (get_or s.piece.now turn.loop-log.at 0) s.n seen.owner ≡ true)
-own c = c.is_met.ensures (not-false _ c.if-not-is_met.false)
+own c = c.is_met.ensures c.if-not-is_met.false
 
 -- What a slot's rules make of it, of any such table.
 moved : (c : Else-not-is_met) (t : Table) → let turn = turn-from c in let s = (start-from turn).args in
     Unpacked t s.period.now s.cost.now s.slack.now s.rank.now s.n → Readable t (here turn)
     → let went =
     c.serve-seen in Advanced t (here turn).state turn.loop-log.read.done
-    (moved_to t (here turn).state turn.loop-log.read.done went.last.0 went.last.1.0 went.result.owner)
+    (moved_to t (here turn).state turn.loop-log.read.done went.new.wait went.new.left went.result.owner)
 moved c t unpacked readable =
     let turn = turn-from c in
-    moved_if t (here turn).state turn.loop.read.done (steps t (here turn) readable) (whole readable) unpacked c.hear_report.ensures
+    moved_if t (here turn).state turn.loop-log.read.done (steps t (here turn) readable) (whole readable) unpacked c.hear_report.ensures
     c.serve-seen.ensures (own c).0
 
 pub count_given-requires : goal.count_given-requires
@@ -72,7 +70,7 @@ count_given-requires c =
     let turn = turn-from (goal.at.count_given-requires c).Else-not-is_met in
     let s = start-from turn in
     owner_room s.requires.unpacked.0 (here turn).state turn.loop-log.read.done (steps _ (here turn) (now turn)) _
-    (moved (goal.at.count_given-requires c).Else-not-is_met s.pre.1.0 s.pre.1.2 (now turn))
+    (moved (goal.at.count_given-requires c).Else-not-is_met s.requires.unpacked.0 s.requires.unpacked.2 (now turn))
 
 pub count_empty-empty-requires : goal.count_empty-empty-requires
 unfolding slot_count
@@ -80,7 +78,7 @@ count_empty-empty-requires c = let turn = turn-from (goal.at.count_empty-empty-r
 
 -- The counts have room for one more.
 room : (c : At-loop-log) → (c.loop-log.read.slots ≤ log_limit) × (c.loop-log.read.bytes ≤ log_limit)
-room c = let f = (now c).ranges in (omega (arith, f.slots_le, f.bytes_le), f.bytes_le)
+room c = let f = (now c).fits in (omega (arith, f.slots_le, f.bytes_le), f.bytes_le)
 
 pub one_slot-read-requires : goal.one_slot-read-requires
 one_slot-read-requires c = room (turn-from (goal.at.one_slot-read-requires c).Else-not-is_met)
@@ -97,40 +95,24 @@ loop-log-smaller c = omega (arith, below (goal.at.loop-log-smaller c).In-loop-lo
 -- One byte more is read, whichever way.
 turned : (c : Joined-ends_slot) (t : Table) → let s = (start-from (goal.at.Joined-ends_slot c).At-loop-log).args in
     Unpacked t s.period.now s.cost.now s.slack.now s.rank.now s.n → Readable t (here (goal.at.Joined-ends_slot c).At-loop-log)
-    → joined (state_with c.if-ends_slot.wait c.if-ends_slot.left c.if-ends_slot.new c.if-ends_slot.given c.if-ends_slot.empty) c.if-ends_slot.read
+    → joined (state_with c.if-ends_slot.wait c.if-ends_slot.left c.if-ends_slot.last c.if-ends_slot.given c.if-ends_slot.empty) c.if-ends_slot.read
     ≡ read_byte t (here (goal.at.Joined-ends_slot c).At-loop-log) (get_or s.piece.now c.loop-log.at 0)
 turned c t unpacked readable =
-    let d = (here (goal.at.Joined-ends_slot c).At-loop-log).state in
+    let turn = (goal.at.Joined-ends_slot c).At-loop-log in
+    let d = (here turn).state in
     let read = c.loop-log.read in
-    let b = get_or (start-from (goal.at.Joined-ends_slot c).At-loop-log).args.piece.now c.loop-log.at 0 in
+    let b = get_or (start-from turn).args.piece.now c.loop-log.at 0 in
     elim c.if-ends_slot.branch [
-      | inl (if2, left2, heard, wait2, left3, went, due, if3, given2, gave, emptied, slot, w, l, o, g, e, r) ↦
-          let c3 : Else-not-is_met = record {
-            before = record {
-              before = record {
-                before = record {
-                  before = record {
-                    before = record {
-                      before = record { before = record { before = c.before; if2 = if2 }; left2 = left2 };
-                      hear-report = heard;
-                    };
-                    wait2 = wait2;
-                  };
-                  left3 = left3;
-                };
-                serve = went;
-              };
-              is-met = due;
-            };
-            if3 = if3;
-          } in
-          let m = moved c3 t unpacked readable in
-          let next = state_is t d read.done (steps t (here (goal.at.Joined-ends_slot c).At-loop-log) readable) _ m gave.ensures emptied.ensures in
-          rw (w, l, o, g, e, r)
-          (ap (joined _) slot.ensures ∙ slot_same t d read b (start-from (goal.at.Joined-ends_slot c).At-loop-log).args.n unpacked.0 m.owned refl next (own c3).1
-          ∙ slot_byte t d read b (sym c.ends_slot.ensures ∙ if2.taken))
-      | inr (if2, other, w, l, o, g, e, r) ↦
-          rw (w, l, o, g, e, r) (ap (joined d) other.ensures ∙ other_byte t d read b (sym c.ends_slot.ensures ∙ if2.left))
+      | then-ends_slot+else-not-is_met w ↦
+          let met = w.is_met.ensures w.if-not-is_met.false in
+          let m = moved_if t d read.done (steps t (here turn) readable) (whole readable) unpacked w.hear_report.ensures w.serve-seen.ensures met.0 in
+          let next = state_is t d read.done (steps t (here turn) readable) _ m w.count_given.ensures w.count_empty-empty.ensures in
+          rw (w.wait-is, w.left-is, w.last-is, w.given-is, w.empty-is, w.read-is)
+          (ap (joined _) w.one_slot-read.ensures ∙ slot_same t d read b (start-from turn).args.n unpacked.0 m.owned refl next met.1
+          ∙ slot_byte t d read b (sym c.ends_slot.ensures ∙ w.if-ends_slot.true))
+      | else-ends_slot w ↦
+          rw (w.wait-is, w.left-is, w.last-is, w.given-is, w.empty-is, w.read-is)
+          (ap (joined d) w.read_other-read.ensures ∙ other_byte t d read b (sym c.ends_slot.ensures ∙ w.if-ends_slot.false))
     ]
 
 pub loop-log-preserved : goal.loop-log-preserved

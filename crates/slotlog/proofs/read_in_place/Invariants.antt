@@ -1,20 +1,10 @@
 -- The bytes below `at` are read.
-use mathlib.Core.Path.{◌≡◌, refl, sym, ap, ◌∙◌}
-use mathlib.Core.Logic.{inl, inr}
-use mathlib.Core.Bool.{true, false}
-use Prim.Native.Nat.{◌-◌, ◌≤◌, ◌<◌}
-use native.Mathlib.Omega.{arith}
-use borrow.Author.Tests.{not-false}
-use lib.ListN.{get_or}
+use Prim.Native.Nat.{◌-◌, ◌≤◌}
 use Rattle.values.specs.declared.Table.{Table}
-use Rattle.model.specs.Limits.{log_limit}
-use Rattle.model.specs.Dispatcher.{slot_count}
-use Rattle.model.specs.Log.{Log, read_byte}
-use Rattle.dispatch.specs.Step.{Unpacked, Advanced, state_with, owner_room, state_is}
+use Rattle.model.specs.Log.{Log}
+use Rattle.dispatch.specs.Step.{Unpacked, state_with}
 use Rattle.slotlog.specs.State.{joined, log_state_of}
-use Rattle.slotlog.specs.Bytes.{Readable, ReadTo, is_due, steps, slot_same, slot_byte, other_byte, one_more}
-use Rattle.slotlog.specs.InPlace.{moved_to, moved_if, whole}
-use borrow.Author.Rules.{rules}
+use Rattle.slotlog.specs.Bytes.{ReadTo}
 use Rattle.slotlog.proofs.read_in_place.Given as goal
 
 abbrev pub invariant-loop-log : goal.invariant-loop-log

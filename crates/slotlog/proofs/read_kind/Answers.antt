@@ -1,6 +1,5 @@
 -- By the kind.
 use borrow.Author.Tests.{eq-eqb, ne_eqb}
-use borrow.Author.Rules.{rules}
 use Rattle.slotlog.proofs.read_kind.Goals as goal
 
 pub returns-then-reading-eq-LOG_LIMIT : goal.returns-then-reading-eq-LOG_LIMIT

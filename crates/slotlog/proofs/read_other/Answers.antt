@@ -3,7 +3,6 @@ use mathlib.Core.Path.{sym, ap, ◌∙◌}
 use Prim.Native.Nat.{ℕ}
 use Rattle.values.specs.declared.Finding.{Finding}
 use Rattle.slotlog.specs.Bytes.{stopped_at, other_read}
-use borrow.Author.Rules.{rules}
 use Rattle.slotlog.proofs.read_other.Goals as goal
 
 pub returns-in-Nothing : goal.returns-in-Nothing

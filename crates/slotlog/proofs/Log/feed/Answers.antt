@@ -2,7 +2,6 @@
 use mathlib.Core.Path.{refl, sym, ap, ◌∙◌}
 use Rattle.values.specs.declared.Admission.{Admission}
 use Rattle.model.specs.Log.{Log, fed}
-use borrow.Author.Rules.{rules}
 use Rattle.slotlog.proofs.Log.feed.Goals as goal
 
 pub read_all-requires : goal.read_all-requires

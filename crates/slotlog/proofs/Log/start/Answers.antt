@@ -2,7 +2,6 @@
 use mathlib.Core.Path.{◌≡◌, refl, sym, ap, ◌∙◌}
 use Prim.Native.Nat.{ℕ}
 use native.Mathlib.Omega.{arith}
-use borrow.Author.Rules.{rules}
 use Rattle.values.specs.declared.Table.{Table}
 use Rattle.values.specs.declared.State.{State}
 use Rattle.values.specs.declared.Judgement.{Judgement}
