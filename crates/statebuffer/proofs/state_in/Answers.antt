@@ -1,0 +1,8 @@
+-- Each part is read by itself.
+use Rattle.model.specs.StateBuffer.{state_in}
+use Rattle.statebuffer.proofs.state_in.Goals as goal
+
+pub returns : goal.returns
+unfolding state_in
+returns c =
+    rw (c.words_in-wait.ensures, c.words_in-left.ensures, c.word_at.ensures, c.counts_in-given.ensures, c.long_at.ensures)
