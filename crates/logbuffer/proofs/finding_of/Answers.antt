@@ -1,0 +1,15 @@
+-- By the number.
+use borrow.Author.Tests.{eq-eqb, ne_eqb}
+use Rattle.logbuffer.proofs.finding_of.Goals as goal
+
+pub returns-then-number-eq0 : goal.returns-then-number-eq0
+returns-then-number-eq0 c = rw (eq-eqb _ _ c.if-number-eq0.true)
+
+pub returns-then-number-eq1 : goal.returns-then-number-eq1
+returns-then-number-eq1 c = rw (ne_eqb _ _ c.if-number-eq0.false, eq-eqb _ _ c.if-number-eq1.true)
+
+pub returns-then-number-eq2 : goal.returns-then-number-eq2
+returns-then-number-eq2 c = rw (ne_eqb _ _ c.if-number-eq0.false, ne_eqb _ _ c.if-number-eq1.false, eq-eqb _ _ c.if-number-eq2.true)
+
+pub returns : goal.returns
+returns c = rw (ne_eqb _ _ c.if-number-eq0.false, ne_eqb _ _ c.if-number-eq1.false, ne_eqb _ _ c.if-number-eq2.false)
