@@ -1,12 +1,12 @@
 -- The numbers that were written into an answer's buffer are those that are read from it.
-use Rattle.std.specs.Prelude.{◌≡◌, List, ◌++◌, ℕ, ◌+◌, ◌*◌, ◌%◌, ◌/◌, ◌≤◌, ◌<◌, get_or}
-use Rattle.std.proofs.Common.{◌∙◌, arith, length-append, get_or-append-add}
+use Rattle.std.specs.Prelude.{◌≡◌, List, ◌++◌, ℕ, ◌+◌, ◌*◌, ◌%◌, ◌/◌, ◌<◌, get_or}
+use Rattle.std.proofs.Common.{◌∙◌, arith, get_or-append-add}
 use Rattle.std.proofs.Math.ListN.{length}
 use Rattle.values.specs.declared.AnswerNumbers.{AnswerNumbers}
 use Rattle.model.specs.Limits.{task_limit, word_limit, budget_limit}
 use Rattle.model.specs.TableFile.{four, eight, bytes_of}
 use Rattle.model.specs.StateBuffer.{halves, words_in}
-use Rattle.model.specs.AnswerBuffer.{answer_bytes, answer_buffer, numbers_in}
+use Rattle.model.specs.AnswerBuffer.{answer_buffer, numbers_in}
 use Rattle.words.specs.Bytes.{bytes_length}
 use Rattle.statebuffer.specs.Words.{halves_length}
 use Rattle.statebuffer.specs.RoundTrip.{behind, word_at, half_at, list_back, four_front, eight_front}
