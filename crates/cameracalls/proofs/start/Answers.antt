@@ -1,0 +1,27 @@
+-- Each return rewrites with what the form turned out to be.
+use borrow.Author.Rules.{rules}
+use Rattle.model.specs.Dispatcher.{started}
+use Rattle.model.specs.StateBuffer.{state_bytes, state_in, start_written}
+use Rattle.numbers.specs.Form.{on_form, right_length}
+use Rattle.cameracalls.proofs.start.Goals as goal
+
+pub start_table-requires : goal.start_table-requires
+start_table-requires c =
+    right_length state_bytes c.args.file.now c.args.state.now c.form_for-form.ensures c.in-Admitted.is
+
+pub returns-in-Refused : goal.returns-in-Refused
+returns-in-Refused c =
+    rw (
+      on_form state_bytes c.args.file.now c.args.state.now c.form_for-form.ensures
+          (λ t. let d = started t (state_in c.args.state.now) in start_written c.args.state.now d.state d.admission),
+      c.in-Refused.is,
+      c.refusal_number.ensures,
+    )
+
+pub returns-in-Admitted : goal.returns-in-Admitted
+returns-in-Admitted c =
+    rw (
+      on_form state_bytes c.args.file.now c.args.state.now c.form_for-form.ensures
+          (λ t. let d = started t (state_in c.args.state.now) in start_written c.args.state.now d.state d.admission),
+      c.in-Admitted.is,
+    ) c.start_table.ensures

@@ -1,0 +1,29 @@
+-- A refusal, or the permitted answer.
+use mathlib.Core.Path.{◌≡◌, sym, ap, ◌∙◌}
+use mathlib.Core.Bool.{Bool}
+use borrow.Author.Rules.{rules}
+use Rattle.values.specs.declared.Judgement.{Judgement}
+use Rattle.model.specs.Tasks.{judged}
+use Rattle.model.specs.Report.{outcome_told}
+use Rattle.wellformed.specs.WellFormed.{periodic_iff, well_formed}
+use Rattle.checkcalls.specs.Outcomes.{refused_by, answered}
+use Rattle.checkcalls.proofs.check_table.Goals.{In-WellFormed}
+use Rattle.checkcalls.proofs.check_table.Goals as goal
+
+-- The table is well-formed.
+well : (c : In-WellFormed) → judged c.args.t ≡ Judgement.WellFormed c.in-WellFormed.m
+well c = sym c.judge.ensures ∙ c.in-WellFormed.is
+
+pub returns-in-Refused : goal.returns-in-Refused
+returns-in-Refused c = record {
+      table_found = rw (← c.judge.ensures, c.in-Refused.is) c.refuse.ensures.result_value;
+      tasks_le_task_limit = c.refuse.ensures.tasks_le_task_limit;
+    }
+
+pub returns-in-WellFormed : goal.returns-in-WellFormed
+returns-in-WellFormed c =
+    let a = c.tested.result in
+    let passed = ap (λ (q : Bool). outcome_told refused_by answered c.args.t.count q a a.outcome) c.passes.ensures in record {
+      table_found = rw (← c.judge.ensures, c.in-WellFormed.is) (a, c.tested.ensures, passed);
+      tasks_le_task_limit = (well_formed _ _ (well (goal.at.returns-in-WellFormed c).In-WellFormed)).ranged.few;
+    }

@@ -1,0 +1,6 @@
+-- What was said is told.
+use borrow.Author.Rules.{rules}
+use Rattle.writecalls.proofs.text_from_file.Goals as goal
+
+pub returns : goal.returns
+returns c = rw (← c.text_of.ensures) (c.told.ensures _)
