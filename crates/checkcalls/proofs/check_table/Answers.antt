@@ -14,6 +14,12 @@ use Rattle.checkcalls.proofs.check_table.Goals as goal
 well : (c : In-WellFormed) → judged c.args.t ≡ Judgement.WellFormed c.in-WellFormed.m
 well c = sym c.judge.ensures ∙ c.in-WellFormed.is
 
+pub passes-requires : goal.passes-requires
+passes-requires c = ((periodic_iff _ _).0 (well (goal.at.passes-requires c).In-WellFormed)).0
+
+pub tested-requires : goal.tested-requires
+tested-requires c = well (goal.at.tested-requires c).In-WellFormed
+
 pub returns-in-Refused : goal.returns-in-Refused
 returns-in-Refused c = record {
       table_found = rw (← c.judge.ensures, c.in-Refused.is) c.refuse.ensures.result_value;

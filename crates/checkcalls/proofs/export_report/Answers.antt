@@ -1,5 +1,6 @@
 -- Each return goes by the outcome that its arm found.
 use borrow.Author.Rules.{rules}
+use Rattle.model.specs.Report.{refused, report_written}
 use Rattle.checkcalls.specs.Outcomes.{by_outcome_of}
 use Rattle.checkcalls.proofs.export_report.Goals as goal
 
@@ -8,4 +9,4 @@ returns-in-Refused c = rw (c.in-Refused.is, c.refusal_number.ensures)
 
 pub returns-in-Tested : goal.returns-in-Tested
 returns-in-Tested c =
-    by_outcome_of _ _ c.args.found c.in-Tested.is c.write_report.ensures.buffer_after
+    by_outcome_of (λ w. refused w c.args.buffer.now) (report_written c.args.buffer.now) c.args.found c.in-Tested.is c.write_report.ensures.buffer_after
