@@ -8,8 +8,11 @@ ghost use Rattle.model.specs.Report.{report_of, written, outcome_told, refusal_l
 ghost use Rattle.report.specs.Put.{exported};
 ghost use Rattle.judge.specs.Front.{TablePrinted};
 
-use libc::{STDIN_FILENO, STDOUT_FILENO};
 use values::{Admission, Answer, Judgement, LONGEST_FILE, Outcome, REPORT_BYTES, Table};
+
+const STDIN_FILENO: i32 = 0;
+
+const STDOUT_FILENO: i32 = 1;
 
 // One byte more than the longest legal file has.
 const INPUT_BYTES: usize = LONGEST_FILE + 1;

@@ -199,6 +199,7 @@ module _ (t : Table) (m : Measure) (well : judged t ≡ Judgement.WellFormed m) 
   unfolding had_by state_at_by after_by
   history_in_time budget a answer pass i j l = elim (all_in_time t m well done budget a answer pass i j l) [
     | inl whole ↦ inl whole
+    | inr (Prim.Native.Nat.zero, p, q, said) ↦ elim p [ ]
     | inr (suc u, p, q, said) ↦ inr (u, omega arith, omega arith, said)
   ]
 

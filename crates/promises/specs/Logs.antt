@@ -101,6 +101,8 @@ found_stays = cuts.stays
 pub found_at_end : (bytes : ℕ) (f : Finding) → Final f → at_end bytes f ≡ f
 found_at_end bytes (Finding.Differs slot) h = refl
 found_at_end bytes (Finding.Fault n p) h = refl
+found_at_end bytes Finding.Nothing h = elim h [ ]
+found_at_end bytes Finding.Good h = elim h [ ]
 
 module _ (t : Table) (m : Measure) (well : judged t ≡ Judgement.WellFormed m) where
   -- From a start on a well-formed table no call is refused.

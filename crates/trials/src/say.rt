@@ -1,7 +1,8 @@
 // The parts of a line.
-use libc::STDOUT_FILENO;
 use slots::Numbers;
 use values::{Measure, Refusal, TASK_LIMIT};
+
+const STDOUT_FILENO: i32 = 1;
 
 pub fn words(s: &[u8]) {
     io::write_all(STDOUT_FILENO, s);

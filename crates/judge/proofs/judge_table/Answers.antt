@@ -1,0 +1,24 @@
+-- A refusal's line, or the report on the permitted answer.
+use mathlib.Core.Path.{◌≡◌, refl, sym, ap, ◌∙◌}
+use mathlib.Core.Bool.{Bool}
+use borrow.Author.Rules.{rules}
+use Rattle.values.specs.declared.Judgement.{Judgement}
+use Rattle.model.specs.Tasks.{judged}
+use Rattle.model.specs.Report.{report_of, outcome_told, refusal_line}
+use Rattle.wellformed.specs.WellFormed.{periodic_iff, well_formed}
+use Rattle.judge.proofs.judge_table.Goals.{In-WellFormed}
+use Rattle.judge.proofs.judge_table.Goals as goal
+
+-- The table is well-formed.
+well : (c : In-WellFormed) → judged c.args.t ≡ Judgement.WellFormed c.in-WellFormed.m
+well c = sym c.judge.ensures ∙ c.in-WellFormed.is
+
+pub returns-in-Refused : goal.returns-in-Refused
+returns-in-Refused c =
+    rw (← c.judge.ensures, c.in-Refused.is) (_, c.write_refusal.ensures.buffer_after, refl)
+
+pub returns-in-WellFormed : goal.returns-in-WellFormed
+returns-in-WellFormed c =
+    let a = c.tested-answer.result in
+    let passed = ap (λ (q : Bool). outcome_told refusal_line report_of c.args.t.count q a a.outcome) c.passes-quick.ensures in
+    rw (← c.judge.ensures, c.in-WellFormed.is) (_, c.write_outcome.ensures.buffer_after, (a, c.tested-answer.ensures, passed))
