@@ -13,6 +13,16 @@ use Rattle.judge.proofs.judge_table.Goals as goal
 well : (c : In-WellFormed) → judged c.args.t ≡ Judgement.WellFormed c.in-WellFormed.m
 well c = sym c.judge.ensures ∙ c.in-WellFormed.is
 
+pub tested-answer-requires : goal.tested-answer-requires
+tested-answer-requires c = well (goal.at.tested-answer-requires c).In-WellFormed
+
+pub passes-quick-requires : goal.passes-quick-requires
+passes-quick-requires c = ((periodic_iff _ _).0 (well (goal.at.passes-quick-requires c).In-WellFormed)).0
+
+pub write_outcome-requires-clause-tasks_le_task_limit : goal.write_outcome-requires-clause-tasks_le_task_limit
+write_outcome-requires-clause-tasks_le_task_limit c =
+    (well_formed _ _ (well (goal.at.write_outcome-requires-clause-tasks_le_task_limit c).In-WellFormed)).ranged.few
+
 pub returns-in-Refused : goal.returns-in-Refused
 returns-in-Refused c =
     rw (← c.judge.ensures, c.in-Refused.is) (_, c.write_refusal.ensures.buffer_after, refl)
