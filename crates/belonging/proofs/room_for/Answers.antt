@@ -14,12 +14,11 @@ returns-then-room-slots c =
     c.strange_state.ensures ∙ room_beyond _ _ _ _ _ c.loop-i.invariant.1 (omega arith) c.if-room-slots.true
 
 pub loop-i-preserved : goal.loop-i-preserved
-loop-i-preserved c =
-    (
-      omega arith,
-      room_again c.args.given.now c.args.empty c.args.n c.loop-i.i c.loop-i.room
-          c.loop-i.invariant.1 (omega arith),
-    )
+loop-i-preserved c = (
+  omega arith,
+  room_again c.args.given.now c.args.empty c.args.n c.loop-i.i c.loop-i.room
+      c.loop-i.invariant.1 (omega arith),
+)
 
 pub returns : goal.returns
 returns c = room_end _ _ _ _ _ c.loop-i.invariant.1 (omega arith)

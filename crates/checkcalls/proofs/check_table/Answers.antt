@@ -22,9 +22,9 @@ tested-requires c = well (goal.at.tested-requires c).In-WellFormed
 
 pub returns-in-Refused : goal.returns-in-Refused
 returns-in-Refused c = record {
-      table_found = rw (← c.judge.ensures, c.in-Refused.is) c.refuse.ensures.result_value;
-      tasks_le_task_limit = c.refuse.ensures.tasks_le_task_limit;
-    }
+  table_found = rw (← c.judge.ensures, c.in-Refused.is) c.refuse.ensures.result_value;
+  tasks_le_task_limit = c.refuse.ensures.tasks_le_task_limit;
+}
 
 pub returns-in-WellFormed : goal.returns-in-WellFormed
 returns-in-WellFormed c =

@@ -23,10 +23,10 @@ loop-i-init c = (refl, omega arith, λ k l. absurd (omega arith))
 
 pub pattern_calm-requires : goal.pattern_calm-requires
 pattern_calm-requires c = record {
-      t_value = c.requires.t_value;
-      load_le_round = c.requires.load_le_round;
-      i_lt_count = omega (arith, c.loop-i.invariant.0, c.loop-i-test.true);
-    }
+  t_value = c.requires.t_value;
+  load_le_round = c.requires.load_le_round;
+  i_lt_count = omega (arith, c.loop-i.invariant.0, c.loop-i-test.true);
+}
 
 pub returns-then-not-pattern_calm : goal.returns-then-not-pattern_calm
 returns-then-not-pattern_calm c =

@@ -38,14 +38,13 @@ pub overflow_add-from : goal.overflow_add-from
 overflow_add-from c = omega (arith, c.requires.0, c.if-n-k.false)
 
 pub loop-i-preserved : goal.loop-i-preserved
-loop-i-preserved c =
-    (
-      refl,
-      refl,
-      omega arith,
-      turn c.args.old c.args.new c.loop-i.invariant.3 (found (goal.at.loop-i-preserved c).After-next_eased-k) c.if-n-k.false
-          c.with_task-kept.ensures (omega arith),
-    )
+loop-i-preserved c = (
+  refl,
+  refl,
+  omega arith,
+  turn c.args.old c.args.new c.loop-i.invariant.3 (found (goal.at.loop-i-preserved c).After-next_eased-k) c.if-n-k.false
+      c.with_task-kept.ensures (omega arith),
+)
 
 pub returns : goal.returns
 returns c =

@@ -26,14 +26,13 @@ returns-then-is_eased c =
     c.loop-i.invariant.3)
 
 pub loop-i-preserved : goal.loop-i-preserved
-loop-i-preserved c =
-    (
-      refl,
-      omega (arith, c.loop-i.invariant.1),
-      omega arith,
-      none_up (eased c.args.old c.args.k) c.args.from c.loop-i.i c.loop-i.invariant.3
-          (subst T (sym c.is_eased.ensures ∙ c.if-is_eased.false)),
-    )
+loop-i-preserved c = (
+  refl,
+  omega (arith, c.loop-i.invariant.1),
+  omega arith,
+  none_up (eased c.args.old c.args.k) c.args.from c.loop-i.i c.loop-i.invariant.3
+      (subst T (sym c.is_eased.ensures ∙ c.if-is_eased.false)),
+)
 
 pub returns : goal.returns
 returns c =

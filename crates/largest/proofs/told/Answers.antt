@@ -5,10 +5,10 @@ use Rattle.largest.proofs.told.Goals as goal
 
 pub search-requires : goal.search-requires
 search-requires c = record {
-      t_value = c.requires.t_value;
-      i_lt_count = c.requires.i_lt_count;
-      budget_value = sym c.verdict_on-said.ensures ∙ c.in-Passes.is;
-    }
+  t_value = c.requires.t_value;
+  i_lt_count = c.requires.i_lt_count;
+  budget_value = sym c.verdict_on-said.ensures ∙ c.in-Passes.is;
+}
 
 pub returns-in-Passes : goal.returns-in-Passes
 returns-in-Passes c = rw (← c.verdict_on-said.ensures, c.in-Passes.is, ← c.search.ensures)

@@ -42,15 +42,14 @@ pub overflow_sub-to : goal.overflow_sub-to
 overflow_sub-to c = omega (arith, last_lt (goal.at.overflow_sub-to c).After-to_u64)
 
 pub entry-requires : goal.entry-requires
-entry-requires c =
-    (
-      omega (arith, c.requires.to_le_horizon_limit),
-      omega (
-        arith,
-        c.requires.marked c.loop-i.i c.loop-i-test.true,
-        mark_small c.args.t c.requires.ranged c.loop-i.i c.loop-i-test.true,
-      ),
-    )
+entry-requires c = (
+  omega (arith, c.requires.to_le_horizon_limit),
+  omega (
+    arith,
+    c.requires.marked c.loop-i.i c.loop-i-test.true,
+    mark_small c.args.t c.requires.ranged c.loop-i.i c.loop-i-test.true,
+  ),
+)
 
 pub insert-requires : goal.insert-requires
 insert-requires c =

@@ -6,11 +6,10 @@ use Rattle.leaps.specs.Queue.{inserted}
 use Rattle.leaping.proofs.requeue.Goals as goal
 
 pub returns-then-time_of-period : goal.returns-then-time_of-period
-returns-then-time_of-period c =
-    (
-      λ h. (c.insert.ensures ∙ ap (inserted _ _) (omega (arith, c.entry.ensures)), refl),
-      λ h. absurd (omega (arith, c.if-time_of-period.true, c.to_u64.ensures.0, c.time_of.ensures)),
-    )
+returns-then-time_of-period c = (
+  λ h. (c.insert.ensures ∙ ap (inserted _ _) (omega (arith, c.entry.ensures)), refl),
+  λ h. absurd (omega (arith, c.if-time_of-period.true, c.to_u64.ensures.0, c.time_of.ensures)),
+)
 
 pub returns : goal.returns
 returns c =

@@ -13,8 +13,7 @@ loop-i-init c = (omega arith, firsts_none c.args.t)
 
 pub entry-first-requires : goal.entry-first-requires
 entry-first-requires c =
-    let l = c.loop-i-test.true in
-    (
+    let l = c.loop-i-test.true in (
       omega (arith, c.wide_offset_of.ensures),
       omega
           (arith, c.requires.marked c.loop-i.i l, mark_small c.args.t c.requires.ranged c.loop-i.i l),

@@ -126,9 +126,8 @@ pub overflow_sub-jobs : goal.overflow_sub-jobs
 overflow_sub-jobs c = omega (arith, busy (goal.at.overflow_sub-jobs c).Else-jobs-eq0)
 
 -- The owner's deadline, read from its entry.
-deadline-is : (c : After-task_of-i) (t : Table) → 
+deadline-is : (c : After-task_of-i) (t : Table) →
     (y : Ready t c.args.deadline.now c.args.releases.now c.args.ready.now c.args.left.now c.args.worst.now c.args.last c.args.at c.args.end c.args.jobs c.args.idle)
-   
     → at c.args.deadline.now c.task_of-i.result / span ≡ (task t c.task_of-i.result).deadline
 deadline-is c t y = ap (λ (x : ℕ). x / span) (y.deadlines _ (own c t y)) ∙ entry_time t y.ranged _ c.task_of-i.result (own c t y)
 

@@ -12,21 +12,20 @@ loop-i-init c = (refl, omega arith, omega arith)
 
 pub returns-then-is : goal.returns-then-is
 returns-then-is c = record {
-      value = omega (arith, here (is_mark c.args.mark) c.args.s.now c.loop-i.i (omega arith) (sym c.is.ensures ∙ c.if-is.true));
-      upper_bound = omega arith;
-    }
+  value = omega (arith, here (is_mark c.args.mark) c.args.s.now c.loop-i.i (omega arith) (sym c.is.ensures ∙ c.if-is.true));
+  upper_bound = omega arith;
+}
 
 pub loop-i-preserved : goal.loop-i-preserved
-loop-i-preserved c =
-    (
-      omega arith,
-      omega arith,
-      omega (
-        arith,
-        not_here (is_mark c.args.mark) c.args.s.now c.loop-i.i (omega arith)
-            (sym c.is.ensures ∙ c.if-is.false),
-      ),
-    )
+loop-i-preserved c = (
+  omega arith,
+  omega arith,
+  omega (
+    arith,
+    not_here (is_mark c.args.mark) c.args.s.now c.loop-i.i (omega arith)
+        (sym c.is.ensures ∙ c.if-is.false),
+  ),
+)
 
 pub returns : goal.returns
 returns c =

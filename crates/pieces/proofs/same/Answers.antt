@@ -19,14 +19,13 @@ returns-then-word-i c =
     sym (c.loop-i.invariant.3 ∙ other_byte c.args.word.now c.args.name.now c.loop-i.i (omega arith) (omega arith) c.if-word-i.true)
 
 pub loop-i-preserved : goal.loop-i-preserved
-loop-i-preserved c =
-    (
-      omega arith,
-      omega arith,
-      omega arith,
-      c.loop-i.invariant.3 ∙ same_byte c.args.word.now c.args.name.now c.loop-i.i (omega arith) (omega arith)
-          c.if-word-i.false,
-    )
+loop-i-preserved c = (
+  omega arith,
+  omega arith,
+  omega arith,
+  c.loop-i.invariant.3 ∙ same_byte c.args.word.now c.args.name.now c.loop-i.i (omega arith) (omega arith)
+      c.if-word-i.false,
+)
 
 pub returns : goal.returns
 returns c =

@@ -20,10 +20,10 @@ joined-tasks-requires c = (omega arith, rw c.loop-i.invariant.1 (bits_lt _ _))
 
 pub loop-i-preserved : goal.loop-i-preserved
 loop-i-preserved c = let l = lt-ltb c.loop-i.i c.args.n (omega arith) in (
-      omega arith,
-      bits_more (is_late c.args.wait.now c.args.left.now c.args.slack.now c.args.n) _
-          c.loop-i.invariant.1 (rw (c.joined-tasks.ensures, c.at_deadline.ensures, l)),
-    )
+  omega arith,
+  bits_more (is_late c.args.wait.now c.args.left.now c.args.slack.now c.args.n) _
+      c.loop-i.invariant.1 (rw (c.joined-tasks.ensures, c.at_deadline.ensures, l)),
+)
 
 pub returns : goal.returns
 returns c =

@@ -17,12 +17,12 @@ rank_of-requires c = (c.requires.each c.loop-i.i (omega arith)).period_le
 
 pub loop-i-preserved : goal.loop-i-preserved
 loop-i-preserved c = let v = c.loop-i.invariant in (
-      omega arith,
-      fill_put _ _ _ v.1 refl,
-      fill_put _ _ _ v.2 refl,
-      fill_put _ _ _ v.3 c.less.ensures,
-      fill_put _ _ _ v.4 c.rank_of.ensures,
-    )
+  omega arith,
+  fill_put _ _ _ v.1 refl,
+  fill_put _ _ _ v.2 refl,
+  fill_put _ _ _ v.3 c.less.ensures,
+  fill_put _ _ _ v.4 c.rank_of.ensures,
+)
 
 pub returns : goal.returns
 unfolding columns_of

@@ -41,10 +41,10 @@ loop-i-preserved c =
     let f = start c.args.t in
     let inside = (goal.at.loop-i-preserved c).In-loop-i in
     let later : c.if-offset-latest.latest ≡ max c.loop-i.latest (f c.loop-i.i) =
-        elim c.if-offset-latest.branch [
-          | then-offset-latest w ↦ omega (arith, c.offset_of-offset.ensures)
-          | else-offset-latest w ↦ omega (arith, c.offset_of-offset.ensures)
-        ] in (
+    elim c.if-offset-latest.branch [
+      | then-offset-latest w ↦ omega (arith, c.offset_of-offset.ensures)
+      | else-offset-latest w ↦ omega (arith, c.offset_of-offset.ensures)
+    ] in (
       omega arith,
       omega (arith, share-fits inside),
       sum_more (share c.args.t c.args.round) c.loop-i.i c.loop-i.invariant.2 refl,

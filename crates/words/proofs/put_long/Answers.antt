@@ -8,6 +8,6 @@ use Rattle.words.proofs.put_long.Goals as goal
 pub returns : goal.returns
 unfolding bytes_of
 returns c = record {
-      put = rw (← c.low_word.ensures, ← c.high_word.ensures) (join c.put_word-next.ensures.put c.put_word.ensures.put);
-      value = omega arith;
-    }
+  put = rw (← c.low_word.ensures, ← c.high_word.ensures) (join c.put_word-next.ensures.put c.put_word.ensures.put);
+  value = omega arith;
+}
