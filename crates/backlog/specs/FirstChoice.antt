@@ -1,6 +1,6 @@
 -- THE FIRST CHOICE IS FOUND (`first_choice`): the search for the kept tasks finds a choice wherever there is one, and of several the first in order;
 -- else it tells the first task that is none.
-use Rattle.std.specs.Prelude.{◌≡◌, ◌↔◌, Bool, true, false, cond, T, ltb, eqb}
+use Rattle.std.specs.Prelude.{◌≡◌, ◌↔◌, Bool, true, false, cond, T, ltb, eqb, not}
 use Rattle.std.proofs.Math.Path.{refl}
 use Prim.Native.Nat.{ℕ, zero, suc, ◌/◌, ◌%◌, ◌^◌, ◌-◌, ◌≤◌, ◌<◌}
 use Rattle.std.proofs.Common.{le_refl, ltb-true, ltb-false}
@@ -10,7 +10,7 @@ use Rattle.std.proofs.Math.Dec.{leb}
 use Rattle.values.specs.declared.Task.{Task}
 use Rattle.values.specs.declared.Table.{Table}
 use Rattle.values.specs.declared.Easing.{Easing}
-use Rattle.model.specs.Notation.{not, bit, some}
+use Rattle.model.specs.Notation.{bit, some}
 use Rattle.model.specs.Tasks.{task, is_button}
 use Rattle.model.specs.Easing.{EasedTask, Eased, eases, searched_from, kept_as, unmatched, kept_set, easing, first_tasks}
 use Rattle.counting.specs.Count.{tests, and_iff, eq→eqb}

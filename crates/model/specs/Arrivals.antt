@@ -1,5 +1,6 @@
 -- Arrivals that keep to a table of both sorts, and schedules that are good for them (T-13).
-use Rattle.model.specs.Notation.{◌≡◌, true, false, map, ℕ, ◌+◌, ◌≤◌, ◌<◌, T, count}
+use Rattle.std.specs.Prelude.{◌≡◌, true, false, map, ℕ, ◌+◌, ◌≤◌, ◌<◌, T}
+use Rattle.model.specs.Notation.{count}
 use Rattle.model.specs.Values.{Sort, Task, Table}
 use Rattle.model.specs.Tasks.{task, is_button, offset}
 use Rattle.model.specs.Demand.{Arrivals, released}

@@ -1,5 +1,6 @@
 -- Arrivals, demand, and intervals that ask too much, for tasks of both sorts at once.
-use Rattle.model.specs.Notation.{Bool, ◌&&◌, ℕ, ◌+◌, ◌-◌, ◌*◌, ◌%◌, leb, ltb, eqb, sum, count, some}
+use Rattle.std.specs.Prelude.{Bool, ◌&&◌, ℕ, ◌+◌, ◌-◌, ◌*◌, ◌%◌, leb, ltb, eqb}
+use Rattle.model.specs.Notation.{sum, count, some}
 use Rattle.model.specs.Values.{Task, Table}
 use Rattle.model.specs.Tasks.{task, offset}
 

@@ -1,5 +1,5 @@
 -- The dispatcher: its state, when a state belongs to a table, the start, and the step in its four rules.
-use Rattle.model.specs.Notation.{Bool, cond, not, ◌&&◌, ◌||◌, ℕ, ◌+◌, ◌-◌, max, ltb, eqb, get_or, replicate}
+use Rattle.std.specs.Prelude.{Bool, cond, not, ◌&&◌, ◌||◌, ℕ, ◌+◌, ◌-◌, max, ltb, eqb, get_or, replicate}
 use Rattle.model.specs.Notation.{bit, sum, count, first, bits, fill}
 use Rattle.model.specs.Values.{Table, Refusal, Judgement, Admission, Turn, SlotAnswer, refusal}
 use Rattle.model.specs.Limits.{task_limit, slot_count_limit, sum_place}

@@ -1,7 +1,7 @@
 -- What may be eased in a table (T-11): costs lowered, deadlines lengthened, tasks left out, and all of that together;
 -- and what is told of two tables.
-use Rattle.model.specs.Notation.{List, ◌≡◌, Bool, cond, not, ◌&&◌, ℕ, zero, suc, ◌+◌, ◌-◌, ◌*◌, ◌≤◌, ◌<◌, leb, ltb}
-use Rattle.model.specs.Notation.{eqb, some, first, bits}
+use Rattle.std.specs.Prelude.{List, ◌≡◌, Bool, cond, not, ◌&&◌, ℕ, zero, suc, ◌+◌, ◌-◌, ◌*◌, ◌≤◌, ◌<◌, leb, ltb, eqb}
+use Rattle.model.specs.Notation.{some, first, bits}
 use Rattle.model.specs.Values.{Task, Table, Easing, Admission}
 use Rattle.model.specs.Tasks.{task, is_button, offset}
 use Rattle.model.specs.TableFile.{periodic_from}

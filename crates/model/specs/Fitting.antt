@@ -1,6 +1,7 @@
 -- What would fit (ours): the largest cost and the smallest deadline of one task, and the largest share of every cost, with which
 -- a table passes; and the one permitted answer to a table, a change and a budget.
-use Rattle.model.specs.Notation.{List, Bool, false, cond, ℕ, suc, ◌+◌, ◌-◌, ◌*◌, ◌/◌, min, ltb, set, fill, first, last}
+use Rattle.std.specs.Prelude.{List, Bool, false, cond, ℕ, suc, ◌+◌, ◌-◌, ◌*◌, ◌/◌, min, ltb, set}
+use Rattle.model.specs.Notation.{fill, first, last}
 use Rattle.model.specs.Values.{Task, Table, Judgement, Verdict, Change, Fit, refusal}
 use Rattle.model.specs.Limits.{slot_limit, share_limit, word_limit}
 use Rattle.model.specs.Tasks.{task, judged}

@@ -1,6 +1,7 @@
 -- Histories: what the dispatcher does step after step from a start, under any pattern of done reports,
 -- by its rules for ever; that a step is taken is promised for as many as can be counted.
-use Rattle.model.specs.Notation.{◌≡◌, ◌⊎◌, Bool, ◌&&◌, ℕ, zero, suc, min, ◌≤◌, ◌<◌, T, leb, eqb, count}
+use Rattle.std.specs.Prelude.{◌≡◌, ◌⊎◌, Bool, ◌&&◌, ℕ, zero, suc, min, ◌≤◌, ◌<◌, T, leb, eqb}
+use Rattle.model.specs.Notation.{count}
 use Rattle.model.specs.Values.{Table}
 use Rattle.model.specs.Tasks.{task, release}
 use Rattle.model.specs.Run.{Order, tie_order}

@@ -1,5 +1,6 @@
 -- Idle instants of a run, and the deadlines that it misses.
-use Rattle.model.specs.Notation.{Bool, ℕ, leb, some, every, first}
+use Rattle.std.specs.Prelude.{Bool, ℕ, leb}
+use Rattle.model.specs.Notation.{some, every, first}
 use Rattle.model.specs.Values.{Table}
 use Rattle.model.specs.Tasks.{task, release, due, round}
 use Rattle.model.specs.Run.{Order, current, served}

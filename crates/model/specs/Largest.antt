@@ -1,6 +1,7 @@
 -- The largest cost that one task of a table can take (T-12), and the one permitted answer to a table,
 -- a task number and a budget.
-use Rattle.model.specs.Notation.{List, Bool, true, false, cond, ℕ, suc, ◌+◌, min, ltb, set, last}
+use Rattle.std.specs.Prelude.{List, Bool, true, false, cond, ℕ, suc, ◌+◌, min, ltb, set}
+use Rattle.model.specs.Notation.{last}
 use Rattle.model.specs.Values.{Task, Table, Judgement, Verdict, LargestCost, refusal}
 use Rattle.model.specs.Limits.{slot_limit}
 use Rattle.model.specs.Tasks.{task, judged}

@@ -1,5 +1,5 @@
 -- The limits of the specification (sections 2.3, 4.1, 5.2, 6.1 and 7.1), each once.
-use Rattle.model.specs.Notation.{ℕ, ◌+◌, ◌*◌}
+use Rattle.std.specs.Prelude.{ℕ, ◌+◌, ◌*◌}
 
 -- Tasks in a table. The same number stands for no task.
 abbrev pub task_limit : ℕ

@@ -1,7 +1,6 @@
 -- The log that a camera keeps, and its judge: from pieces cut anywhere the answer good,
 -- the first slot that differs, or a fault.
-use Rattle.model.specs.Notation.{List, [], ◌∷◌, ◌++◌, Bool, true, false, cond, not, ◌&&◌, ◌||◌, ℕ, zero, suc, ◌+◌}
-use Rattle.model.specs.Notation.{ltb, eqb}
+use Rattle.std.specs.Prelude.{List, [], ◌∷◌, ◌++◌, Bool, true, false, cond, not, ◌&&◌, ◌||◌, ℕ, zero, suc, ◌+◌, ltb, eqb}
 use Rattle.model.specs.Values.{Table, Admission, Finding, refusal}
 use Rattle.model.specs.Limits.{task_limit, log_limit, count_place}
 use Rattle.model.specs.Dispatcher.{State, slot_count, admitted, start_of, started, owner_now, after}

@@ -1,5 +1,6 @@
 -- A log's judge in a lent buffer, and the exported start, piece and finish.
-use Rattle.model.specs.Notation.{List, [], ◌∷◌, ◌++◌, cond, not, ℕ, ◌+◌, ◌*◌, eqb, get_or, bit}
+use Rattle.std.specs.Prelude.{List, [], ◌∷◌, ◌++◌, cond, not, ℕ, ◌+◌, ◌*◌, eqb, get_or}
+use Rattle.model.specs.Notation.{bit}
 use Rattle.model.specs.Values.{Admission, Finding, finding_said}
 use Rattle.model.specs.Limits.{word_limit}
 use Rattle.model.specs.TableFile.{four, eight, two_words, bytes_of}

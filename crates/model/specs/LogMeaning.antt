@@ -1,5 +1,5 @@
 -- What each answer to a log means, in words of what a camera writes that runs the dispatcher.
-use Rattle.model.specs.Notation.{◌≡◌, ◌⊎◌, List, [], ◌∷◌, ◌++◌, Bool, true, false, ℕ, ◌+◌, ◌≤◌, ◌<◌, length}
+use Rattle.std.specs.Prelude.{◌≡◌, ◌⊎◌, List, [], ◌∷◌, ◌++◌, Bool, true, false, ℕ, ◌+◌, ◌≤◌, ◌<◌, length}
 use Rattle.model.specs.Values.{Table, Finding}
 use Rattle.model.specs.Limits.{log_limit}
 use Rattle.model.specs.History.{owner_at}

@@ -1,6 +1,6 @@
 -- The quick test (T-03) and the distance test (T-05, T-13): tables with other offsets,
 -- each walked to its first idle instant.
-use Rattle.model.specs.Notation.{Bool, cond, not, ◌&&◌, ◌||◌, ℕ, suc, ◌-◌, ◌%◌, ℤ, pos, negsuc, ◌-ℤ◌, leb, eqb}
+use Rattle.std.specs.Prelude.{Bool, cond, not, ◌&&◌, ◌||◌, ℕ, suc, ◌-◌, ◌%◌, ℤ, pos, negsuc, ◌-ℤ◌, leb, eqb}
 use Rattle.model.specs.Notation.{some, every, last, fill}
 use Rattle.model.specs.Values.{Sort, Task, Table, Judgement, QuickAnswer, DistanceAnswer}
 use Rattle.model.specs.Tasks.{task, is_button, offset, round, load, judged_mixed, judged}

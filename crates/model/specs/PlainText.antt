@@ -1,7 +1,7 @@
 -- Tables in plain text: for any bytes the refusal, or the budget and the tasks;
 -- the text of a budget and tasks; the exported calls.
-use Rattle.model.specs.Notation.{List, [], ◌∷◌, ◌++◌, Bool, true, false, cond, ◌&&◌, ◌||◌, ℕ, zero, suc, ◌+◌}
-use Rattle.model.specs.Notation.{◌-◌, ◌*◌, min, leb, ltb, eqb, get_or, length, take, text, decimal}
+use Rattle.std.specs.Prelude.{List, [], ◌∷◌, ◌++◌, Bool, true, false, cond, ◌&&◌, ◌||◌, ℕ, zero, suc, ◌+◌, ◌-◌, ◌*◌, min, leb, ltb, eqb, get_or, length, take}
+use Rattle.model.specs.Notation.{text, decimal}
 use Rattle.model.specs.Values.{Sort, Task, Table, Contents, Admission, Line}
 use Rattle.model.specs.Limits.{task_limit, word_limit, budget_limit}
 use Rattle.model.specs.Tasks.{within, judged_mixed}

@@ -1,6 +1,6 @@
 -- The dispatcher of tables with buttons in a lent buffer: the exported start and step that take presses. The buffer is that
 -- of a camera's own loop.
-use Rattle.model.specs.Notation.{List, not, ℕ, zero, suc, ◌+◌, ◌*◌, eqb}
+use Rattle.std.specs.Prelude.{List, not, ℕ, zero, suc, ◌+◌, ◌*◌, eqb}
 use Rattle.model.specs.Values.{SlotAnswer}
 use Rattle.model.specs.Limits.{word_limit}
 use Rattle.model.specs.Dispatcher.{State}

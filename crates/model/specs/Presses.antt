@@ -1,8 +1,8 @@
 -- The dispatcher of tables with buttons (ours, for T-13's tables): a button's job comes when it is pressed. Its state,
 -- its start, the places of 8 and rules 1, 2 and 4 are those of document 01's dispatcher, which refuses such tables; a
 -- button's wait is the slots until it may be pressed again.
-use Rattle.model.specs.Notation.{◌≡◌, ◌⊎◌, Bool, cond, not, ◌&&◌, ℕ, zero, suc, ◌+◌, min, ◌≤◌, ◌<◌}
-use Rattle.model.specs.Notation.{T, leb, ltb, eqb, bits, in_set, count}
+use Rattle.std.specs.Prelude.{◌≡◌, ◌⊎◌, Bool, cond, not, ◌&&◌, ℕ, zero, suc, ◌+◌, min, ◌≤◌, ◌<◌, T, leb, ltb, eqb}
+use Rattle.model.specs.Notation.{bits, in_set, count}
 use Rattle.model.specs.Values.{Table, Refusal, Admission, Turn, SlotAnswer, refusal}
 use Rattle.model.specs.Limits.{task_limit, slot_count_limit}
 use Rattle.model.specs.Tasks.{task, is_button, judged_mixed}

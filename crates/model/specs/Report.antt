@@ -1,6 +1,6 @@
 -- The report on an answer, byte for byte; the exported calls on a file; the program's output.
-use Rattle.model.specs.Notation.{List, [], ◌++◌, Bool, true, false, cond, ◌≡◌, ℕ, zero, suc, ◌+◌, ◌*◌, ltb, get_or}
-use Rattle.model.specs.Notation.{length, drop, text, decimal}
+use Rattle.std.specs.Prelude.{List, [], ◌++◌, Bool, true, false, cond, ◌≡◌, ℕ, zero, suc, ◌+◌, ◌*◌, ltb, get_or, length, drop}
+use Rattle.model.specs.Notation.{text, decimal}
 use Rattle.model.specs.Values.{Table, Refusal, Verdict, Outcome, Answer, QuickAnswer, DistanceAnswer, Admission}
 use Rattle.model.specs.Values.{Contents, refusal}
 use Rattle.model.specs.Limits.{report_bytes}

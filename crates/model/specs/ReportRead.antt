@@ -1,5 +1,6 @@
 -- What a host reads off a report: whether it says that the table passes.
-use Rattle.model.specs.Notation.{List, [], ◌∷◌, Bool, false, cond, ◌&&◌, ◌||◌, ℕ, leb, length, text}
+use Rattle.std.specs.Prelude.{List, [], ◌∷◌, Bool, false, cond, ◌&&◌, ◌||◌, ℕ, leb, length}
+use Rattle.model.specs.Notation.{text}
 use Rattle.model.specs.Limits.{report_bytes}
 use Rattle.model.specs.PlainText.{lines_of, same}
 

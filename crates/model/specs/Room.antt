@@ -1,6 +1,7 @@
 -- The room of a table that may have buttons (ours): the largest cost of one task or button with which the distance test still
 -- passes, and the one permitted number for any table and task number.
-use Rattle.model.specs.Notation.{List, Bool, cond, ℕ, suc, ◌+◌, min, ltb, last}
+use Rattle.std.specs.Prelude.{List, Bool, cond, ℕ, suc, ◌+◌, min, ltb}
+use Rattle.model.specs.Notation.{last}
 use Rattle.model.specs.Values.{Table, Judgement, DistanceAnswer, refusal}
 use Rattle.model.specs.Limits.{slot_limit}
 use Rattle.model.specs.Tasks.{task, judged_mixed}

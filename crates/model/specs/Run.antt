@@ -1,6 +1,6 @@
 -- The run: in each slot the released, unfinished job with the earliest deadline, ties by a fixed order of the tasks.
-use Rattle.model.specs.Notation.{◌≡◌, List, Bool, cond, ◌&&◌, ◌||◌, ℕ, zero, suc, ◌+◌, ◌-◌, ◌/◌, ◌≤◌, leb, ltb}
-use Rattle.model.specs.Notation.{eqb, get_or, set, replicate, Least}
+use Rattle.std.specs.Prelude.{◌≡◌, List, Bool, cond, ◌&&◌, ◌||◌, ℕ, zero, suc, ◌+◌, ◌-◌, ◌/◌, ◌≤◌, leb, ltb, eqb, get_or, set, replicate}
+use Rattle.model.specs.Notation.{Least}
 use Rattle.model.specs.Values.{Table}
 use Rattle.model.specs.Limits.{task_limit}
 use Rattle.model.specs.Tasks.{task, release, due}

@@ -1,5 +1,6 @@
 -- Schedules, and when one is good.
-use Rattle.model.specs.Notation.{Bool, false, ◌&&◌, ℕ, ◌≤◌, ◌<◌, leb, eqb, count}
+use Rattle.std.specs.Prelude.{Bool, false, ◌&&◌, ℕ, ◌≤◌, ◌<◌, leb, eqb}
+use Rattle.model.specs.Notation.{count}
 use Rattle.model.specs.Values.{Table}
 use Rattle.model.specs.Tasks.{task, release, due}
 

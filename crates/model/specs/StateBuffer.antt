@@ -1,6 +1,6 @@
 -- The dispatcher's state in a lent buffer, and the exported start and step of a camera's own loop.
-use Rattle.model.specs.Notation.{List, [], ◌∷◌, ◌++◌, cond, not, ℕ, zero, suc, ◌+◌, ◌*◌, min, eqb, length}
-use Rattle.model.specs.Notation.{replicate, fill}
+use Rattle.std.specs.Prelude.{List, [], ◌∷◌, ◌++◌, cond, not, ℕ, zero, suc, ◌+◌, ◌*◌, min, eqb, length, replicate}
+use Rattle.model.specs.Notation.{fill}
 use Rattle.model.specs.Values.{Table, Admission, Turn, SlotAnswer, refusal}
 use Rattle.model.specs.Limits.{task_limit}
 use Rattle.model.specs.TableFile.{four, eight, two_words, bytes_of, form_of}

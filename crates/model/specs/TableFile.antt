@@ -1,6 +1,5 @@
 -- The table file: for any list of bytes the refusal, or the budget and the tasks; and the file of a budget and tasks.
-use Rattle.model.specs.Notation.{List, [], ◌∷◌, ◌++◌, cond, ◌||◌, ℕ, zero, suc, ◌+◌, ◌-◌, ◌*◌, ◌/◌, ◌%◌, ltb, leb}
-use Rattle.model.specs.Notation.{eqb, get_or, length, replicate}
+use Rattle.std.specs.Prelude.{List, [], ◌∷◌, ◌++◌, cond, ◌||◌, ℕ, zero, suc, ◌+◌, ◌-◌, ◌*◌, ◌/◌, ◌%◌, ltb, leb, eqb, get_or, length, replicate}
 use Rattle.model.specs.Values.{Sort, Task, Table, Judgement, Admission, Contents, refusal}
 use Rattle.model.specs.Limits.{task_limit, word_limit, budget_bytes, task_bytes, button_bytes}
 use Rattle.model.specs.Tasks.{no_task, judged_mixed, judged}

@@ -1,6 +1,6 @@
 -- Tasks, their ranges, and well-formed tables.
-use Rattle.model.specs.Notation.{Bool, true, false, cond, not, ◌&&◌, ℕ, ◌+◌, ◌*◌, ◌/◌, ◌%◌, ◌^◌, leb, ltb, eqb}
-use Rattle.model.specs.Notation.{get_or, sum, largest, every, first}
+use Rattle.std.specs.Prelude.{Bool, true, false, cond, not, ◌&&◌, ℕ, ◌+◌, ◌*◌, ◌/◌, ◌%◌, ◌^◌, leb, ltb, eqb, get_or}
+use Rattle.model.specs.Notation.{sum, largest, every, first}
 use Rattle.model.specs.Values.{Sort, Task, Table, Measure, Judgement, Admission, refusal}
 use Rattle.model.specs.Limits.{task_limit, slot_limit, round_limit}
 

@@ -1,10 +1,10 @@
 -- The tests, by computing: demand and the verdict, the run, the quick test, the distance test, easing and the largest
 -- cost. `promises/specs/Tables.antt` proves the answers to tables a to j; here stand the slips that look right
 -- (section 11) and what shows a definition.
-use Rattle.std.specs.Prelude.{◌≡◌, refl, [], ◌∷◌, ◌++◌, map, true, false, ◌+◌, ◌-◌, ◌*◌, replicate}
+use Rattle.std.specs.Prelude.{◌≡◌, refl, [], ◌∷◌, ◌++◌, map, true, false, ◌+◌, ◌-◌, ◌*◌, replicate, pos, negsuc}
 use Rattle.std.proofs.Common.{arith, lit<}
 use Rattle.model.specs.Values.{Table, Verdict, Outcome, Easing, refusal, cost_said}
-use Rattle.model.specs.Notation.{pos, negsuc, sum, largest, count, first, last, bits, fill}
+use Rattle.model.specs.Notation.{sum, largest, count, first, last, bits, fill}
 use Rattle.model.specs.Limits.{task_limit}
 use Rattle.model.specs.Tasks.{task, offset, task_fault, first_faulty, round, load, horizon, judged_mixed}
 use Rattle.model.specs.Tasks.{first_button, judged}

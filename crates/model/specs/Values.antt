@@ -1,6 +1,6 @@
 -- The values of crate `values` by their names, and each case of an answer as a list:
 -- the specification's number first (0 where nothing is refused), then its values.
-use Rattle.model.specs.Notation.{List, [], ◌∷◌, ℕ}
+use Rattle.std.specs.Prelude.{List, [], ◌∷◌, ℕ}
 pub use Rattle.values.specs.declared.Sort.{Sort}
 pub use Rattle.values.specs.declared.Task.{Task}
 pub use Rattle.values.specs.declared.Table.{Table}

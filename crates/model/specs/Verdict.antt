@@ -1,5 +1,6 @@
 -- The verdict, and the one permitted answer to a table and a budget.
-use Rattle.model.specs.Notation.{◌≡◌, List, cond, ℕ, ◌≤◌, ◌<◌, ltb, get_or, length, replicate, first, last}
+use Rattle.std.specs.Prelude.{◌≡◌, List, cond, ℕ, ◌≤◌, ◌<◌, ltb, get_or, length, replicate}
+use Rattle.model.specs.Notation.{first, last}
 use Rattle.model.specs.Values.{Table, Measure, Judgement, Verdict, Outcome, Answer}
 use Rattle.model.specs.Limits.{task_limit}
 use Rattle.model.specs.Tasks.{round, load, horizon, judged}

@@ -1,6 +1,6 @@
 -- The writer: a table and a budget as a table file in a lent buffer, and the exported call.
-use Rattle.model.specs.Notation.{List, ◌++◌, Bool, cond, not, ◌&&◌, ◌||◌, ℕ, ◌+◌, ◌*◌, ◌/◌, ◌%◌, min, ltb, eqb}
-use Rattle.model.specs.Notation.{get_or, length, replicate, take, drop, first, fill}
+use Rattle.std.specs.Prelude.{List, ◌++◌, Bool, cond, not, ◌&&◌, ◌||◌, ℕ, ◌+◌, ◌*◌, ◌/◌, ◌%◌, min, ltb, eqb, get_or, length, replicate, take, drop}
+use Rattle.model.specs.Notation.{first, fill}
 use Rattle.model.specs.Values.{Sort, Task, Table, Judgement, Writing, refusal}
 use Rattle.model.specs.Limits.{task_limit}
 use Rattle.model.specs.Tasks.{no_task, judged_mixed}
