@@ -2,7 +2,7 @@
  * Yolizadwa for C (from C99 on) and C++: judge a table of tasks, then give out time slot by slot.
  * The rules are those of docs/SPECIFICATION.md; its section 9 has the calls.
  *
- * The calls, in the static library that `rt staticlib yolizadwa` writes for x86-64:
+ * The calls, in the static library that `command/library` writes for x86-64:
  *
  *   yolizadwa_write          writes a table file from the numbers of its tasks
  *   yolizadwa_from_text      writes the table file of a table in plain text
