@@ -5,6 +5,7 @@
 use crate::bench::Bench;
 use crate::calls::CALLS;
 use crate::whole;
+use std::collections::HashSet;
 use std::fs;
 use std::path::{Path, PathBuf};
 use std::process::Command;
@@ -21,7 +22,7 @@ const ARCHITECTURE: &str = "docs/ARCHITECTURE.md";
 const CRATES: &str = "crates.txt";
 
 /// Laws that the paper names and that are no promises, each with its file.
-const OTHERS: &[(&str, &str)] = &[("gcd-unique", "crates/counting/specs/Divisors.antt")];
+const OTHERS: &[(&str, &str)] = &[("gcd_unique", "crates/counting/specs/Divisors.antt")];
 
 fn read(path: &str) -> String {
     fs::read_to_string(path).unwrap_or_else(|why| panic!("{path}: {why}"))
@@ -78,10 +79,32 @@ pub fn headlines(bench: &mut Bench) {
     bench.end_group("headlines of the theory");
 }
 
-/// The names in backquotes that look like a law's: small letters with a hyphen between.
+/// The names in backquotes that look like a law's: small letters with a low line between, and no call's, edit's, function's or
+/// definition's name.
 fn laws_told(text: &str) -> Vec<&str> {
-    let law = |word: &&str| word.contains('-') && word.chars().all(|letter| letter.is_ascii_lowercase() || letter == '-');
-    text.split('`').skip(1).step_by(2).filter(law).collect()
+    let law = |word: &&str| word.contains('_') && word.chars().all(|letter| letter.is_ascii_lowercase() || letter == '_');
+    let others = others();
+    let other = |word: &&str| !word.starts_with("yolizadwa_") && !others.contains(*word);
+    text.split('`').skip(1).step_by(2).filter(law).filter(other).collect()
+}
+
+/// What is spelled as a law is: the functions of the code, the definitions, and the must-fail edits.
+fn others() -> HashSet<String> {
+    let crates = Path::new("crates");
+    let mut found = HashSet::new();
+    for path in files_below(crates, ".rt").iter().chain(&files_below(crates, ".antt")) {
+        for line in read(&path.to_string_lossy()).lines() {
+            let words: Vec<&str> = line.split([' ', '(', '<']).filter(|word| !word.is_empty()).collect();
+            match words[..] {
+                ["fn", name, ..] | ["pub", "fn", name, ..] => found.insert(name.to_string()),
+                ["abbrev" | "unfoldable", "pub", name, ":", ..] => found.insert(name.to_string()),
+                _ => false,
+            };
+        }
+    }
+    let edits = files_below(crates, ".edit");
+    found.extend(edits.iter().filter_map(|path| Some(path.file_stem()?.to_string_lossy().into_owned())));
+    found
 }
 
 /// The laws of the promises.
@@ -220,7 +243,7 @@ pub fn calls(bench: &mut Bench) {
 /// The crates that these lines begin with, behind a mark; in order.
 fn crates_in<'a>(part: &'a str, mark: &str, end: char) -> Vec<&'a str> {
     let lines = part.lines().filter(|line| !line.starts_with('#'));
-    lines.filter_map(|line| Some(line.strip_prefix(mark)?.split_once(end)?.0)).collect()
+    lines.filter_map(|line| line.strip_prefix(mark)?.split_once(end)?.0.split_whitespace().next()).collect()
 }
 
 /// What docs/layers draws of a list of crates, if it does.

@@ -55,7 +55,8 @@ module _ (given : List ℕ) (empty n i room : ℕ) (e : Left given empty i room)
 
   pub room_beyond : i < n → room < get_or given i 0 → Room.Refused (refusal 8 sum_place) ≡ room_for given empty n
   unfolding room_for sum
-  room_beyond l h = rw (lt-ltb slot_count_limit (sum n (λ k. get_or given k 0) + empty) (omega (arith, sum_longer (λ k. get_or given k 0) (suc i) n (omega arith))))
+  room_beyond l h = rw (lt-ltb slot_count_limit (sum n (λ k. get_or given k 0) + empty)
+      (omega (arith, sum_longer (λ k. get_or given k 0) (suc i) n (omega arith))))
 
   pub room_end : i ≡ n → Room.Slots room ≡ room_for given empty n
   unfolding room_for

@@ -2,7 +2,8 @@
 use Rattle.std.specs.Prelude.{◌≡◌, refl, ℕ, zero, suc, min, ◌+◌, ◌-◌, ◌*◌, ◌/◌, ◌%◌, ◌^◌, ◌≤◌, ◌<◌}
 use Rattle.std.proofs.Common.{sym, ap, subst, ◌∙◌, div-one, le-mul_of_pos_right, mod-eq_of_lt, mul_assoc, one-mul, mul_comm, pow-suc, arith, pow-add, pow_pos}
 use Rattle.std.specs.Int.{◌∣◌}
-use Rattle.std.proofs.Math.Nat.{dvd_refl, dvd_trans, dvd-mul_left, dvd-mul_left_of_dvd, dvd_iff_mod-eq-zero, dvd_of_mul-dvd-mul_left, dvd-add, dvd-add_iff_right, mul-dvd-mul_left, div-mul_cancel, div-div-eq-div-mul, le_of_dvd, min_comm, min-eq_left, pow-succ'}
+use Rattle.std.proofs.Math.Nat.{dvd_refl, dvd_trans, dvd-mul_left, dvd-mul_left_of_dvd, dvd_iff_mod-eq-zero, dvd_of_mul-dvd-mul_left, dvd-add}
+use Rattle.std.proofs.Math.Nat.{dvd-add_iff_right, mul-dvd-mul_left, div-mul_cancel, div-div-eq-div-mul, le_of_dvd, min_comm, min-eq_left, pow-succ'}
 use Rattle.std.proofs.Math.Decide.{ℕ_discrete, dec_le}
 use Rattle.std.specs.Int.Count.{count_trailing_zeros, under}
 use Rattle.counting.specs.Divisors.{IsGcd, gcd_zero}

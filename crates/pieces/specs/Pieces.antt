@@ -16,7 +16,8 @@ module _ (p : ℕ → Bool) where
   split_last [] e = refl
   split_last (x ∷ s) e = go (p x) (split_last s) e
     where
-      go : (b : Bool) → (length_to p s ≡ length s → split p s ≡ s ∷ []) → cond b 0 (suc (length_to p s)) ≡ length (x ∷ s) → before b x (split p s) ≡ (x ∷ s) ∷ []
+      go : (b : Bool) → (length_to p s ≡ length s → split p s ≡ s ∷ []) → cond b 0 (suc (length_to p s)) ≡ length (x ∷ s) → before b x (split p s) ≡
+          (x ∷ s) ∷ []
       go true later h = absurd (omega arith)
       go false later h = rw (later (omega arith))
 

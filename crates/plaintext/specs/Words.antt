@@ -47,7 +47,8 @@ module _ (p : ℕ → Bool) where
   gaps [] = refl
   gaps (x ∷ s) = go (p x) refl (gaps s)
     where
-      go : (b : Bool) → p x ≡ b → words s ≡ words (drop (length_to in_word s) s) → words (x ∷ s) ≡ words (drop (cond (not b) 0 (suc (length_to in_word s))) (x ∷ s))
+      go : (b : Bool) → p x ≡ b → words s ≡ words (drop (length_to in_word s) s) → words (x ∷ s) ≡ words
+          (drop (cond (not b) 0 (suc (length_to in_word s))) (x ∷ s))
       go true e later = gap_first x s e ∙ later
       go false e later = refl
 

@@ -20,7 +20,8 @@ use Rattle.model.specs.Run.{tie_order}
 use Rattle.model.specs.Dispatcher.{State, given_of, slot_count, started, stepped, turn, turn_by, is_late, slot_told}
 use Rattle.model.specs.History.{state_at, state_at_by, owner_at}
 use Rattle.model.specs.Report.{Exported}
-use Rattle.model.specs.StateBuffer.{counts_at, state_bytes, buffer_of, state_in, quiet, start_written, step_written, on_file, start_exported, step_exported, handed}
+use Rattle.model.specs.StateBuffer.{counts_at, state_bytes, buffer_of, state_in, quiet}
+use Rattle.model.specs.StateBuffer.{start_written, step_written, on_file, start_exported, step_exported, handed}
 use Rattle.counting.specs.Bits.{bits_lt}
 use Rattle.counting.specs.Search.{first_le}
 use Rattle.counting.specs.Count.{count_bound, one_of_iff}

@@ -74,7 +74,8 @@ pub record Fits (d : State) : Type 0 where
   pub empty_fits : d.empty < budget_limit
 
 -- Numbers that are read where those of a list stand are that list.
-pub list_back : (f : ℕ → ℕ) (w : List ℕ) → length w ≡ task_limit → ((i : ℕ) → i < task_limit → f i ≡ get_or w i 0) → fill task_limit f (replicate task_limit 0) ≡ w
+pub list_back : (f : ℕ → ℕ) (w : List ℕ) → length w ≡ task_limit → ((i : ℕ) → i < task_limit → f i ≡ get_or w i 0) → fill task_limit f
+    (replicate task_limit 0) ≡ w
 list_back f w size same =
     ext_get_or 0 (fill task_limit f (replicate task_limit 0)) w (filled ∙ sym size)
     (λ i l. fill_passed task_limit f (replicate task_limit 0) i 0 (omega (arith, filled)) (omega (arith, filled, length-replicate {A = ℕ} task_limit 0))
@@ -204,5 +205,6 @@ state_front a b size =
     let last : four (a ++ b) (8 * task_limit) ≡ four a (8 * task_limit) = four_front a b (8 * task_limit) (omega arith) in
     let given : counts_in (a ++ b) counts_at ≡ counts_in a counts_at = fill_eq task_limit _ _ (replicate task_limit 0)
     (λ i l. eight_front a b (counts_at + 8 * i) (omega arith)) in
-    let empty : eight (a ++ b) (counts_at + 8 * task_limit) ≡ eight a (counts_at + 8 * task_limit) = eight_front a b (counts_at + 8 * task_limit) (omega arith) in
+    let empty : eight (a ++ b) (counts_at + 8 * task_limit) ≡ eight a (counts_at + 8 * task_limit) = eight_front a b (counts_at + 8 * task_limit)
+        (omega arith) in
     rw (wait, left, last, given, empty)

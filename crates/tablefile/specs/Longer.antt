@@ -13,7 +13,8 @@ use Rattle.model.specs.Tasks.{judged_mixed}
 use Rattle.model.specs.TableFile.{four, eight, task_in, button_in, refuse_file, whole, read_record, read_from, form_of, judged_form, file_read}
 
 -- Two files of more bytes than the longest legal one, with the same first ones.
-module _ (s s' : List ℕ) (long : longest_file < length s) (long' : longest_file < length s') (same : (i : ℕ) → i ≤ longest_file → get_or s i 0 ≡ get_or s' i 0) where
+module _ (s s' : List ℕ) (long : longest_file < length s) (long' : longest_file < length s')
+    (same : (i : ℕ) → i ≤ longest_file → get_or s i 0 ≡ get_or s' i 0) where
   four_same : (at : ℕ) → at + 3 ≤ longest_file → four s at ≡ four s' at
   four_same at h = rw (same at (omega arith), same (at + 1) (omega arith), same (at + 2) (omega arith), same (at + 3) (omega arith))
 
@@ -25,7 +26,8 @@ module _ (s s' : List ℕ) (long : longest_file < length s) (long' : longest_fil
   button_same at h = rw (four_same (at + 1) (omega arith), four_same (at + 1 + 4) (omega arith), four_same (at + 1 + 8) (omega arith))
 
   record_same : (b : ℕ) (ks : List Task) (at : ℕ) (go go' : ℕ → Task → Contents) → at < longest_file
-      → go task_bytes (task_in s (at + 1)) ≡ go' task_bytes (task_in s' (at + 1)) → go button_bytes (button_in s (at + 1)) ≡ go' button_bytes (button_in s' (at + 1))
+      → go task_bytes (task_in s (at + 1)) ≡ go' task_bytes (task_in s' (at + 1)) → go button_bytes (button_in s (at + 1)) ≡ go' button_bytes
+          (button_in s' (at + 1))
       → read_record s b ks at go ≡ read_record s' b ks at go'
   record_same b ks at go go' h e f =
       rw (

@@ -12,7 +12,8 @@ use Rattle.values.specs.declared.Admission.{Admission}
 use Rattle.values.specs.declared.Contents.{Contents}
 use Rattle.model.specs.Limits.{task_limit, budget_bytes, task_bytes, button_bytes, longest_file}
 use Rattle.model.specs.Tasks.{judged_mixed}
-use Rattle.model.specs.TableFile.{eight, task_in, button_in, refuse_file, admit, whole, worth, read_record, read_from, form_of, judged_table, judged_form, file_read}
+use Rattle.model.specs.TableFile.{eight, task_in, button_in, refuse_file, admit, whole}
+use Rattle.model.specs.TableFile.{worth, read_record, read_from, form_of, judged_table, judged_form, file_read}
 use Rattle.wellformed.specs.Refused.{Tellable, JudgementTellable, mixed_tellable}
 
 -- An admission that is tellable if it refuses.

@@ -30,7 +30,8 @@ module _ {A : Type 0} (refuse : Refusal → A) (tell : ℕ → Bool → Answer �
   unfolding file_read
   read_is e = ap (λ (a : Admission). judged_form judged_mixed (form_of file) a) e
 
-  pub form_refused : (r : Refusal) → (form_of file).admission ≡ Admission.Refused r → FileTold refuse tell (file_read file) (refuse r) (file_read file).admission
+  pub form_refused : (r : Refusal) → (form_of file).admission ≡ Admission.Refused r → FileTold refuse tell (file_read file) (refuse r)
+      (file_read file).admission
   unfolding file_read
   form_refused r e = rw e refl
 

@@ -84,7 +84,8 @@ taken_tellable bytes file buffer small = go (ltb (length buffer) bytes) refl
 
 pub reported_or_refused : (file buffer : List ℕ) (e : Exported)
     → Checked file buffer e → Apart (Reported (file_read file) buffer) buffer e
-reported_or_refused file buffer e = told_apart buffer (file_read file) e (taken report_bytes file buffer) (taken_tellable report_bytes file buffer (omega arith))
+reported_or_refused file buffer e = told_apart buffer (file_read file) e (taken report_bytes file buffer)
+    (taken_tellable report_bytes file buffer (omega arith))
 
 pub reported : (file buffer : List ℕ) (e : Exported) → ltb (length buffer) report_bytes ≡ false
     → (periodic_from file).admission ≡ Admission.Admitted → Checked file buffer e → Reported (file_read file) buffer e

@@ -34,7 +34,8 @@ none c =
     omega (arith, first_none (strange c.args.t c.args.d) 0 c.args.t.count (λ k l m. c.loop-i.invariant.1 k l (omega arith)))
 
 pub returns-then-last_strange : goal.returns-then-last_strange
-returns-then-last_strange c = rw (le-ltb _ _ (none (goal.at.returns-then-last_strange c).After-loop-i), ← c.last_strange.ensures, c.if-last_strange.true) c.strange_state-then-last_strange.ensures
+returns-then-last_strange c = rw (le-ltb _ _ (none (goal.at.returns-then-last_strange c).After-loop-i), ← c.last_strange.ensures,
+    c.if-last_strange.true) c.strange_state-then-last_strange.ensures
 
 pub returns : goal.returns
 unfolding slot_count room_for

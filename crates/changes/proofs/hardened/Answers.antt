@@ -29,7 +29,8 @@ pub with_share-requires : goal.with_share-requires
 with_share-requires c =
     let k = task c.args.t (task_of c.args.change) in record {
       ranged = c.requires.ranged;
-      thousandths_le_share_limit = share_reaches k c.args.change c.number_at-number.result c.args.step c.in-Share.is c.requires.step_bound (number (goal.at.with_share-requires c).After-number_at-number);
+      thousandths_le_share_limit = share_reaches k c.args.change c.number_at-number.result c.args.step c.in-Share.is c.requires.step_bound
+          (number (goal.at.with_share-requires c).After-number_at-number);
     }
 
 -- The table that is made, by what was found of the change.

@@ -42,7 +42,8 @@ pub overflow_cast-result : goal.overflow_cast-result
 overflow_cast-result c = cast_of _ _ (sum (goal.at.overflow_cast-result c).After-signed) (small (goal.at.overflow_cast-result c).Start)
 
 pub overflow_cast-result-else-m-lt0 : goal.overflow_cast-result-else-m-lt0
-overflow_cast-result-else-m-lt0 c = cast_of _ _ (kept (goal.at.overflow_cast-result-else-m-lt0 c).Else-m-lt0) (small (goal.at.overflow_cast-result-else-m-lt0 c).Start)
+overflow_cast-result-else-m-lt0 c = cast_of _ _ (kept (goal.at.overflow_cast-result-else-m-lt0 c).Else-m-lt0)
+    (small (goal.at.overflow_cast-result-else-m-lt0 c).Start)
 
 pub returns-then-m-lt0 : goal.returns-then-m-lt0
 returns-then-m-lt0 c = cast_is _ _ (sum (goal.at.returns-then-m-lt0 c).After-signed) (small (goal.at.returns-then-m-lt0 c).Start)

@@ -32,7 +32,8 @@ returns-then-n-k c =
 
 pub with_task-kept-requires : goal.with_task-kept-requires
 with_task-kept-requires c =
-    (omega (arith, c.requires.0, c.if-n-k.false), kept_lt c.args.old c.args.new c.loop-i.invariant.3 (found (goal.at.with_task-kept-requires c).After-next_eased-k) (omega arith))
+    (omega (arith, c.requires.0, c.if-n-k.false), kept_lt c.args.old c.args.new c.loop-i.invariant.3
+        (found (goal.at.with_task-kept-requires c).After-next_eased-k) (omega arith))
 
 pub overflow_add-from : goal.overflow_add-from
 overflow_add-from c = omega (arith, c.requires.0, c.if-n-k.false)

@@ -22,7 +22,8 @@ bounds-old-i c = omega (arith, c.requires)
 pub returns-then-is_eased : goal.returns-then-is_eased
 returns-then-is_eased c =
     let found = subst T (sym c.if-is_eased.true ∙ c.is_eased.ensures) tt in
-    sym (first_is (eased c.args.old c.args.k) c.args.from (c.args.old.count - c.args.from) c.loop-i.i c.loop-i.invariant.1 (omega (arith, c.loop-i.invariant.1)) found
+    sym (first_is (eased c.args.old c.args.k) c.args.from (c.args.old.count - c.args.from) c.loop-i.i c.loop-i.invariant.1
+        (omega (arith, c.loop-i.invariant.1)) found
     c.loop-i.invariant.3)
 
 pub loop-i-preserved : goal.loop-i-preserved

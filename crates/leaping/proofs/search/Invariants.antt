@@ -25,7 +25,8 @@ abbrev pub decreases-loop-count : goal.decreases-loop-count
 decreases-loop-count l = l.at - l.count
 
 abbrev pub invariant-search : goal.invariant-search
-invariant-search l = Here l.t l.period l.cost l.deadline l.releases l.ready l.left l.worst l.last l.end l.here × Marked l.t l.mark × (l.asked ≡ 0) × (l.at ≡ l.end)
+invariant-search l = Here l.t l.period l.cost l.deadline l.releases l.ready l.left l.worst l.last l.end l.here × Marked l.t l.mark × (l.asked ≡ 0) ×
+    (l.at ≡ l.end)
 
 abbrev pub decreases-search : goal.decreases-search
 decreases-search l = l.end - l.here.time

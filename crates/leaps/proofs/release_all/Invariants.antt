@@ -12,7 +12,8 @@ use borrow.Author.Rules.{rules}
 use Rattle.leaps.proofs.release_all.Given as goal
 
 abbrev pub invariant-loop-i : goal.invariant-loop-i
-invariant-loop-i l = (t : Table) → Due t l.period l.cost l.deadline l.initial.releases l.initial.ready l.initial.left l.last l.at l.opened → Releasing t l.at l.releases l.ready l.left l.jobs
+invariant-loop-i l = (t : Table) → Due t l.period l.cost l.deadline l.initial.releases l.initial.ready l.initial.left l.last l.at l.opened → Releasing
+    t l.at l.releases l.ready l.left l.jobs
 
 abbrev pub decreases-loop-i : goal.decreases-loop-i
 decreases-loop-i l = (l.at + 1) * span - at l.releases l.last

@@ -45,7 +45,8 @@ small : (c : After-task_of-i) → at c.args.left.now c.task_of-i.result ≤ slot
 small c =
     let (t, y) = c.requires in
     rw c.task_of-i.ensures
-    (left_small t y.ranged y.light y.clear y.held y.tally (c.time_of-soon.ensures ∙ ap (λ (k : ℕ). at c.args.releases.now k / span) y.last_is) y.before (omega (arith, c.if-jobs-eq0.false)))
+    (left_small t y.ranged y.light y.clear y.held y.tally (c.time_of-soon.ensures ∙ ap (λ (k : ℕ). at c.args.releases.now k / span) y.last_is)
+        y.before (omega (arith, c.if-jobs-eq0.false)))
 
 -- It is within the arrays.
 low : (c : After-task_of-i) → c.task_of-i.result < task_limit
@@ -62,7 +63,8 @@ rest-requires c = let y = c.requires.1 in omega (arith, y.before, y.limit)
 
 pub returns-then-jobs-eq0 : goal.returns-then-jobs-eq0
 returns-then-jobs-eq0 c t y =
-    rw c.rest.ensures (rests t y.ranged y.light y.clear y.held y.tally (soon (goal.at.returns-then-jobs-eq0 c).After-time_of-soon t y) y.before c.if-jobs-eq0.true)
+    rw c.rest.ensures (rests t y.ranged y.light y.clear y.held y.tally (soon (goal.at.returns-then-jobs-eq0 c).After-time_of-soon t y) y.before
+        c.if-jobs-eq0.true)
 
 pub offset_bounds-ready-jobs : goal.offset_bounds-ready-jobs
 offset_bounds-ready-jobs c = omega (arith, few (goal.at.offset_bounds-ready-jobs c).Else-jobs-eq0)
@@ -79,14 +81,16 @@ overflow_add-done c = let y = c.requires.1 in omega (arith, small (goal.at.overf
 pub returns-then-due-soon : goal.returns-then-due-soon
 returns-then-due-soon c t y =
     rw c.stop.ensures
-    (stops t y.ranged y.light y.clear y.held y.tally (soon (goal.at.returns-then-due-soon c).After-time_of-soon t y) y.before (busy (goal.at.returns-then-due-soon c).Else-jobs-eq0)
+    (stops t y.ranged y.light y.clear y.held y.tally (soon (goal.at.returns-then-due-soon c).After-time_of-soon t y) y.before
+        (busy (goal.at.returns-then-due-soon c).Else-jobs-eq0)
     c.task_of-i.ensures c.time_of-due.ensures refl
     (inl (omega (arith, c.if-due-soon.true, c.if-soon-done.true), omega (arith, c.if-due-soon.true))))
 
 pub returns-then-end-soon : goal.returns-then-end-soon
 returns-then-end-soon c t y =
     rw c.stop-then-end-soon.ensures
-    (stops t y.ranged y.light y.clear y.held y.tally (soon (goal.at.returns-then-end-soon c).After-time_of-soon t y) y.before (busy (goal.at.returns-then-end-soon c).Else-jobs-eq0)
+    (stops t y.ranged y.light y.clear y.held y.tally (soon (goal.at.returns-then-end-soon c).After-time_of-soon t y) y.before
+        (busy (goal.at.returns-then-end-soon c).Else-jobs-eq0)
     c.task_of-i.ensures c.time_of-due.ensures refl
     (inr (
       omega (arith, c.if-end-soon.true, c.if-soon-done.true),
@@ -107,14 +111,16 @@ returns-then-soon-done c t y =
 pub returns-then-due-done : goal.returns-then-due-done
 returns-then-due-done c t y =
     rw c.stop-then-due-done.ensures
-    (stops t y.ranged y.light y.clear y.held y.tally (soon (goal.at.returns-then-due-done c).After-time_of-soon t y) y.before (busy (goal.at.returns-then-due-done c).Else-jobs-eq0)
+    (stops t y.ranged y.light y.clear y.held y.tally (soon (goal.at.returns-then-due-done c).After-time_of-soon t y) y.before
+        (busy (goal.at.returns-then-due-done c).Else-jobs-eq0)
     c.task_of-i.ensures c.time_of-due.ensures refl
     (inl (omega (arith, c.if-due-done.true), omega (arith, c.if-due-done.true, c.if-soon-done.false))))
 
 pub returns-then-end-done : goal.returns-then-end-done
 returns-then-end-done c t y =
     rw c.stop-then-end-done.ensures
-    (stops t y.ranged y.light y.clear y.held y.tally (soon (goal.at.returns-then-end-done c).After-time_of-soon t y) y.before (busy (goal.at.returns-then-end-done c).Else-jobs-eq0)
+    (stops t y.ranged y.light y.clear y.held y.tally (soon (goal.at.returns-then-end-done c).After-time_of-soon t y) y.before
+        (busy (goal.at.returns-then-end-done c).Else-jobs-eq0)
     c.task_of-i.ensures c.time_of-due.ensures refl
     (inr (
       omega (arith, c.if-end-done.true),
@@ -127,7 +133,8 @@ overflow_sub-jobs c = omega (arith, busy (goal.at.overflow_sub-jobs c).Else-jobs
 
 -- The owner's deadline, read from its entry.
 deadline-is : (c : After-task_of-i) (t : Table) →
-    (y : Ready t c.args.deadline.now c.args.releases.now c.args.ready.now c.args.left.now c.args.worst.now c.args.last c.args.at c.args.end c.args.jobs c.args.idle)
+    (y : Ready t c.args.deadline.now c.args.releases.now c.args.ready.now c.args.left.now c.args.worst.now c.args.last c.args.at c.args.end
+        c.args.jobs c.args.idle)
     → at c.args.deadline.now c.task_of-i.result / span ≡ (task t c.task_of-i.result).deadline
 deadline-is c t y = ap (λ (x : ℕ). x / span) (y.deadlines _ (own c t y)) ∙ entry_time t y.ranged _ c.task_of-i.result (own c t y)
 
@@ -141,7 +148,8 @@ finish-requires c =
       omega (arith, few (goal.at.finish-requires c).Else-jobs-eq0),
       omega (arith, c.if-due-done.false),
       omega (arith, spare, d),
-      omega (arith, d, (y.ranged.each _ (own (goal.at.finish-requires c).After-task_of-i t y)).deadline_le, (y.ranged.each _ (own (goal.at.finish-requires c).After-task_of-i t y)).period_le),
+      omega (arith, d, (y.ranged.each _ (own (goal.at.finish-requires c).After-task_of-i t y)).deadline_le,
+          (y.ranged.each _ (own (goal.at.finish-requires c).After-task_of-i t y)).period_le),
     )
 
 pub returns : goal.returns

@@ -27,7 +27,8 @@ compared c b e =
 
 pub returns-then-same : goal.returns-then-same
 returns-then-same c =
-    sym (sym c.loop-left.invariant.1 ∙ first_line_is c.loop-left.left.now c.args.line.now c.find-end.ensures.value (compared (goal.at.returns-then-same c).After-same _ c.if-same.true))
+    sym (sym c.loop-left.invariant.1 ∙ first_line_is c.loop-left.left.now c.args.line.now c.find-end.ensures.value
+        (compared (goal.at.returns-then-same c).After-same _ c.if-same.true))
 
 pub returns-then-end-left : goal.returns-then-end-left
 returns-then-end-left c =

@@ -18,7 +18,8 @@ use Rattle.plain.specs.Walking.{Walking, walking_start, walking_next}
 use Rattle.plain.proofs.walk.Given as goal
 
 abbrev pub invariant-loop-from : goal.invariant-loop-from
-invariant-loop-from l = (l.from ≤ l.at) × (l.asked ≡ demand l.t l.from l.at) × (l.asked ≤ l.at - l.from) × ((later : ℕ) → l.from < later → later < l.at → T (asks_too_much l.t later l.at) → ⊥)
+invariant-loop-from l = (l.from ≤ l.at) × (l.asked ≡ demand l.t l.from l.at) × (l.asked ≤ l.at - l.from) ×
+    ((later : ℕ) → l.from < later → later < l.at → T (asks_too_much l.t later l.at) → ⊥)
 
 abbrev pub decreases-loop-from : goal.decreases-loop-from
 decreases-loop-from l = l.from

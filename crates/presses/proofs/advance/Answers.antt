@@ -3,7 +3,8 @@ use mathlib.Core.Path.{refl}
 use borrow.Author.Rules.{rules}
 use Rattle.backlog.specs.Taken.{Belongs}
 use Rattle.presses.specs.Step.{advanced_is}
-use Rattle.presses.proofs.advance.Goals.{After-after_report-open, After-close_all, After-free_set-free, After-late_set-late, After-put_all, After-rank-2-1, After-unpack-columns, Start}
+use Rattle.presses.proofs.advance.Goals.{After-after_report-open, After-close_all, After-free_set-free, After-late_set-late}
+use Rattle.presses.proofs.advance.Goals.{After-put_all, After-rank-2-1, After-unpack-columns, Start}
 use Rattle.presses.proofs.advance.Goals as goal
 
 -- The arrays have their length.
@@ -30,7 +31,9 @@ abbrev unpack-from : After-free_set-free → After-unpack-columns
 unpack-from c = (goal.at.After-free_set-free c).After-unpack-columns
 
 pub serve-seen-requires : goal.serve-seen-requires
-serve-seen-requires c = (unpack-from (free-from (report-from (late-from (closing-from (held-from (goal.at.serve-seen-requires c).After-rank-2-1)))))).before.requires.ranged.few
+serve-seen-requires c =
+    (unpack-from (free-from
+    (report-from (late-from (closing-from (held-from (goal.at.serve-seen-requires c).After-rank-2-1)))))).before.requires.ranged.few
 
 pub returns : goal.returns
 returns c =

@@ -38,7 +38,8 @@ pub loop-at-smaller-then-from-end : goal.loop-at-smaller-then-from-end
 loop-at-smaller-then-from-end c = omega arith
 
 pub loop-at-preserved-then-from-end : goal.loop-at-preserved-then-from-end
-loop-at-preserved-then-from-end c = (omega arith, λ t u r. c.read_bytes-next.ensures t _ u (run_in (goal.at.loop-at-preserved-then-from-end c).After-read_in_place-run t u r))
+loop-at-preserved-then-from-end c =
+    (omega arith, λ t u r. c.read_bytes-next.ensures t _ u (run_in (goal.at.loop-at-preserved-then-from-end c).After-read_in_place-run t u r))
 
 pub loop-at-smaller : goal.loop-at-smaller
 loop-at-smaller c = omega arith

@@ -32,17 +32,20 @@ now c = let (t, start, u, r) = (start-from c).requires.unpacked in (c.loop-i.inv
 moved : (c : After-advance-moved) (t : Table) → let s = (start-from (goal.at.After-advance-moved c).At-loop-i).args in
     Unpacked t s.period.now s.cost.now s.slack.now s.rank.now s.n → Readable t (here (goal.at.After-advance-moved c).At-loop-i)
     → Advanced t (here (goal.at.After-advance-moved c).At-loop-i).state c.loop-i.read.done c.advance-moved.result
-moved c t unpacked readable = c.advance-moved.ensures t c.loop-i.given c.loop-i.empty unpacked (steps t (here (goal.at.After-advance-moved c).At-loop-i) readable)
+moved c t unpacked readable = c.advance-moved.ensures t c.loop-i.given c.loop-i.empty unpacked
+    (steps t (here (goal.at.After-advance-moved c).At-loop-i) readable)
 
 pub advance-moved-requires : goal.advance-moved-requires
 advance-moved-requires c =
     let s = start-from (goal.at.advance-moved-requires c).At-loop-i in
-    (s.requires.unpacked.0, c.loop-i.given, c.loop-i.empty, s.requires.unpacked.2, steps _ (here (goal.at.advance-moved-requires c).At-loop-i) (now (goal.at.advance-moved-requires c).At-loop-i))
+    (s.requires.unpacked.0, c.loop-i.given, c.loop-i.empty, s.requires.unpacked.2, steps _ (here (goal.at.advance-moved-requires c).At-loop-i)
+        (now (goal.at.advance-moved-requires c).At-loop-i))
 
 pub count_given-requires : goal.count_given-requires
 count_given-requires c =
     let s = start-from (goal.at.count_given-requires c).At-loop-i in
-    owner_room s.requires.unpacked.0 (here (goal.at.count_given-requires c).At-loop-i).state c.loop-i.read.done (steps _ (here (goal.at.count_given-requires c).At-loop-i) (now (goal.at.count_given-requires c).At-loop-i)) c.advance-moved.result
+    owner_room s.requires.unpacked.0 (here (goal.at.count_given-requires c).At-loop-i).state c.loop-i.read.done
+        (steps _ (here (goal.at.count_given-requires c).At-loop-i) (now (goal.at.count_given-requires c).At-loop-i)) c.advance-moved.result
     (moved (goal.at.count_given-requires c).After-advance-moved s.requires.unpacked.0 s.requires.unpacked.2 (now (goal.at.count_given-requires c).At-loop-i))
 
 pub count_empty-empty-requires : goal.count_empty-empty-requires
@@ -95,7 +98,8 @@ loop-i-preserved c =
     let below = (start-from (goal.at.loop-i-preserved c).At-loop-i).requires.from_le_to.1 in (
       omega arith,
       omega arith,
-      λ t start u r. let here = c.loop-i.invariant.2 t start u r in one_more (omega (arith, below)) here (turned (goal.at.loop-i-preserved c).Joined-ends_slot t u here.may),
+      λ t start u r. let here = c.loop-i.invariant.2 t start u r in one_more (omega (arith, below)) here
+          (turned (goal.at.loop-i-preserved c).Joined-ends_slot t u here.may),
     )
 
 pub returns : goal.returns

@@ -74,7 +74,8 @@ count_given-requires c =
 
 pub count_empty-empty-requires : goal.count_empty-empty-requires
 unfolding slot_count
-count_empty-empty-requires c = let turn = turn-from (goal.at.count_empty-empty-requires c).Else-not-is_met in omega (arith, (steps _ (here turn) (now turn)).room)
+count_empty-empty-requires c = let turn = turn-from (goal.at.count_empty-empty-requires c).Else-not-is_met in omega
+    (arith, (steps _ (here turn) (now turn)).room)
 
 -- The counts have room for one more.
 room : (c : At-loop-log) → (c.loop-log.read.slots ≤ log_limit) × (c.loop-log.read.bytes ≤ log_limit)
@@ -121,7 +122,8 @@ loop-log-preserved c =
     let within = (start-from (goal.at.loop-log-preserved c).At-loop-log).requires.from_le_to.1 in (
       omega arith,
       omega arith,
-      λ t start u r. let here = c.loop-log.invariant.2 t start u r in one_more (omega (arith, left, within)) here (turned (goal.at.loop-log-preserved c).Joined-ends_slot t u here.may),
+      λ t start u r. let here = c.loop-log.invariant.2 t start u r in one_more (omega (arith, left, within)) here
+          (turned (goal.at.loop-log-preserved c).Joined-ends_slot t u here.may),
     )
 
 pub returns : goal.returns

@@ -8,7 +8,8 @@ use Rattle.counting.specs.Put.{Put}
 use Rattle.statebuffer.proofs.put_words.Given as goal
 
 abbrev pub invariant-loop-i : goal.invariant-loop-i
-invariant-loop-i l = (l.i ≤ task_limit) × (length l.buffer ≡ length l.initial.buffer) × (l.next ≡ l.at + 4 * l.i) × Put (bytes_of (take l.i l.words)) l.at l.initial.buffer l.buffer l.next
+invariant-loop-i l = (l.i ≤ task_limit) × (length l.buffer ≡ length l.initial.buffer) × (l.next ≡ l.at + 4 * l.i) × Put (bytes_of (take l.i l.words))
+    l.at l.initial.buffer l.buffer l.next
 
 abbrev pub decreases-loop-i : goal.decreases-loop-i
 decreases-loop-i l = task_limit - l.i

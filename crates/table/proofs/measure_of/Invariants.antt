@@ -17,7 +17,8 @@ abbrev pub start : Table → ℕ → ℕ
 start t i = offset (task t i)
 
 abbrev pub invariant-loop-i : goal.invariant-loop-i
-invariant-loop-i l = (l.i ≤ l.n) × (l.load ≤ l.i * round_limit) × (l.load ≡ sum l.i (share l.t l.round)) × (l.latest ≤ slot_limit) × (l.latest ≡ largest l.i (start l.t))
+invariant-loop-i l = (l.i ≤ l.n) × (l.load ≤ l.i * round_limit) × (l.load ≡ sum l.i (share l.t l.round)) × (l.latest ≤ slot_limit) ×
+    (l.latest ≡ largest l.i (start l.t))
 
 abbrev pub decreases-loop-i : goal.decreases-loop-i
 decreases-loop-i l = l.n - l.i

@@ -86,7 +86,9 @@ read c =
 pub returns-then-round-gt-ROUND_LIMIT : goal.returns-then-round-gt-ROUND_LIMIT
 returns-then-round-gt-ROUND_LIMIT c =
     let t = c.args.t in
-    rw c.refused-then-round-gt-ROUND_LIMIT.ensures (mixed_long t (read_ranged t _ _ (omega arith) (omega arith) (read (goal.at.returns-then-round-gt-ROUND_LIMIT c).After-loop-i)) (read_long t _ _ (omega arith) (omega arith) (read (goal.at.returns-then-round-gt-ROUND_LIMIT c).After-loop-i)
+    rw c.refused-then-round-gt-ROUND_LIMIT.ensures
+        (mixed_long t (read_ranged t _ _ (omega arith) (omega arith) (read (goal.at.returns-then-round-gt-ROUND_LIMIT c).After-loop-i))
+        (read_long t _ _ (omega arith) (omega arith) (read (goal.at.returns-then-round-gt-ROUND_LIMIT c).After-loop-i)
     (omega arith)))
 
 pub returns : goal.returns

@@ -11,7 +11,8 @@ use Rattle.text.specs.Pieces.{copied}
 use Rattle.text.proofs.put_text.Given as goal
 
 abbrev pub invariant-loop-i : goal.invariant-loop-i
-invariant-loop-i l = (l.i-end ≡ length l.bytes) × (l.i ≤ l.i-end) × (length l.buffer ≡ length l.initial.buffer) × Put (take l.i l.bytes) l.at l.initial.buffer l.buffer (l.at + l.i)
+invariant-loop-i l = (l.i-end ≡ length l.bytes) × (l.i ≤ l.i-end) × (length l.buffer ≡ length l.initial.buffer) × Put (take l.i l.bytes) l.at
+    l.initial.buffer l.buffer (l.at + l.i)
 
 abbrev pub decreases-loop-i : goal.decreases-loop-i
 decreases-loop-i l = l.i-end - l.i
