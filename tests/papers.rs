@@ -294,10 +294,11 @@ pub fn layers(bench: &mut Bench) {
     bench.end_group("layers, and what their paper names");
 }
 
-/// The files below a folder that end so.
+/// The files below a folder that end so, but for those that rt makes, in out/.
 fn files_below(folder: &Path, ending: &str) -> Vec<PathBuf> {
     let entries = fs::read_dir(folder).unwrap_or_else(|why| panic!("{}: {why}", folder.display()));
-    let paths = entries.map(|entry| entry.expect("an entry").path());
+    let all = entries.map(|entry| entry.expect("an entry").path());
+    let paths = all.filter(|path| !path.ends_with("out"));
     let (folders, files): (Vec<PathBuf>, Vec<PathBuf>) = paths.partition(|path| path.is_dir());
     let here = files.into_iter().filter(|path| path.to_string_lossy().ends_with(ending));
     here.chain(folders.iter().flat_map(|inner| files_below(inner, ending))).collect()

@@ -1,6 +1,6 @@
 -- What a permitted answer tells: a refusal of which number and place can be told, or a verdict whose report fits a report buffer.
 use Rattle.std.specs.Prelude.{◌≡◌, refl, Bool, List, ℕ, ◌^◌, ◌≤◌, ◌<◌, length, get_or, T}
-use Rattle.std.proofs.Common.{sym, ap, subst, arith}
+use Rattle.std.proofs.Common.{ap, subst, arith}
 use Rattle.std.proofs.lemmas.List.{get_or-replicate}
 use Rattle.values.specs.declared.Table.{Table}
 use Rattle.values.specs.declared.Measure.{Measure}
@@ -17,7 +17,7 @@ use Rattle.model.specs.Report.{report_of}
 use Rattle.model.specs.Demand.{late_at}
 use Rattle.counting.specs.Search.{first_le}
 use Rattle.wellformed.specs.Round.{load_le}
-use Rattle.wellformed.specs.Refused.{Tellable, JudgementTellable, judged_tellable}
+use Rattle.wellformed.specs.Refused.{Tellable}
 use Rattle.wellformed.specs.WellFormed.{WellFormed, well_formed}
 use Rattle.wellformed.specs.Demand.{demand_le}
 use Rattle.backlog.specs.TooMuch.{too_much_iff}
@@ -28,7 +28,7 @@ use Rattle.backlog.specs.PassedWorst.{met_of_passed}
 use Rattle.backlog.specs.AnswersSay.{answers_say}
 use Rattle.backlog.specs.TableSystem.{tie_system}
 use Rattle.backlog.specs.Worst.{worst_range}
-use Rattle.report.specs.Fits.{Wide, VerdictWide, Printable, fits}
+use Rattle.report.specs.Fits.{Wide, VerdictWide, Printable}
 
 module _ (t : Table) (m : Measure) (well : WellFormed t m) where
   round_wide : Wide (round t)
@@ -81,7 +81,7 @@ module _ (t : Table) (m : Measure) (well : WellFormed t m) where
       verdict = w;
     }
 
-    printable : (a : Answer) (v : Verdict) → verdict t budget ≡ v → Answers t budget m a v → Printable t.count a v
+    pub printable : (a : Answer) (v : Verdict) → verdict t budget ≡ v → Answers t budget m a v → Printable t.count a v
     printable a v e p = go v e p (subst VerdictWide e (verdict_wide (verdict t budget) (settled_by t budget) (the_case t budget)).0)
       where
         go : (v : Verdict) → verdict t budget ≡ v → Answers t budget m a v → VerdictWide v → Printable t.count a v
@@ -115,13 +115,3 @@ permitted_printable t budget a v o p = go (judged t) refl p
 abbrev pub Fitting : ℕ → Bool → Answer → Outcome → Type 0
 Fitting n quick a (Outcome.Refused r) = Tellable r
 Fitting n quick a (Outcome.Tested v) = length (report_of n quick a v) ≤ report_bytes
-
-pub permitted_fits : (t : Table) (budget : ℕ) (quick : Bool) (a : Answer) → Permitted t budget a → Fitting t.count quick a a.outcome
-unfolding Permitted
-permitted_fits t budget quick a p = go (judged t) refl p (judged_tellable t)
-  where
-    go : (j : Judgement) → judged t ≡ j → PermittedBy t budget a j → JudgementTellable j → Fitting t.count quick a a.outcome
-    go (Judgement.Refused r) q f h = rw f h
-    go (Judgement.WellFormed m) q f h =
-        subst (Fitting t.count quick a) (sym (answers_say t budget m a (verdict t budget) f).0)
-        (fits t.count quick a (verdict t budget) (printable t m (well_formed t m q) budget a (verdict t budget) refl f))

@@ -26,7 +26,8 @@ use Rattle.model.specs.Report.{Exported, refused, outcome_told, FileTold, report
 use Rattle.model.specs.AnswerBuffer.{answer_bytes, numbers_by, numbers_of, answer_buffer, numbers_in, numbers_written, Answered}
 use Rattle.backlog.specs.Unique.{permitted_unique}
 use Rattle.report.specs.Fits.{Wide, Printable}
-use Rattle.report.specs.Permitted.{permitted_printable, Fitting, permitted_fits}
+use Rattle.report.specs.Permitted.{permitted_printable, Fitting}
+use Rattle.report.proofs.Permitted.{permitted_fits}
 use Rattle.tablefile.specs.Periodic.{periodic_read}
 use Rattle.tablefile.specs.Refused.{AdmissionTellable}
 use Rattle.statebuffer.specs.Told.{Apart}

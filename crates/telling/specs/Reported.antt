@@ -20,7 +20,8 @@ use Rattle.model.specs.Report.{report_of, Exported, refused, written, outcome_to
 use Rattle.backlog.specs.AnswersSay.{answers_say}
 use Rattle.tablefile.specs.Periodic.{periodic_read}
 use Rattle.tablefile.specs.Refused.{AdmissionTellable, read_tellable}
-use Rattle.report.specs.Permitted.{Fitting, permitted_fits}
+use Rattle.report.specs.Permitted.{Fitting}
+use Rattle.report.proofs.Permitted.{permitted_fits}
 use Rattle.statebuffer.specs.Told.{Apart}
 
 -- Whether a buffer that must have this many bytes and a file are taken: the buffer is looked at first.

@@ -3,7 +3,7 @@ use native.Mathlib.Omega.{arith}
 use Rattle.model.specs.Notation.{text, decimal}
 use Rattle.model.specs.Report.{line}
 use Rattle.counting.specs.Put.{Put}
-use Rattle.report.specs.Fits.{worst_short}
+use Rattle.report.proofs.Fits.{worst_short}
 use Rattle.report.proofs.put_worst_line.Goals as goal
 
 pub returns : goal.returns
