@@ -18,8 +18,8 @@ use Rattle.wellformed.specs.Round.{RoundKept, round_same}
 use Rattle.wellformed.specs.WellFormed.{Buttonless, horizon_same, judged_iff}
 use Rattle.backlog.specs.Verdicts.{passes_needed_iff}
 use Rattle.backlog.specs.Needed.{none_within}
-use Rattle.backlog.specs.Eased.{eased_passes}
-use Rattle.backlog.specs.Largest.{pass_iff}
+use Rattle.backlog.proofs.Eased.{eased_passes}
+use Rattle.backlog.proofs.Largest.{pass_iff}
 use Rattle.changes.specs.Hardening.{Hardening}
 
 -- No cost is above its deadline, and the test for it.

@@ -16,7 +16,7 @@ use Rattle.counting.specs.Search.{first_is}
 use Rattle.counting.specs.Halving.{Edge, edge_last}
 use Rattle.wellformed.specs.Ranges.{Ranged}
 use Rattle.wellformed.specs.WellFormed.{judged_iff}
-use Rattle.backlog.specs.Largest.{pass_iff, ranged_with, largest_is}
+use Rattle.backlog.proofs.Largest.{pass_iff, ranged_with, largest_is}
 use Rattle.changes.specs.Hardening.{hardened, steps, number_at, hardening, own_step, own_step_lem, own_within, first_step}
 use Rattle.changes.specs.Fits.{fits_iff, step_ranged, step_well, fits_falls}
 

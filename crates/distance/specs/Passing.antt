@@ -16,9 +16,9 @@ use Rattle.counting.specs.Divisors.{gcd_pos}
 use Rattle.wellformed.specs.Ranges.{Ranged}
 use Rattle.wellformed.specs.WellFormed.{WellFormed, well_mixed}
 use Rattle.patterns.specs.Starting.{starting_eq}
-use Rattle.patterns.specs.Distance.{divisor_is}
-use Rattle.patterns.specs.DistancePass.{pattern_low}
-use Rattle.patterns.specs.QuickDistance.{quick_distance}
+use Rattle.patterns.proofs.Distance.{divisor_is}
+use Rattle.patterns.proofs.DistancePass.{pattern_low}
+use Rattle.patterns.proofs.QuickDistance.{quick_distance}
 use Rattle.slots.specs.Slot.{at}
 use Rattle.slots.specs.Columns.{column}
 use Rattle.slots.specs.Laws.{fill_has}

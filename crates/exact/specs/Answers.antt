@@ -20,9 +20,9 @@ use Rattle.backlog.specs.TooMuch.{too_much_iff}
 use Rattle.backlog.specs.Needed.{needed_is, needed_le, none_within}
 use Rattle.backlog.specs.LateStart.{start_is}
 use Rattle.backlog.specs.Verdicts.{is_overload, is_undecided, is_late_lem, is_passed_lem}
-use Rattle.backlog.specs.PassedWorst.{met_of_passed}
+use Rattle.backlog.proofs.PassedWorst.{met_of_passed}
 use Rattle.backlog.specs.Walk.{Clear}
-use Rattle.backlog.specs.WalkWorst.{walk_worsts}
+use Rattle.backlog.proofs.WalkWorst.{walk_worsts}
 use Rattle.patterns.specs.FirstIdle.{first_idle_lem}
 use Rattle.walks.specs.declared.Course.{Course}
 use Rattle.walks.specs.Tally.{Tally, idle_is}

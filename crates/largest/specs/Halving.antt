@@ -16,7 +16,7 @@ use Rattle.wellformed.specs.Ranges.{Ranged}
 use Rattle.wellformed.specs.Round.{load_le}
 use Rattle.wellformed.specs.WellFormed.{judged_iff}
 use Rattle.backlog.specs.AnswersSay.{answers_say}
-use Rattle.backlog.specs.Largest.{ranged_with, round_with, load_with, own_passes, largest_is}
+use Rattle.backlog.proofs.Largest.{ranged_with, round_with, load_with, own_passes, largest_is}
 use Rattle.patterns.specs.Quick.{quick_passes}
 
 -- A well-formed table keeps its ranges.

@@ -18,9 +18,10 @@ use Rattle.backlog.specs.TooMuch.{too_much_iff, late_at_iff}
 use Rattle.slots.specs.Slot.{at}
 use Rattle.leaps.specs.Queue.{Queue, inserted, alike, last_least, but_last, put_in}
 use Rattle.leaps.specs.AtMost.{at_most}
-use Rattle.leaps.specs.Entry.{places, span, entry, entry_task, entry_time, entry_same, entry_le}
-use Rattle.leaps.specs.Held.{but, but_here, but_other}
-use Rattle.leaps.specs.Land.{strict}
+use Rattle.leaps.specs.Entry.{places, span, entry}
+use Rattle.leaps.proofs.Entries.{entry_task, entry_time, entry_same, entry_le}
+use Rattle.leaps.proofs.Held.{but, but_here, but_other}
+use Rattle.leaps.proofs.Land.{strict}
 
 module _ (t : Table) (to : ℕ) where
   -- The jobs of task i that are due by `to`.

@@ -17,9 +17,9 @@ use Rattle.counting.specs.Search.{below_suc}
 use Rattle.wellformed.specs.Ranges.{Ranged}
 use Rattle.backlog.specs.Choice.{NoLater, chosen_same}
 use Rattle.backlog.specs.Taken.{closed_late_iff, chosen, wait_after, left_after}
-use Rattle.backlog.specs.Stepping.{sound}
+use Rattle.backlog.proofs.Stepping.{sound}
 use Rattle.backlog.specs.Walk.{quiet, walked, Clear}
-use Rattle.backlog.specs.WalkLate.{late_iff}
+use Rattle.backlog.proofs.WalkLate.{late_iff}
 use Rattle.backlog.specs.WalkWorst.{noted, worst_by, worst_seen}
 
 -- What a task waits at its deadline: T - D.

@@ -5,11 +5,8 @@ pub mod AtMost
 pub mod Leap
 pub mod Idling
 pub mod Held
-pub mod Firsts
 pub mod Columns
-pub mod Releasing
 pub mod Landed
-pub mod Land
 pub mod Turn
 pub mod Leaping
 pub mod Skipping

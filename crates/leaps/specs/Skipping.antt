@@ -12,7 +12,7 @@ use Rattle.counting.specs.Search.{largest_le, least_le}
 use Rattle.wellformed.specs.Ranges.{Ranged}
 use Rattle.backlog.specs.Walk.{walked, Clear}
 use Rattle.backlog.specs.WalkWorst.{worst_by}
-use Rattle.backlog.specs.TableSystem.{tie_cycle}
+use Rattle.backlog.proofs.TableSystem.{tie_cycle}
 use Rattle.patterns.specs.FirstIdle.{first_idle_lem}
 use Rattle.patterns.specs.WalkIdle.{walk_idle_at}
 use Rattle.patterns.specs.RoundAgain.{Rests}

@@ -14,13 +14,14 @@ use Rattle.model.specs.Patterns.{starting_at, calm_by, calm}
 use Rattle.counting.specs.Count.{every_iff, count_eq}
 use Rattle.counting.specs.Below.{below}
 use Rattle.wellformed.specs.Ranges.{Ranged}
-use Rattle.backlog.specs.System.{System, release_of, Apart, coming, coming_dues, released_apart, jobs, dues}
-use Rattle.backlog.specs.ModelRun.{served_of, model_run}
+use Rattle.backlog.specs.System.{System, release_of, Apart}
+use Rattle.backlog.proofs.System.{coming, coming_dues, released_apart, jobs, dues}
+use Rattle.backlog.proofs.ModelRun.{served_of, model_run}
 use Rattle.backlog.specs.Streams.{Jobs, Run}
 use Rattle.backlog.specs.Criterion.{Dues, Late, late_iff_over}
-use Rattle.backlog.specs.TableSystem.{tie_system}
+use Rattle.backlog.proofs.TableSystem.{tie_system}
 use Rattle.backlog.specs.TooMuch.{NeverTooMuch, never_iff}
-use Rattle.backlog.specs.EveryInstant.{over_iff}
+use Rattle.backlog.proofs.EveryInstant.{over_iff}
 use Rattle.patterns.specs.Waiting.{Idle}
 use Rattle.patterns.specs.IdleInstants.{idle_streams}
 use Rattle.patterns.specs.FirstIdle.{first_idle_lem, first_any_order}

@@ -16,11 +16,13 @@ use Rattle.counting.specs.Search.{first_from, first_before, first_passes, first_
 use Rattle.counting.specs.Below.{below, below_none, below_later_le}
 use Rattle.wellformed.specs.Ranges.{Ranged}
 use Rattle.wellformed.specs.Round.{round_pos}
-use Rattle.backlog.specs.System.{System, size, cost_of, release_of, jobs}
-use Rattle.backlog.specs.ModelRun.{served_of, model_run}
-use Rattle.backlog.specs.Shift.{Cycle, load_of, release_later}
-use Rattle.backlog.specs.TableSystem.{system_of, cycle_of, load_is}
-use Rattle.backlog.specs.Passes.{never_of_passed}
+use Rattle.backlog.specs.System.{System, size, cost_of, release_of}
+use Rattle.backlog.proofs.System.{jobs}
+use Rattle.backlog.proofs.ModelRun.{served_of, model_run}
+use Rattle.backlog.specs.Shift.{Cycle, load_of}
+use Rattle.backlog.proofs.Shift.{release_later}
+use Rattle.backlog.proofs.TableSystem.{system_of, cycle_of, load_is}
+use Rattle.backlog.proofs.Passes.{never_of_passed}
 use Rattle.patterns.specs.Waiting.{all_released}
 use Rattle.patterns.specs.IdleSoon.{idle_soon}
 use Rattle.patterns.specs.IdleInstants.{idle_streams, idle_any_order}

@@ -3,8 +3,10 @@ use Rattle.std.specs.Prelude.{ℕ, ◌+◌, ◌*◌}
 use native.Mathlib.Omega.{arith}
 use Rattle.counting.specs.Sum.{sum_zero, sum_member}
 use Rattle.backlog.specs.Streams.{Run, left, left_of, work_at}
-use Rattle.backlog.specs.System.{System, size, spread, key_of, jobs, released_by}
-use Rattle.backlog.specs.Shift.{Cycle, left_up}
+use Rattle.backlog.specs.System.{System, size, spread, key_of, released_by}
+use Rattle.backlog.proofs.System.{jobs}
+use Rattle.backlog.specs.Shift.{Cycle}
+use Rattle.backlog.proofs.Shift.{left_up}
 use Rattle.patterns.specs.Waiting.{Idle}
 
 module _ (S : System) (Y : Cycle S) (s : ℕ → ℕ → ℕ) (R : Run (jobs S) s) where

@@ -11,10 +11,11 @@ use Rattle.counting.specs.Count.{tests, every_iff, same_test}
 use Rattle.counting.specs.Below.{work_lt, work_le}
 use Rattle.wellformed.specs.Ranges.{Ranged}
 use Rattle.backlog.specs.Streams.{released}
-use Rattle.backlog.specs.System.{System, size, cost_of, release_of, jobs}
-use Rattle.backlog.specs.ModelRun.{served_of, at, model_run}
-use Rattle.backlog.specs.RunSchedule.{undone_iff}
-use Rattle.backlog.specs.TableSystem.{system_of}
+use Rattle.backlog.specs.System.{System, size, cost_of, release_of}
+use Rattle.backlog.proofs.System.{jobs}
+use Rattle.backlog.proofs.ModelRun.{served_of, at, model_run}
+use Rattle.backlog.proofs.RunSchedule.{undone_iff}
+use Rattle.backlog.proofs.TableSystem.{system_of}
 use Rattle.patterns.specs.Waiting.{Idle, idle_waiting, released_at, waiting_is}
 
 module _ (S : System) where

@@ -15,7 +15,7 @@ use Rattle.model.specs.ButtonExamples.{table_shutter}
 use Rattle.counting.specs.Count.{is_true, every_iff}
 use Rattle.wellformed.specs.Ranges.{Ranged}
 use Rattle.wellformed.specs.WellFormed.{well_mixed}
-use Rattle.backlog.specs.TableSystem.{tie_cycle}
+use Rattle.backlog.proofs.TableSystem.{tie_cycle}
 use Rattle.backlog.specs.TooMuch.{never_iff}
 use Rattle.backlog.specs.Walk.{walked, Clear}
 use Rattle.patterns.specs.WalkIdle.{none_left, walk_idle_at}

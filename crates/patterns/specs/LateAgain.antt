@@ -8,9 +8,9 @@ use Rattle.model.specs.Run.{tie_order}
 use Rattle.counting.specs.Search.{below_suc}
 use Rattle.wellformed.specs.Ranges.{Ranged}
 use Rattle.backlog.specs.Shift.{Cycle}
-use Rattle.backlog.specs.TableSystem.{tie_system}
+use Rattle.backlog.proofs.TableSystem.{tie_system}
 use Rattle.backlog.specs.Walk.{Clear}
-use Rattle.backlog.specs.WalkLate.{late_iff}
+use Rattle.backlog.proofs.WalkLate.{late_iff}
 use Rattle.patterns.specs.RoundAgain.{Rests, late_same, again}
 
 module _ (t : Table) (r : Ranged t) (Y : Cycle (tie_system t r)) (u : ℕ) (rests : Rests t r Y u) where

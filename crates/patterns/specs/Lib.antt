@@ -22,35 +22,16 @@ pub mod Decided
 pub mod Slack
 -- Distances and the distance test.
 pub mod Reduced
-pub mod Distance
-pub mod Attained
-pub mod DistancePass
-pub mod QuickDistance
 -- Tasks that come when they like.
-pub mod Arrivals
-pub mod OnTheWay
-pub mod MixedGood
 pub mod NoButton
 pub mod GoodReleased
-pub mod DemandFor
-pub mod ButtonsAlone
 pub mod AsTasks
 -- The distance test with lower costs, and the room of a table.
-pub mod CostsFall
 pub mod Room
 -- The dispatcher that is told of presses.
 pub mod TakenArrivals
-pub mod PressTaken
-pub mod PressHistory
 pub mod PressAccounts
 pub mod PressNeverRefused
-pub mod PressNoneEarly
-pub mod PressNeverMore
-pub mod PressSettled
-pub mod PressNoneAfter
-pub mod PressNoneCut
-pub mod PressInTime
-pub mod PressNoneWaits
 pub mod PressPeriodic
 -- No theorem is empty.
 pub mod Instances

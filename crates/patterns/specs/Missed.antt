@@ -10,11 +10,12 @@ use Rattle.model.specs.Idle.{missed_at}
 use Rattle.counting.specs.Count.{tests, some_iff, same_test}
 use Rattle.counting.specs.Below.{grows_mono}
 use Rattle.wellformed.specs.Ranges.{Ranged}
-use Rattle.backlog.specs.System.{System, size, due_of, dues}
-use Rattle.backlog.specs.ModelRun.{served_of, at}
-use Rattle.backlog.specs.RunSchedule.{undone_iff}
-use Rattle.backlog.specs.TableSystem.{system_of}
-use Rattle.backlog.specs.EveryInstant.{Missed, missed_iff}
+use Rattle.backlog.specs.System.{System, size, due_of}
+use Rattle.backlog.proofs.System.{dues}
+use Rattle.backlog.proofs.ModelRun.{served_of, at}
+use Rattle.backlog.proofs.RunSchedule.{undone_iff}
+use Rattle.backlog.proofs.TableSystem.{system_of}
+use Rattle.backlog.proofs.EveryInstant.{Missed, missed_iff}
 
 module _ (S : System) where
   missed_job : (u : ℕ) → T (missed_at S.table S.rank u) → Missed S u

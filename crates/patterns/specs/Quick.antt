@@ -12,11 +12,11 @@ use Rattle.model.specs.Patterns.{starting_at, light, calm, simultaneous, quick_p
 use Rattle.counting.specs.Count.{tests, and_iff}
 use Rattle.counting.specs.Below.{below_next}
 use Rattle.wellformed.specs.Ranges.{Ranged}
-use Rattle.backlog.specs.System.{jobs}
-use Rattle.backlog.specs.TableSystem.{tie_system}
+use Rattle.backlog.proofs.System.{jobs}
+use Rattle.backlog.proofs.TableSystem.{tie_system}
 use Rattle.backlog.specs.TooMuch.{NeverTooMuch, never_iff}
-use Rattle.backlog.specs.Feasible.{Feasible, feasible_iff}
-use Rattle.backlog.specs.Passes.{passes_iff, never_of_passed}
+use Rattle.backlog.proofs.Feasible.{Feasible, feasible_iff}
+use Rattle.backlog.proofs.Passes.{passes_iff, never_of_passed}
 use Rattle.patterns.specs.Starting.{starting_round, starting_load, starting_ranged, starting_again}
 use Rattle.patterns.specs.Calm.{calm_iff, calm_never}
 

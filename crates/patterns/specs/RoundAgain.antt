@@ -10,12 +10,15 @@ use Rattle.model.specs.History.{state_at_by}
 use Rattle.model.specs.Run.{tie_order}
 use Rattle.counting.specs.Below.{below_later}
 use Rattle.wellformed.specs.Ranges.{Ranged}
-use Rattle.backlog.specs.System.{System, release_of, jobs, released_by}
-use Rattle.backlog.specs.ModelRun.{served_of, model_run}
-use Rattle.backlog.specs.Shift.{Cycle, release_later}
-use Rattle.backlog.specs.TableSystem.{tie_system}
-use Rattle.backlog.specs.Stepping.{sound, past_none}
-use Rattle.backlog.specs.Walk.{quiet, walked, Clear, agrees}
+use Rattle.backlog.specs.System.{System, release_of, released_by}
+use Rattle.backlog.proofs.System.{jobs}
+use Rattle.backlog.proofs.ModelRun.{served_of, model_run}
+use Rattle.backlog.specs.Shift.{Cycle}
+use Rattle.backlog.proofs.Shift.{release_later}
+use Rattle.backlog.proofs.TableSystem.{tie_system}
+use Rattle.backlog.proofs.Stepping.{sound, past_none}
+use Rattle.backlog.specs.Walk.{quiet, walked, Clear}
+use Rattle.backlog.proofs.Walk.{agrees}
 use Rattle.patterns.specs.IdleBefore.{idle_before}
 
 -- Two states with the same waits and the same slots left.

@@ -16,8 +16,9 @@ use Rattle.counting.specs.Below.{below_none, below_at}
 use Rattle.wellformed.specs.Ranges.{Ranged}
 use Rattle.wellformed.specs.Demand.{released_enumerates}
 use Rattle.backlog.specs.Domination.{Releases, releases}
-use Rattle.backlog.specs.System.{System, release_of, released_by, jobs}
-use Rattle.backlog.specs.TableSystem.{tie_system}
+use Rattle.backlog.specs.System.{System, release_of, released_by}
+use Rattle.backlog.proofs.System.{jobs}
+use Rattle.backlog.proofs.TableSystem.{tie_system}
 use Rattle.backlog.specs.Taken.{Belongs, wait_start, belongs_start}
 use Rattle.backlog.specs.Coming.{wait_come_lem, belongs_come}
 

@@ -10,8 +10,8 @@ use Rattle.model.specs.Idle.{idle_at, first_idle}
 use Rattle.model.specs.Patterns.{calm}
 use Rattle.wellformed.specs.Ranges.{Ranged}
 use Rattle.backlog.specs.System.{System}
-use Rattle.backlog.specs.TableSystem.{tie_system}
-use Rattle.backlog.specs.EveryInstant.{missed_iff}
+use Rattle.backlog.proofs.TableSystem.{tie_system}
+use Rattle.backlog.proofs.EveryInstant.{missed_iff}
 use Rattle.backlog.specs.Walk.{Clear}
 use Rattle.patterns.specs.IdleInstants.{idle_iff}
 use Rattle.patterns.specs.FirstIdle.{first_idle_lem}

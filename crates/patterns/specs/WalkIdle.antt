@@ -10,8 +10,9 @@ use Rattle.model.specs.Idle.{idle_at}
 use Rattle.counting.specs.Count.{tests, every_iff, eq→eqb, same_test}
 use Rattle.wellformed.specs.Ranges.{Ranged}
 use Rattle.backlog.specs.System.{System}
-use Rattle.backlog.specs.TableSystem.{tie_system}
-use Rattle.backlog.specs.Walk.{walked, Clear, agrees}
+use Rattle.backlog.proofs.TableSystem.{tie_system}
+use Rattle.backlog.specs.Walk.{walked, Clear}
+use Rattle.backlog.proofs.Walk.{agrees}
 use Rattle.patterns.specs.IdleInstants.{idle_streams}
 
 -- Before the releases of slot n the walk has no slot left to give.

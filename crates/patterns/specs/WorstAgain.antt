@@ -5,10 +5,11 @@ use Rattle.std.proofs.Math.Decide.{dec_lt, le_ind}
 use Rattle.values.specs.declared.Table.{Table}
 use Rattle.wellformed.specs.Ranges.{Ranged}
 use Rattle.backlog.specs.Shift.{Cycle}
-use Rattle.backlog.specs.TableSystem.{tie_system}
+use Rattle.backlog.proofs.TableSystem.{tie_system}
 use Rattle.backlog.specs.Walk.{walked}
 use Rattle.model.specs.Run.{tie_order}
-use Rattle.backlog.specs.WalkWorst.{worst_by, worst_length, none_past, Noting, noting, leaving, notes}
+use Rattle.backlog.specs.WalkWorst.{worst_by}
+use Rattle.backlog.proofs.WalkWorst.{worst_length, none_past, Noting, noting, leaving, notes}
 use Rattle.patterns.specs.RoundAgain.{Same, Rests, owner_same, again}
 
 module _ (t : Table) (r : Ranged t) where

@@ -19,12 +19,12 @@ use Rattle.model.specs.TableFile.{file_read}
 use Rattle.model.specs.Report.{distance_exported}
 use Rattle.wellformed.specs.WellFormed.{periodic_iff, refused_button, well_mixed, well_formed}
 use Rattle.backlog.specs.TooMuch.{too_much_iff}
-use Rattle.patterns.specs.DistancePass.{distance_case, distance_told, distance_light}
-use Rattle.patterns.specs.MixedGood.{mixed_good}
+use Rattle.patterns.proofs.DistancePass.{distance_case, distance_told, distance_light}
+use Rattle.patterns.proofs.MixedGood.{mixed_good}
 use Rattle.patterns.specs.NoButton.{no_button}
 use Rattle.patterns.specs.GoodReleased.{good_released, releases_respect, presses_respect}
-use Rattle.patterns.specs.DemandFor.{good_for_iff}
-use Rattle.patterns.specs.ButtonsAlone.{buttons_iff}
+use Rattle.patterns.proofs.DemandFor.{good_for_iff}
+use Rattle.patterns.proofs.ButtonsAlone.{buttons_iff}
 use Rattle.patterns.specs.AsTasks.{as_well, as_respects, as_good}
 use Rattle.telling.specs.AsDemand.{as_demand}
 use Rattle.promises.specs.Demand2.{overload_rightly, late_rightly, late_exactly}

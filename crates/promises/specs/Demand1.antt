@@ -35,8 +35,8 @@ use Rattle.model.specs.Report.{Exported, report_of, refused, report_written, Fil
 use Rattle.model.specs.Notation.{count, first, bits}
 use Rattle.wellformed.specs.Round.{round_pos, period_divides, round_least}
 use Rattle.wellformed.specs.WellFormed.{mixed_iff, judged_iff, periodic_iff, refused_both}
-use Rattle.backlog.specs.Unique.{permitted_unique}
-use Rattle.backlog.specs.Computed.{answer_of, computed}
+use Rattle.backlog.proofs.Unique.{permitted_unique}
+use Rattle.backlog.proofs.Computed.{answer_of, computed}
 use Rattle.backlog.specs.Taken.{Belongs, belongs_after, slots_after}
 use Rattle.tablefile.specs.declared.Record.{Record}
 use Rattle.tablefile.specs.declared.Reading.{Reading}

@@ -19,17 +19,17 @@ use Rattle.model.specs.Run.{Order, tie_order, run}
 use Rattle.model.specs.Idle.{first_idle}
 use Rattle.model.specs.Verdict.{needed, late_start, verdict, settled_by, Worsts, Permitted}
 use Rattle.wellformed.specs.WellFormed.{well_formed}
-use Rattle.backlog.specs.Sufficient.{sufficient}
+use Rattle.backlog.proofs.Sufficient.{sufficient}
 use Rattle.backlog.specs.Needed.{needed_le, needed_is, none_within}
 use Rattle.backlog.specs.Verdicts.{is_overload, is_undecided, is_late_lem, is_passed_lem, overload_iff, undecided_iff}
 use Rattle.backlog.specs.Verdicts.{passes_needed_iff}
 use Rattle.backlog.specs.Longer.{longer}
-use Rattle.backlog.specs.RunRule.{run_rule}
-use Rattle.backlog.specs.Worst.{worst_range}
-use Rattle.backlog.specs.TableSystem.{system_of, tie_system}
-use Rattle.backlog.specs.Passes.{never_of_passed, passes_iff, overload_infeasible, late_infeasible}
-use Rattle.backlog.specs.PassedWorst.{met_of_passed}
-use Rattle.backlog.specs.Unique.{permitted_unique}
+use Rattle.backlog.proofs.RunRule.{run_rule}
+use Rattle.backlog.proofs.Worst.{worst_range}
+use Rattle.backlog.proofs.TableSystem.{system_of, tie_system}
+use Rattle.backlog.proofs.Passes.{never_of_passed, passes_iff, overload_infeasible, late_infeasible}
+use Rattle.backlog.proofs.PassedWorst.{met_of_passed}
+use Rattle.backlog.proofs.Unique.{permitted_unique}
 use Rattle.backlog.specs.AnswersSay.{answers_say}
 use Rattle.patterns.specs.IdleInstants.{idle_iff}
 use Rattle.patterns.specs.FirstIdle.{passed_idle}

@@ -25,17 +25,17 @@ use Rattle.model.specs.History.{state_at, state_at_by, owner_at, owner_at_by, ha
 use Rattle.counting.specs.Count.{tests, and_iff, count_none}
 use Rattle.wellformed.specs.WellFormed.{well_formed}
 use Rattle.wellformed.specs.Ranges.{Ranged}
-use Rattle.backlog.specs.Worst.{worst_range}
-use Rattle.backlog.specs.TableSystem.{system_of}
-use Rattle.backlog.specs.PassedWorst.{met_of_passed, worst_of}
-use Rattle.backlog.specs.Accounts.{slots_are, given_is, empty_is}
-use Rattle.backlog.specs.NeverRefused as refused
-use Rattle.backlog.specs.NoneEarly.{owned_ready}
-use Rattle.backlog.specs.NeverMore.{never_more}
-use Rattle.backlog.specs.NoneAfter as after
-use Rattle.backlog.specs.NoneCut.{none_cut}
-use Rattle.backlog.specs.InTime.{in_time}
-use Rattle.backlog.specs.NoneWaits.{none_waits}
+use Rattle.backlog.proofs.Worst.{worst_range}
+use Rattle.backlog.proofs.TableSystem.{system_of}
+use Rattle.backlog.proofs.PassedWorst.{met_of_passed, worst_of}
+use Rattle.backlog.proofs.Accounts.{slots_are, given_is, empty_is}
+use Rattle.backlog.proofs.NeverRefused as refused
+use Rattle.backlog.proofs.NoneEarly.{owned_ready}
+use Rattle.backlog.proofs.NeverMore.{never_more}
+use Rattle.backlog.proofs.NoneAfter as after
+use Rattle.backlog.proofs.NoneCut.{none_cut}
+use Rattle.backlog.proofs.InTime.{in_time}
+use Rattle.backlog.proofs.NoneWaits.{none_waits}
 use Rattle.promises.specs.Demand2.{passed_exactly}
 
 -- In any fixed order of the tasks: a start on any well-formed table, and steps with any done reports.

@@ -20,10 +20,11 @@ use Rattle.model.specs.Report.{refusal_number, distance_number, distance_exporte
 use Rattle.counting.specs.Count.{tests, is_false}
 use Rattle.wellformed.specs.WellFormed.{periodic_iff, well_mixed, well_formed}
 use Rattle.patterns.specs.Quick.{quick_case}
-use Rattle.patterns.specs.Distance.{distance_button, distance_le}
-use Rattle.patterns.specs.Attained.{distance_attained}
-use Rattle.patterns.specs.DistancePass.{distance_case, distance_told, distance_passes}
-use Rattle.patterns.specs.QuickDistance.{quick_distance}
+use Rattle.patterns.proofs.Distance.{distance_button}
+use Rattle.patterns.proofs.DistanceLe.{distance_le}
+use Rattle.patterns.proofs.Attained.{distance_attained}
+use Rattle.patterns.proofs.DistancePass.{distance_case, distance_told, distance_passes}
+use Rattle.patterns.proofs.QuickDistance.{quick_distance}
 use Rattle.tablefile.specs.Admitted.{well_table}
 use Rattle.tablefile.specs.Periodic.{periodic_read}
 use Rattle.telling.specs.Distance.{distance_refuses, distance_words, distance_low, distance_one, distance_heavy}

@@ -22,11 +22,11 @@ use Rattle.model.specs.TableFile.{table_of, periodic_from}
 use Rattle.model.specs.Easing.{Eased, Lowered, easing, first_tasks, eased_exported}
 use Rattle.model.specs.Examples.{of, table_e, two_due}
 use Rattle.wellformed.specs.WellFormed.{well_formed}
-use Rattle.backlog.specs.Eased.{eased_passes, eased_again, eased_of_lowered}
+use Rattle.backlog.proofs.Eased.{eased_passes, eased_again, eased_of_lowered}
 use Rattle.backlog.specs.FirstChoice.{Told, first_choice, eased_told}
-use Rattle.backlog.specs.Lowered.{lowered_worst}
+use Rattle.backlog.proofs.Lowered.{lowered_worst}
 use Rattle.backlog.specs.WalkWorst.{worst_seen}
-use Rattle.backlog.specs.Computed.{answer_of}
+use Rattle.backlog.proofs.Computed.{answer_of}
 use Rattle.tablefile.specs.Periodic.{well_periodic}
 pub use Rattle.telling.specs.Easings.{EasedMeans}
 use Rattle.telling.specs.Answers.{only_answer}

@@ -21,7 +21,7 @@ use Rattle.model.specs.TableFile.{form_of, file_read, periodic_from}
 use Rattle.model.specs.Report.{refusal_number}
 use Rattle.model.specs.Largest.{with_cost, largest_cost, cost_told, cost_answer, cost_number, largest_exported}
 use Rattle.wellformed.specs.WellFormed as wellformed
-use Rattle.backlog.specs.Largest.{well_with, largest_cost_lem}
+use Rattle.backlog.proofs.Largest.{well_with, largest_cost_lem}
 use Rattle.tablefile.specs.Periodic.{periodic_read, periodic_tellable}
 use Rattle.tablefile.specs.Admitted.{admitted}
 use Rattle.telling.specs.Refusals.{admitted_or_told}

@@ -31,17 +31,17 @@ use Rattle.wellformed.specs.WellFormed.{well_mixed, periodic_iff}
 use Rattle.wellformed.specs.Admitted.{Fitting, admitted_by_iff}
 use Rattle.backlog.specs.Taken.{Belongs}
 use Rattle.backlog.specs.Coming.{belongs_come, slots_come}
-use Rattle.patterns.specs.DistancePass.{distance_case}
+use Rattle.patterns.proofs.DistancePass.{distance_case}
 use Rattle.patterns.specs.TakenArrivals.{taken_respects}
-use Rattle.patterns.specs.PressTaken.{taken_iff, told_iff}
+use Rattle.patterns.proofs.PressTaken.{taken_iff, told_iff}
 use Rattle.patterns.specs.PressAccounts.{slots_are, given_is, empty_is}
 use Rattle.patterns.specs.PressNeverRefused as refused
-use Rattle.patterns.specs.PressNoneEarly.{owned_arrived}
-use Rattle.patterns.specs.PressNeverMore.{never_more}
-use Rattle.patterns.specs.PressNoneAfter.{none_after}
-use Rattle.patterns.specs.PressNoneCut.{none_cut}
-use Rattle.patterns.specs.PressInTime.{in_time}
-use Rattle.patterns.specs.PressNoneWaits.{none_waits}
+use Rattle.patterns.proofs.PressNoneEarly.{owned_arrived}
+use Rattle.patterns.proofs.PressNeverMore.{never_more}
+use Rattle.patterns.proofs.PressNoneAfter.{none_after}
+use Rattle.patterns.proofs.PressNoneCut.{none_cut}
+use Rattle.patterns.proofs.PressInTime.{in_time}
+use Rattle.patterns.proofs.PressNoneWaits.{none_waits}
 use Rattle.patterns.specs.PressPeriodic as periodic
 use Rattle.telling.specs.PressSteps.{refused_keeps}
 

@@ -20,8 +20,8 @@ use Rattle.model.specs.Easing.{Lowered}
 use Rattle.model.specs.Largest.{with_cost}
 use Rattle.model.specs.Room.{room, room_told, room_answer, room_exported}
 use Rattle.wellformed.specs.WellFormed.{well_mixed}
-use Rattle.patterns.specs.DistancePass.{distance_case, distance_told}
-use Rattle.patterns.specs.CostsFall.{lowered_distance}
+use Rattle.patterns.proofs.DistancePass.{distance_case, distance_told}
+use Rattle.patterns.proofs.CostsFall.{lowered_distance}
 use Rattle.tablefile.specs.Refused.{read_tellable}
 use Rattle.telling.specs.Refusals.{admitted_or_told}
 use Rattle.telling.specs.Rooms as rooms

@@ -19,9 +19,10 @@ use Rattle.model.specs.History.{state_at_by}
 use Rattle.model.specs.Examples.{padded, table_a, table_b, table_c, table_d, table_e, table_f, table_g, table_h}
 use Rattle.model.specs.Examples.{table_i, table_j, table_lamp}
 use Rattle.wellformed.specs.WellFormed.{well_formed}
-use Rattle.backlog.specs.PassedWorst.{met_of_passed}
-use Rattle.backlog.specs.WalkWorst.{worst_seen, walk_worst}
-use Rattle.backlog.specs.Computed.{answer_of}
+use Rattle.backlog.proofs.PassedWorst.{met_of_passed}
+use Rattle.backlog.specs.WalkWorst.{worst_seen}
+use Rattle.backlog.proofs.WalkWorst.{walk_worst}
+use Rattle.backlog.proofs.Computed.{answer_of}
 pub use Rattle.telling.specs.Rows.{Row, AllPermitted}
 use Rattle.telling.specs.Rows.{all_permitted}
 

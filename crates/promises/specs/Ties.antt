@@ -18,7 +18,7 @@ use Rattle.patterns.specs.FirstIdle.{first_any_order}
 use Rattle.patterns.specs.Missed.{missed_any_order}
 use Rattle.patterns.specs.Calm.{calm_any_order}
 use Rattle.patterns.specs.Quick.{simultaneous_ranged}
-use Rattle.patterns.specs.DistancePass.{patterns_any_order}
+use Rattle.patterns.proofs.DistancePass.{patterns_any_order}
 use Rattle.telling.specs.AnyOrder.{good_any_order}
 
 -- Alike in two orders of a table's tasks: whether the run is good, whether it has missed a deadline by u,

@@ -13,9 +13,12 @@ use Rattle.wellformed.specs.Ranges.{Ranged}
 use Rattle.wellformed.specs.Round.{RoundKept}
 use Rattle.wellformed.specs.WellFormed.{WellFormed, well_mixed, mixed_iff}
 use Rattle.patterns.specs.Quick.{quick_light}
-use Rattle.patterns.specs.Asked.{asked, asked_none, asked_mono}
-use Rattle.patterns.specs.Decided.{enough, EnoughBetween, EnoughBeyond, quick_decided}
-use Rattle.patterns.specs.Slack.{slack, slack_enough}
+use Rattle.patterns.specs.Asked.{asked}
+use Rattle.patterns.proofs.Asked.{asked_none, asked_mono}
+use Rattle.patterns.specs.Decided.{enough, EnoughBetween, EnoughBeyond}
+use Rattle.patterns.proofs.Decided.{quick_decided}
+use Rattle.patterns.specs.Slack.{slack}
+use Rattle.patterns.proofs.Slack.{slack_enough}
 
 module _ (t : Table) (r : Ranged t) (bound : ℕ) where
   -- Further down: by an earlier instant no more is asked for than by `high`.

@@ -24,10 +24,10 @@ use Rattle.backlog.specs.TooMuch.{too_much_iff}
 use Rattle.backlog.specs.Needed.{needed_le}
 use Rattle.backlog.specs.LateStart.{start_asks}
 use Rattle.backlog.specs.Verdicts.{late_verdict, Case, overload, undecided, late, passed, the_case}
-use Rattle.backlog.specs.PassedWorst.{met_of_passed}
+use Rattle.backlog.proofs.PassedWorst.{met_of_passed}
 use Rattle.backlog.specs.AnswersSay.{answers_say}
-use Rattle.backlog.specs.TableSystem.{tie_system}
-use Rattle.backlog.specs.Worst.{worst_range}
+use Rattle.backlog.proofs.TableSystem.{tie_system}
+use Rattle.backlog.proofs.Worst.{worst_range}
 use Rattle.report.specs.Fits.{Wide, VerdictWide, Printable}
 
 module _ (t : Table) (m : Measure) (well : WellFormed t m) where

@@ -10,7 +10,7 @@ use Rattle.model.specs.Patterns.{distance_answer}
 use Rattle.model.specs.Room.{room_with, room}
 use Rattle.wellformed.specs.Ranges.{Ranged}
 use Rattle.wellformed.specs.WellFormed.{well_mixed}
-use Rattle.patterns.specs.Room.{own_room, room_is}
+use Rattle.patterns.proofs.Room.{own_room, room_is}
 
 -- A table that is not refused, with its measure.
 abbrev pub Well : Table → Type 0

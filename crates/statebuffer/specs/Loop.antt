@@ -30,9 +30,9 @@ use Rattle.counting.specs.Sum.{sum_member}
 use Rattle.wellformed.specs.Ranges.{Ranged}
 use Rattle.wellformed.specs.WellFormed.{well_formed}
 use Rattle.backlog.specs.Taken.{Belongs, known}
-use Rattle.backlog.specs.Stepping.{sound, past_none}
-use Rattle.backlog.specs.Accounts.{empty_is, given_is, slots_are}
-use Rattle.backlog.specs.NeverRefused.{never_refused}
+use Rattle.backlog.proofs.Stepping.{sound, past_none}
+use Rattle.backlog.proofs.Accounts.{empty_is, given_is, slots_are}
+use Rattle.backlog.proofs.NeverRefused.{never_refused}
 use Rattle.statebuffer.specs.RoundTrip.{turn_back, Fits, state_back, buffer_size}
 
 -- What stands past the table's last task is 0.

@@ -3,8 +3,6 @@ pub mod Reading
 pub mod Part
 pub mod Said
 pub mod Built
-pub mod Steps
-pub mod ReadSoFar
 pub mod Admitted
 pub mod Told
 pub mod Longer

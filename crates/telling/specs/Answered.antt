@@ -24,7 +24,7 @@ use Rattle.model.specs.Patterns.{quick_pass}
 use Rattle.model.specs.TableFile.{file_read, periodic_from}
 use Rattle.model.specs.Report.{Exported, refused, outcome_told, FileTold, report_written, Checked}
 use Rattle.model.specs.AnswerBuffer.{answer_bytes, numbers_by, numbers_of, answer_buffer, numbers_in, numbers_written, Answered}
-use Rattle.backlog.specs.Unique.{permitted_unique}
+use Rattle.backlog.proofs.Unique.{permitted_unique}
 use Rattle.report.specs.Fits.{Wide, Printable}
 use Rattle.report.specs.Permitted.{permitted_printable, Fitting}
 use Rattle.report.proofs.Permitted.{permitted_fits}

@@ -5,8 +5,8 @@ use Rattle.std.proofs.Common.{subst}
 use Rattle.values.specs.declared.Table.{Table}
 use Rattle.values.specs.declared.Answer.{Answer}
 use Rattle.model.specs.Verdict.{Permitted}
-use Rattle.backlog.specs.Unique.{permitted_unique}
-use Rattle.backlog.specs.Computed.{answer_of, computed}
+use Rattle.backlog.proofs.Unique.{permitted_unique}
+use Rattle.backlog.proofs.Computed.{answer_of, computed}
 
 module _ (t : Table) (budget : ℕ) (a : Answer) where
   pub only_answer : Permitted t budget a → a ≡ answer_of t budget

@@ -5,9 +5,9 @@ use Rattle.model.specs.Tasks.{horizon}
 use Rattle.model.specs.Schedule.{Good}
 use Rattle.model.specs.Run.{Order, run}
 use Rattle.wellformed.specs.Ranges.{Ranged}
-use Rattle.backlog.specs.Sufficient.{sufficient}
-use Rattle.backlog.specs.TableSystem.{system_of}
-use Rattle.backlog.specs.Passes.{never_of_passed, passes_iff}
+use Rattle.backlog.proofs.Sufficient.{sufficient}
+use Rattle.backlog.proofs.TableSystem.{system_of}
+use Rattle.backlog.proofs.Passes.{never_of_passed, passes_iff}
 
 pub good_any_order : (t : Table) → Ranged t → (rank other : Order) → Good t (run t rank) → Good t (run t other)
 good_any_order t r rank other g =

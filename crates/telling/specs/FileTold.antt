@@ -13,8 +13,8 @@ use Rattle.model.specs.Tasks.{judged}
 use Rattle.model.specs.Verdict.{Permitted}
 use Rattle.model.specs.Patterns.{quick_pass}
 use Rattle.model.specs.Report.{outcome_told, FileTold}
-use Rattle.backlog.specs.Unique.{permitted_unique}
-use Rattle.backlog.specs.Computed.{answer_of, computed}
+use Rattle.backlog.proofs.Unique.{permitted_unique}
+use Rattle.backlog.proofs.Computed.{answer_of, computed}
 
 module _ {A : Type 0} (refuse : Refusal → A) (tell : ℕ → Bool → Answer → Verdict → A) (l : Contents) where
   pub told_once : (x y : A) (a : Admission) → FileTold refuse tell l x a → FileTold refuse tell l y a → x ≡ y

@@ -17,7 +17,7 @@ use Rattle.model.specs.Report.{refusal_number}
 use Rattle.model.specs.Largest.{largest_cost, cost_told, cost_judged, cost_answer, cost_number}
 use Rattle.wellformed.specs.WellFormed.{well_formed}
 use Rattle.wellformed.specs.Refused.{Tellable, JudgementTellable, judged_tellable}
-use Rattle.backlog.specs.Largest.{largest_cost_lem}
+use Rattle.backlog.proofs.Largest.{largest_cost_lem}
 
 -- By number, what it takes for a cost to be told of a task.
 by_number : (p : Bool) (a : LargestCost) (r : Refusal) (c : ℕ) → cond p a (LargestCost.Refused r) ≡ LargestCost.Cost c

@@ -22,7 +22,7 @@ use Rattle.wellformed.specs.Admitted.{admitted_by_iff}
 use Rattle.wellformed.specs.Refused.{JudgementTellable, mixed_tellable}
 use Rattle.tablefile.specs.Refused.{AdmissionTellable}
 use Rattle.backlog.specs.Coming.{one_come}
-use Rattle.patterns.specs.PressTaken.{told_iff}
+use Rattle.patterns.proofs.PressTaken.{told_iff}
 use Rattle.statebuffer.specs.Told.{state_tellable}
 use Rattle.logbuffer.specs.Numbers.{Below, JudgedBelow, mixed_below, state_below}
 use Rattle.logbuffer.specs.Judging.{Apart, on_file_lem}

@@ -25,9 +25,9 @@ use Rattle.counting.specs.Search.{last_lt, last_behind, last_passes}
 use Rattle.wellformed.specs.Ranges.{Ranged}
 use Rattle.wellformed.specs.WellFormed.{mixed_iff, mixed_of}
 use Rattle.wellformed.specs.Refused.{Tellable, JudgementTellable, mixed_tellable}
-use Rattle.backlog.specs.Largest.{ranged_with, round_with}
-use Rattle.patterns.specs.DistancePass.{distance_case, distance_told}
-use Rattle.patterns.specs.Room.{own_room}
+use Rattle.backlog.proofs.Largest.{ranged_with, round_with}
+use Rattle.patterns.proofs.DistancePass.{distance_case, distance_told}
+use Rattle.patterns.proofs.Room.{own_room}
 
 module _ (t : Table) (m : Measure) (well : judged_mixed t ≡ Judgement.WellFormed m) (i : ℕ) (l : i < t.count) where
   ranged : Ranged t

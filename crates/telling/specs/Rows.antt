@@ -4,7 +4,7 @@ use Rattle.std.specs.Prelude.{◌≡◌, List, [], ◌∷◌, map, ℕ}
 use Rattle.values.specs.declared.Table.{Table}
 use Rattle.values.specs.declared.Answer.{Answer}
 use Rattle.model.specs.Verdict.{Permitted}
-use Rattle.backlog.specs.Computed.{answer_of}
+use Rattle.backlog.proofs.Computed.{answer_of}
 use Rattle.telling.specs.Answers.{permitted_of}
 
 -- A table, a budget, and the answer that is given.

@@ -15,7 +15,7 @@ use Rattle.counting.specs.Count.{is_false}
 use Rattle.counting.specs.Search.{below_suc}
 use Rattle.wellformed.specs.Ranges.{Ranged}
 use Rattle.backlog.specs.Walk.{quiet, walked, Clear}
-use Rattle.backlog.specs.WalkLate.{late_iff}
+use Rattle.backlog.proofs.WalkLate.{late_iff}
 use Rattle.slots.specs.Slot as slot
 use Rattle.slots.specs.Columns.{columns_of}
 use Rattle.slots.specs.Laws.{Has, Slotted, slack_has, table_served}

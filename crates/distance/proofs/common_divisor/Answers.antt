@@ -3,7 +3,7 @@ use native.Mathlib.Nat.{le_of_dvd}
 use native.Mathlib.Omega.{arith}
 use borrow.Author.Rules.{rules}
 use Rattle.counting.specs.Divisors.{gcd_unique}
-use Rattle.patterns.specs.Distance.{divisor_is}
+use Rattle.patterns.proofs.Distance.{divisor_is}
 use Rattle.distance.proofs.common_divisor.Goals as goal
 
 pub overflow_cast-result : goal.overflow_cast-result

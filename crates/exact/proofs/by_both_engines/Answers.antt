@@ -1,6 +1,6 @@
 -- One answer is permitted.
 use borrow.Author.Rules.{rules}
-use Rattle.backlog.specs.Unique.{permitted_unique}
+use Rattle.backlog.proofs.Unique.{permitted_unique}
 use Rattle.exact.proofs.by_both_engines.Goals as goal
 
 pub returns : goal.returns

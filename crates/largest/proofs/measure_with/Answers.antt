@@ -3,7 +3,7 @@ use Prim.Native.Nat.{◌-◌}
 use native.Mathlib.Omega.{arith}
 use borrow.Author.Rules.{rules}
 use Rattle.largest.specs.Halving.{ranged_of, more_le}
-use Rattle.backlog.specs.Largest.{well_with}
+use Rattle.backlog.proofs.Largest.{well_with}
 use Rattle.largest.proofs.measure_with.Goals as goal
 
 pub offset_bounds-t-i : goal.offset_bounds-t-i

@@ -4,7 +4,7 @@ use mathlib.Core.Logic.{inl, inr}
 use Prim.Native.Nat.{◌+◌, ◌-◌, ◌*◌, ◌≤◌, ◌<◌}
 use native.Mathlib.Omega.{arith}
 use Rattle.leaps.specs.Queue.{Queue}
-use Rattle.leaps.specs.Entry.{mark_small}
+use Rattle.leaps.proofs.Entries.{mark_small}
 use Rattle.leaping.specs.Start.{Last, due_by, released_before, jobs_due, lasts_none, lasts_skip, lasts_more}
 use borrow.Author.Rules.{rules}
 use Rattle.leaping.proofs.last_jobs.Given as goal

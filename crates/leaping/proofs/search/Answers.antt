@@ -10,10 +10,12 @@ use Rattle.model.specs.Limits.{task_limit}
 use Rattle.model.specs.Tasks.{task, offset}
 use Rattle.backlog.specs.Taken.{wait_start}
 use Rattle.slots.specs.Slot.{at as entry_at}
-use Rattle.leaps.specs.Entry.{places, span, entry_time}
+use Rattle.leaps.specs.Entry.{places, span}
+use Rattle.leaps.proofs.Entries.{entry_time}
 use Rattle.leaps.specs.declared.Columns.{Columns}
 use Rattle.leaps.specs.Columns.{Marked, marked, columned}
-use Rattle.leaps.specs.Leaping.{Here, leaping_start, here_next}
+use Rattle.leaps.specs.Leaping.{Here}
+use Rattle.leaps.proofs.Leaping.{leaping_start, here_next}
 use Rattle.leaping.specs.Start.{Searching, searching_start, some_left, crowded, asked_le, task_lt, length_in, found, goes_on}
 use Rattle.leaping.specs.Ended.{late_ended, quiet_ended, idled}
 use Rattle.leaping.proofs.search.Goals.{After-leap-here, After-task_of-i, After-time_of-length, At-loop-count, At-search, Start, Then-here}

@@ -2,9 +2,9 @@
 use Prim.Native.Nat.{◌≤◌, ◌-◌}
 use mathlib.Core.Path.{◌≡◌}
 use native.Mathlib.Omega.{arith}
-use Rattle.leaps.specs.Entry.{mark_small}
+use Rattle.leaps.proofs.Entries.{mark_small}
 use Rattle.leaps.specs.Queue.{Queue}
-use Rattle.leaps.specs.Firsts.{Firsts, firsts_none, firsts_more}
+use Rattle.leaps.proofs.Firsts.{Firsts, firsts_none, firsts_more}
 use borrow.Author.Rules.{rules}
 use Rattle.leaps.proofs.first_releases.Given as goal
 

@@ -1,5 +1,5 @@
 -- The turn is made from what the releases leave.
-use Rattle.leaps.specs.Leaping.{due_now, ready_now}
+use Rattle.leaps.proofs.Leaping.{due_now, ready_now}
 use Rattle.leaps.proofs.leap.Goals as goal
 
 pub release_all-jobs-requires : goal.release_all-jobs-requires

@@ -5,8 +5,9 @@ use native.Mathlib.Omega.{arith}
 use Rattle.values.specs.declared.Table.{Table}
 use Rattle.model.specs.Tasks.{task}
 use Rattle.slots.specs.Slot.{at}
-use Rattle.leaps.specs.Entry.{places, span, mark_small}
-use Rattle.leaps.specs.Releasing.{Releasing, none_released, released_task, one_released, later_next, all_released_lem}
+use Rattle.leaps.specs.Entry.{places, span}
+use Rattle.leaps.proofs.Entries.{mark_small}
+use Rattle.leaps.proofs.Releasing.{Releasing, none_released, released_task, one_released, later_next, all_released_lem}
 use Rattle.leaps.specs.Leaping.{Due}
 use borrow.Author.Rules.{rules}
 use Rattle.leaps.proofs.release_all.Given as goal

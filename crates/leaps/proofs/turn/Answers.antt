@@ -7,9 +7,10 @@ use Rattle.values.specs.declared.Table.{Table}
 use Rattle.model.specs.Limits.{task_limit, slot_limit}
 use Rattle.model.specs.Tasks.{task}
 use Rattle.slots.specs.Slot.{at}
-use Rattle.leaps.specs.Entry.{span, entry_time}
-use Rattle.leaps.specs.Held.{crowd}
-use Rattle.leaps.specs.Turn.{rests, owner_is, bound, left_small, spare_le, stops, preempt, finishes}
+use Rattle.leaps.specs.Entry.{span}
+use Rattle.leaps.proofs.Entries.{entry_time}
+use Rattle.leaps.proofs.Held.{crowd}
+use Rattle.leaps.proofs.Turns.{rests, owner_is, bound, left_small, spare_le, stops, preempt, finishes}
 use Rattle.leaps.specs.Leaping.{Ready}
 use borrow.Author.Rules.{rules}
 use Rattle.leaps.proofs.turn.Goals.{After-task_of-i, After-time_of-soon, Else-jobs-eq0}

@@ -6,7 +6,8 @@ use borrow.Author.Rules.{rules}
 use Rattle.model.specs.Tasks.{task}
 use Rattle.counting.specs.Fill.{fill_none, fill_put}
 use Rattle.slots.specs.Columns.{column}
-use Rattle.leaps.specs.Entry.{places, span, mark_of, entry, mark_small}
+use Rattle.leaps.specs.Entry.{places, span, mark_of, entry}
+use Rattle.leaps.proofs.Entries.{mark_small}
 use Rattle.leaps.specs.Columns.{columns_of}
 use Rattle.leaps.proofs.unpack.Goals.{After-rank_of}
 use Rattle.leaps.proofs.unpack.Goals as goal

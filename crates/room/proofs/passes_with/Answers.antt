@@ -2,7 +2,7 @@
 use mathlib.Core.Path.{◌∙◌}
 use native.Mathlib.Omega.{arith}
 use borrow.Author.Rules.{rules}
-use Rattle.patterns.specs.Room.{passed_with}
+use Rattle.patterns.proofs.Room.{passed_with}
 use Rattle.room.specs.Halving.{ranged_of}
 use Rattle.room.proofs.passes_with.Goals as goal
 

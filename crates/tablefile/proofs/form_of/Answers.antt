@@ -8,7 +8,7 @@ use Rattle.model.specs.Tasks.{is_button}
 use Rattle.tablefile.specs.declared.Reading.{Reading}
 use Rattle.tablefile.specs.Reading.{record_bytes, record_size_lem, reading_at}
 use Rattle.tablefile.specs.Built.{with_task}
-use Rattle.tablefile.specs.ReadSoFar.{ReadSoFar, start, within, follows, after_budget, has_room, after_task_lem, after_end}
+use Rattle.tablefile.proofs.ReadSoFar.{ReadSoFar, start, within, follows, after_budget, has_room, after_task_lem, after_end}
 use Rattle.tablefile.proofs.form_of.Goals.{In-Budget, In-OneTask}
 use Rattle.tablefile.proofs.form_of.Goals as goal
 

@@ -1,7 +1,7 @@
 -- The invariant is `ReadSoFar`: reading on from here makes the form of the file. The measure is what is left of the file.
 use Prim.Native.Nat.{◌-◌}
 use lib.ListN.{length}
-use Rattle.tablefile.specs.ReadSoFar.{ReadSoFar}
+use Rattle.tablefile.proofs.ReadSoFar.{ReadSoFar}
 use Rattle.tablefile.proofs.form_of.Given as goal
 
 abbrev pub invariant-loop-why : goal.invariant-loop-why
