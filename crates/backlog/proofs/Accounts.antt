@@ -16,7 +16,8 @@ use Rattle.backlog.specs.Taken.{given_after, slots_after}
 use Rattle.backlog.proofs.Stepping.{sound}
 
 -- The empty slots are those that went to none. Of any table.
-pub empty_is : (t : Table) (rank : Order) (done : ℕ → Bool) (n : ℕ) → (state_at_by t rank done n).empty ≡ count (λ k. eqb (owner_at_by t rank done k) task_limit) n
+pub empty_is : (t : Table) (rank : Order) (done : ℕ → Bool) (n : ℕ) → (state_at_by t rank done n).empty ≡ count
+    (λ k. eqb (owner_at_by t rank done k) task_limit) n
 unfolding state_at_by start_of after_by count
 empty_is t rank done zero = refl
 empty_is t rank done (suc n) = omega (arith, empty_is t rank done n)

@@ -59,7 +59,8 @@ module _ (t : Table) (r : Ranged t) (rank : Order) where
               let w : wait_of (walked_by t rank n) i + n ≡ release_of S i (suc k) = (sound t r rank quiet n).next i l ∙ ap (release_of S i) b in
               absurd (never (late_missed n a i ((closed_late_iff t (walked_by t rank n) false i).1 (l, p, omega (arith, (r.each i l).deadline_le)))))
 
-      go : ((j : ℕ) × Fresh t r rank quiet n i j) ⊎ Kept t r rank quiet n i → ready t rank quiet n i + served_of S n i ≡ (task t i).cost * released_by S i (suc n)
+      go : ((j : ℕ) × Fresh t r rank quiet n i j) ⊎ Kept t r rank quiet n i → ready t rank quiet n i + served_of S n i ≡ (task t i).cost * released_by
+          S i (suc n)
       go (inl (j, f)) = fresh j f
       go (inr k) = kept k
 

@@ -46,7 +46,8 @@ worst_length t rank (suc n) = go (finishing t rank n) (worst_length t rank n)
   where
     go : (b : Bool) → length (worst_seen t rank n) ≡ task_limit → length
         (cond b (noted (worst_seen t rank n) (owner_at_by t rank quiet n)
-        ((task t (owner_at_by t rank quiet n)).period - wait_of (state_at_by t rank quiet (suc n)) (owner_at_by t rank quiet n))) (worst_seen t rank n)) ≡ task_limit
+        ((task t (owner_at_by t rank quiet n)).period - wait_of (state_at_by t rank quiet (suc n)) (owner_at_by t rank quiet n)))
+            (worst_seen t rank n)) ≡ task_limit
     go true e = simp length-set e
     go false e = e
 
@@ -111,7 +112,8 @@ module _ (t : Table) (r : Ranged t) (rank : Order) where
 
   -- A job that finishes at the end of slot n is its owner's, and nothing of it is left.
   finishes_now : (n : ℕ) → Clear t (suc n) → (i j : ℕ) → i < t.count → DoneFirst (jobs S) (served_of S) i j (suc n)
-      → (owner_at_lem n ≡ i) × (left_of (walked_by t rank (suc n)) i ≡ 0) × (suc n - release_of S i j ≡ (task t i).period - wait_of (walked_by t rank (suc n)) i)
+      → (owner_at_lem n ≡ i) × (left_of (walked_by t rank (suc n)) i ≡ 0) ×
+          (suc n - release_of S i j ≡ (task t i).period - wait_of (walked_by t rank (suc n)) i)
   finishes_now n c i j l (d, f) = go (ℕ_discrete (owner_at_lem n) i)
     where
       not_before : served_of S n i < (task t i).cost * suc j
@@ -148,7 +150,8 @@ module _ (t : Table) (r : Ranged t) (rank : Order) where
   pub data Noting (n i : ℕ) : Type 0 where
     noting : owner_at_lem n ≡ i → left_of (walked_by t rank (suc n)) i ≡ 0 → get_or (worst_seen t rank (suc n)) i 0 ≡ max (get_or (worst_seen t rank n) i 0)
         ((task t i).period - wait_of (walked_by t rank (suc n)) i) → Noting n i
-    leaving : (owner_at_lem n ≡ i → left_of (walked_by t rank (suc n)) i ≡ 0 → ⊥) → get_or (worst_seen t rank (suc n)) i 0 ≡ get_or (worst_seen t rank n) i 0 → Noting n i
+    leaving : (owner_at_lem n ≡ i → left_of (walked_by t rank (suc n)) i ≡ 0 → ⊥) → get_or (worst_seen t rank (suc n)) i 0 ≡ get_or
+        (worst_seen t rank n) i 0 → Noting n i
 
   pub notes : (n i : ℕ) → i < t.count → Noting n i
   unfolding worst_seen
@@ -219,6 +222,7 @@ module _ (t : Table) (r : Ranged t) (rank : Order) where
             absurd (omega (arith, noted_then.bound 0 f ((finishes_iff S i 0 f l).0 d) (omega (arith, horizon_is t r rank))))
 
 -- In our order they are the answer's.
-pub walk_worsts : (t : Table) (r : Ranged t) → Met (jobs (tie_system t r)) (dues (tie_system t r)) (served_of (tie_system t r)) → Worsts t (worst_by t (horizon t))
+pub walk_worsts : (t : Table) (r : Ranged t) → Met (jobs (tie_system t r)) (dues (tie_system t r)) (served_of (tie_system t r)) → Worsts t
+    (worst_by t (horizon t))
 walk_worsts t r met =
     record { size = worst_length t (tie_order t) (horizon t); worst = walk_worst t r (tie_order t) met; past = none_past t (tie_order t) (horizon t) }

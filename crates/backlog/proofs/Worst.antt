@@ -103,7 +103,8 @@ module _ (S : System) (met : Met (jobs S) (dues S) (served_of S)) (i : ℕ) (l :
         → ((j f : ℕ) → Ends j f → f ≤ horizon_of S Y → f - release_of S i j ≤ w) → Worst S.table S.rank i w
     worst_is w j f d e h = record {
       attained = (j, f, d, e);
-      bound = λ j f d. worst_for_ever S Y (served_of S) (model_run S) met i l w (λ j f d. h j f ((finishes_iff S i j f l).1 d)) j f ((finishes_iff S i j f l).0 d);
+      bound = λ j f d. worst_for_ever S Y (served_of S) (model_run S) met i l w (λ j f d. h j f ((finishes_iff S i j f l).1 d)) j f
+          ((finishes_iff S i j f l).0 d);
     }
 
     -- Every task has a job that finishes by the horizon.

@@ -21,7 +21,8 @@ module _ (S : System) (met : Met (jobs S) (dues S) (served_of S)) (i : ℕ) (l :
       response : ℕ → ℕ
       response j = (ends S met i l j).0 - release_of S i j
 
-      seen : (k : ℕ) → ((j : ℕ) → j ≤ horizon_of S Y → response j ≤ response k) → (j f : ℕ) → Ends S met i l j f → f ≤ horizon_of S Y → f - release_of S i j ≤ response k
+      seen : (k : ℕ) → ((j : ℕ) → j ≤ horizon_of S Y → response j ≤ response k) → (j f : ℕ) → Ends S met i l j f → f ≤ horizon_of S Y → f - release_of
+          S i j ≤ response k
       seen k h j f d g =
           let e : f ≡ (ends S met i l j).0 = ends_once _ _ i j f (ends S met i l j).0 d (ends S met i l j).1 in
           omega (arith, h j (omega (arith, (ends S met i l j).2, le-mul_of_pos_right j (period_pos S i l))), ap (λ (x : ℕ). x - release_of S i j) e)

@@ -315,7 +315,8 @@ module _ (t : Table) where
       -- The successor belongs to the table.
       pub belongs_after : Belongs (after_by t rank d done)
       unfolding after_by
-      belongs_after = belongs_given d b (wait_released t d done) (left_released t d done) (owner_now_by t rank d done) (owner_one rank d done r.few) fit_released
+      belongs_after = belongs_given d b (wait_released t d done) (left_released t d done) (owner_now_by t rank d done) (owner_one rank d done r.few)
+          fit_released
 
       pub given_after : (i : ℕ) → i < t.count → given_of (after_by t rank d done) i ≡ given_of d i + bit (eqb (owner_now_by t rank d done) i)
       unfolding after_by

@@ -4,7 +4,8 @@ use Rattle.std.proofs.Common.{sym, ap, ◌∙◌, inl, inr, arith, add-one, eq-z
 use Rattle.std.proofs.Common.{mul_right_comm, zero-lt-suc, le_refl, mul-pos, mul-le-mul, mul-le-mul_left, pow-suc, ltb→lt, lt→ltb, eqb→eq}
 use Rattle.std.specs.Int.{◌∣◌}
 use Rattle.std.proofs.Math.Nat.{dvd_refl, dvd-zero, dvd_trans, dvd_antisymm, dvd-mod_iff, dvd_iff_mod-eq-zero, dvd-mul_left, dvd-mul_right}
-use Rattle.std.proofs.Math.Nat.{dvd-mul_right_of_dvd, mul-dvd-mul_left, mul-dvd-mul_right, mul-div_cancel', div-mul_cancel, dvd_of_mul-dvd-mul_left, dvd_of_mul-dvd-mul_right}
+use Rattle.std.proofs.Math.Nat.{dvd-mul_right_of_dvd, mul-dvd-mul_left, mul-dvd-mul_right}
+use Rattle.std.proofs.Math.Nat.{mul-div_cancel', div-mul_cancel, dvd_of_mul-dvd-mul_left, dvd_of_mul-dvd-mul_right}
 use Rattle.std.proofs.Math.Nat.{mul-div_assoc, le_of_dvd, pos_of_dvd_of_pos, le_step, one-dvd, mod-add-div', pow-zero}
 use Rattle.model.specs.Notation.{every, first}
 use Rattle.counting.specs.Count.{and_iff, every_iff}

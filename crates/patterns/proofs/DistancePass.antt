@@ -39,7 +39,8 @@ unfolding distance_pass
 distance_light t h = omega (tests, ((and_iff (light t) (calm_patterns t)).0 h).0)
 
 -- By the cases of the table and of the test: an answer of pass is a pass of a well-formed table, and the other way.
-pub distance_case : (t : Table) (j : Judgement) → distance_judged t j ≡ DistanceAnswer.Pass → ((m : Measure) × (j ≡ Judgement.WellFormed m)) × T (distance_pass t)
+pub distance_case : (t : Table) (j : Judgement) → distance_judged t j ≡ DistanceAnswer.Pass → ((m : Measure) × (j ≡ Judgement.WellFormed m)) × T
+    (distance_pass t)
 distance_case t (Judgement.Refused r) e = let z : ◌≡◌ {A = ℕ} 0 1 = cc in absurd (omega arith)
 distance_case t (Judgement.WellFormed m) e = ((m, refl), go (light t) (distance_pass t) e)
   where

@@ -44,7 +44,8 @@ module _ (t : Table) (r : Ranged t) (done : ℕ → Bool) (pressed : ℕ → ℕ
         here = arrives_at t r done pressed (suc n) i u l (omega arith) x
 
         finished : u < n → open' n i ≡ 0 → FinishedUnder t done pressed i u n
-        finished e z = settled t r done pressed pass i u l x n e soon (ap (λ (d : State). left_of d i) (same_state t r done pressed (suc n) n (omega arith)) ∙ z)
+        finished e z = settled t r done pressed pass i u l x n e soon
+            (ap (λ (d : State). left_of d i) (same_state t r done pressed (suc n) n (omega arith)) ∙ z)
 
         closed : u < n → ready n i ≡ 0 → Keeps (J t r done pressed (suc n)) (D t r done pressed (suc n))
             (told_for t done (onward t r done pressed (suc n))) open' ready n i → FinishedUnder t done pressed i u n

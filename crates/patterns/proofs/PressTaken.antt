@@ -22,7 +22,8 @@ use Rattle.patterns.specs.TakenArrivals.{wait, wait_next, taken_respects}
 module _ (t : Table) (r : Ranged t) (done : ℕ → Bool) (pressed : ℕ → ℕ) (i : ℕ) (l : i < t.count) (e : is_button (task t i) ≡ true) where
   -- A button that waits was pressed, and its wait tells when.
   abbrev Waits : ℕ → Type 0
-  Waits n = (wait t r done pressed i l n ≡ 0) ⊎ ((u : ℕ) × (u < n) × T (arrivals t done pressed i u) × (wait t r done pressed i l n + n ≡ u + (task t i).period))
+  Waits n = (wait t r done pressed i l n ≡ 0) ⊎ ((u : ℕ) × (u < n) × T (arrivals t done pressed i u) ×
+      (wait t r done pressed i l n + n ≡ u + (task t i).period))
 
   waits : (n : ℕ) → Waits n
   unfolding state_under

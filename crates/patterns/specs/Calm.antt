@@ -38,7 +38,8 @@ not_iff false = (λ t x. x, λ h. tt)
 pub calm_iff : (t : Table) → Ranged t → T (calm t) ↔ ((u : ℕ) → u ≤ first_idle t (tie_order t) → T (late_at t u) → ⊥)
 unfolding calm
 calm_iff t r = (
-  λ c u l h. (not_iff (missed_at t (tie_order t) u)).0 ((every_iff _ (suc (first_idle t (tie_order t)))).0 c u (omega arith)) (rw (missed_late (tie_system t r) u) h),
+  λ c u l h. (not_iff (missed_at t (tie_order t) u)).0 ((every_iff _ (suc (first_idle t (tie_order t)))).0 c u (omega arith))
+      (rw (missed_late (tie_system t r) u) h),
   λ h. (every_iff _ (suc (first_idle t (tie_order t)))).1
       (λ u l. (not_iff (missed_at t (tie_order t) u)).1 (λ x. h u (omega arith) (rw (missed_late (tie_system t r) u) at x))),
 )

@@ -69,7 +69,8 @@ module _ (t : Table) (none : Buttonless t) where
         go true = (refl, refl)
         go false = (ap (λ (o : ℕ). SlotAnswer.Slot (slot_told t d done o)) (owner_is r d done pressed), after_is r d done pressed)
 
-    pub step_same : ((stepped_pressed t d done pressed).answer ≡ (stepped t d done).answer) × ((stepped_pressed t d done pressed).state ≡ (stepped t d done).state)
+    pub step_same : ((stepped_pressed t d done pressed).answer ≡ (stepped t d done).answer) ×
+        ((stepped_pressed t d done pressed).state ≡ (stepped t d done).state)
     unfolding stepped_pressed admitted_mixed stepped_by admitted
     step_same = rw (judged_same t none) (judging (judged_mixed t) refl)
       where

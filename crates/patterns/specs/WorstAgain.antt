@@ -15,9 +15,11 @@ use Rattle.patterns.specs.RoundAgain.{Same, Rests, owner_same, again}
 module _ (t : Table) (r : Ranged t) where
   -- What is noted of a task never falls.
   grows : (i : ℕ) → i < t.count → (m n : ℕ) → m ≤ n → get_or (worst_by t m) i 0 ≤ get_or (worst_by t n) i 0
-  grows i l m n h = le_ind (λ (x : ℕ). get_or (worst_by t m) i 0 ≤ get_or (worst_by t x) i 0) (le_refl _) (λ k p g. next k (notes t r (tie_order t) k i l) g) n h
+  grows i l m n h = le_ind (λ (x : ℕ). get_or (worst_by t m) i 0 ≤ get_or (worst_by t x) i 0) (le_refl _)
+      (λ k p g. next k (notes t r (tie_order t) k i l) g) n h
     where
-      next : (k : ℕ) → Noting t r (tie_order t) k i → get_or (worst_by t m) i 0 ≤ get_or (worst_by t k) i 0 → get_or (worst_by t m) i 0 ≤ get_or (worst_by t (suc k)) i 0
+      next : (k : ℕ) → Noting t r (tie_order t) k i → get_or (worst_by t m) i 0 ≤ get_or (worst_by t k) i 0 → get_or (worst_by t m) i 0 ≤ get_or
+          (worst_by t (suc k)) i 0
       next k (noting q z e) g = omega (arith, e)
       next k (leaving q e) g = omega (arith, e)
 
