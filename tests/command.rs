@@ -67,12 +67,13 @@ pub fn by_hand(bench: &mut Bench) {
     }
 }
 
-// The launcher: from another folder, through a link, twice at once with nothing built, and once built without the kit.
+// The launcher: from another folder, through a link (which goes again, since rt refuses links), twice at once with nothing built, and once built without the kit.
 
 const LAUNCHED: &str = "cd tables && ln -sf ../../yolizadwa ../target/host/link && rm -f ../target/command/yolizadwa
     ../target/host/link judge b.txt >../target/host/one & ../yolizadwa judge b.table >../target/host/other
     wait && cmp ../target/host/one ../target/host/other && ../yolizadwa --version
     if [ $(uname -m) = x86_64 ]; then PATH=/usr/bin:/bin ../yolizadwa judge b.txt | cmp - ../target/host/one || exit 9; fi
+    rm -f ../target/host/link
     ../yolizadwa judge c.txt; test $? -eq 3";
 
 pub fn launched(bench: &mut Bench) {

@@ -12,7 +12,14 @@ use std::process::Command;
 
 const PAPER: &str = "docs/PROMISES.md";
 const WIDEST: usize = 160;
-const THEORIES: &[&str] = &["crates/backlog/specs", "crates/patterns/specs", "crates/walks/specs", "crates/telling/specs"];
+const THEORIES: &[&str] = &[
+    "crates/backlog/specs",
+    "crates/backlog/proofs",
+    "crates/patterns/specs",
+    "crates/patterns/proofs",
+    "crates/walks/specs",
+    "crates/telling/specs",
+];
 const PROMISES: &str = "crates/promises/specs";
 const SPECIFICATION: &str = "docs/SPECIFICATION.md";
 const README: &str = "README.md";
