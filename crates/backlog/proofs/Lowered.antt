@@ -104,5 +104,5 @@ module _ (t t' : Table) (r : Ranged t) (r' : Ranged t') (e : Lowered t t') (rank
       let (j, f', d', q) = b'.attained in
       let (f, d) = ends_ever (jobs S) (served_of S) (model_run S) i j l in
       let h = ends_earlier (jobs S) (jobs S') cheaper (served_of S) (served_of S') (model_run S) (model_run S') i j f f' l d
-          ((finishes_iff S' i j f' m).0 d') in
+      ((finishes_iff S' i j f' m).0 d') in
       omega (arith, b.bound j f ((finishes_iff S i j f l).1 d), cheaper.same_rel i j l)

@@ -2,7 +2,7 @@
 -- next one, with an order of its tasks, makes streams with the model's demand.
 use Rattle.std.specs.Prelude.{◌≡◌, ℕ, ◌+◌, ◌-◌, ◌*◌}
 use Rattle.std.proofs.Common.{ap, arith}
-use Rattle.model.specs.Tasks.{task, due}
+use Rattle.model.specs.Tasks.{task}
 use Rattle.model.specs.Demand.{demand}
 use Rattle.counting.specs.Sum.{sum_eq}
 use Rattle.wellformed.specs.Demand.{jobs_numbered}

@@ -47,7 +47,7 @@ worst_length t rank (suc n) = go (finishing t rank n) (worst_length t rank n)
     go : (b : Bool) → length (worst_seen t rank n) ≡ task_limit → length
         (cond b (noted (worst_seen t rank n) (owner_at_by t rank quiet n)
         ((task t (owner_at_by t rank quiet n)).period - wait_of (state_at_by t rank quiet (suc n)) (owner_at_by t rank quiet n)))
-            (worst_seen t rank n)) ≡ task_limit
+        (worst_seen t rank n)) ≡ task_limit
     go true e = simp length-set e
     go false e = e
 
@@ -113,7 +113,7 @@ module _ (t : Table) (r : Ranged t) (rank : Order) where
   -- A job that finishes at the end of slot n is its owner's, and nothing of it is left.
   finishes_now : (n : ℕ) → Clear t (suc n) → (i j : ℕ) → i < t.count → DoneFirst (jobs S) (served_of S) i j (suc n)
       → (owner_at_lem n ≡ i) × (left_of (walked_by t rank (suc n)) i ≡ 0) ×
-          (suc n - release_of S i j ≡ (task t i).period - wait_of (walked_by t rank (suc n)) i)
+      (suc n - release_of S i j ≡ (task t i).period - wait_of (walked_by t rank (suc n)) i)
   finishes_now n c i j l (d, f) = go (ℕ_discrete (owner_at_lem n) i)
     where
       not_before : served_of S n i < (task t i).cost * suc j

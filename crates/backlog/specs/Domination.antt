@@ -83,8 +83,11 @@ module _ (J : Jobs) where
   opened κ t l x o i k = go (releases i t k)
     where
       go : Releases J i t → held_of J κ (suc t) x i ≤ held_of J κ t l i + arrive_of J κ t i
-      go (inr (none, e)) = omega (arith, subst (λ (y : ℕ). if_so (dec_le (J.key i (y - 1)) κ) (x i) ≤ held_of J κ t l i) (sym e)
-          (at (dec_le (open_key J t i) κ)))
+      go (inr (none, e)) = omega (
+        arith,
+        subst (λ (y : ℕ). if_so (dec_le (J.key i (y - 1)) κ) (x i) ≤ held_of J κ t l i) (sym e)
+            (at (dec_le (open_key J t i) κ)),
+      )
         where
           at : (d : Dec (open_key J t i ≤ κ)) → if_so d (x i) ≤ if_so d (l i)
           at (yes d) = o.kept i k none

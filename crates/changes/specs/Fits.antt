@@ -1,21 +1,21 @@
 -- WHAT FITS AT A STEP (`fits_easier`): a table that fits at a step of a change, with any budget, fits at every easier one, with every budget
 -- that reaches its horizon.
-use Rattle.std.specs.Prelude.{◌≡◌, refl, ◌↔◌, Bool, true, false, ℕ, suc, ◌+◌, ◌-◌, ◌≤◌, ◌<◌, T, leb}
-use Rattle.std.proofs.Common.{sym, ap, subst, ◌∙◌, arith, leb→le, le→leb}
+use Rattle.std.specs.Prelude.{◌≡◌, refl, ◌↔◌, Bool, true, false, ℕ, ◌≤◌, ◌<◌, T, leb}
+use Rattle.std.proofs.Common.{sym, ap, ◌∙◌, arith, leb→le, le→leb}
 use Rattle.values.specs.declared.Table.{Table}
 use Rattle.values.specs.declared.Measure.{Measure}
 use Rattle.values.specs.declared.Judgement.{Judgement}
 use Rattle.values.specs.declared.Verdict.{Verdict}
 use Rattle.model.specs.Notation.{every}
-use Rattle.model.specs.Tasks.{task, is_button, button_sort, offset, sort_offset, round, horizon, measure, judged}
+use Rattle.model.specs.Tasks.{task, button_sort, sort_offset, round, horizon, measure, judged}
 use Rattle.model.specs.Verdict.{verdict}
-use Rattle.model.specs.Easing.{EasedTask, Eased}
+use Rattle.model.specs.Easing.{Eased}
 use Rattle.model.specs.Largest.{is_pass}
 use Rattle.model.specs.Fitting.{fits_by, fits}
 use Rattle.counting.specs.Count.{is_false, every_iff}
-use Rattle.wellformed.specs.Ranges.{InRange, Ranged}
+use Rattle.wellformed.specs.Ranges.{Ranged}
 use Rattle.wellformed.specs.Round.{RoundKept, round_same}
-use Rattle.wellformed.specs.WellFormed.{Buttonless, horizon_same, judged_iff}
+use Rattle.wellformed.specs.WellFormed.{horizon_same, judged_iff}
 use Rattle.backlog.specs.Verdicts.{passes_needed_iff}
 use Rattle.backlog.specs.Needed.{none_within}
 use Rattle.backlog.proofs.Eased.{eased_passes}

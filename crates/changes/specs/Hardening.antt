@@ -1,7 +1,7 @@
 -- FROM EASY TO HARD (`hardening`): a change goes in steps from 1 on; each step keeps the sort and the period of every task, costs no less
 -- and is due no later than the one before.
-use Rattle.std.specs.Prelude.{◌≡◌, refl, ◌≢◌, List, ℕ, suc, ◌+◌, ◌-◌, ◌*◌, ◌/◌, ◌≤◌, ◌<◌, length, set}
-use Rattle.std.proofs.Common.{sym, ap, ◌∙◌, mul-le-mul, arith, get_or-set_same, get_or-set_other}
+use Rattle.std.specs.Prelude.{◌≡◌, refl, ◌≢◌, List, ℕ, suc, ◌-◌, ◌*◌, ◌≤◌, ◌<◌, set}
+use Rattle.std.proofs.Common.{ap, ◌∙◌, mul-le-mul, arith, get_or-set_same, get_or-set_other}
 use Rattle.std.proofs.Math.Decide.{ℕ_discrete}
 use Rattle.std.proofs.lemmas.List.{set-get_or}
 use Rattle.values.specs.declared.Task.{Task}

@@ -1,7 +1,7 @@
 -- THE NUMBER OF AN EDGE (`edge_number`): the last step at which a table fits stands for the number that the question asks for.
-use Rattle.std.specs.Prelude.{◌≡◌, refl, Bool, T}
-use Rattle.std.proofs.Common.{sym, ap, subst, ◌∙◌, arith}
-use Prim.Native.Nat.{ℕ, suc, ◌+◌, ◌-◌, ◌≤◌, ◌<◌}
+use Rattle.std.specs.Prelude.{◌≡◌, Bool, T}
+use Rattle.std.proofs.Common.{ap, ◌∙◌, arith}
+use Prim.Native.Nat.{ℕ, suc, ◌-◌, ◌≤◌, ◌<◌}
 use Rattle.values.specs.declared.Table.{Table}
 use Rattle.values.specs.declared.Measure.{Measure}
 use Rattle.values.specs.declared.Judgement.{Judgement}

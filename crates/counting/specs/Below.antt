@@ -124,8 +124,11 @@ count_inside f g p q h x y = omega (arith, count_between f g p q x y y, below_mo
 module _ (o p : ℕ) (pos : 0 < p) where
   pub below_period : (x : ℕ) → below (λ j. o + j * p) x ≡ (x - o + (p - 1)) / p
   below_period x =
-      below_unique (λ j. o + j * p) (λ j. omega arith) x _ (λ j. (λ a. omega (arith, (le-div_iff_mul-le pos).0 a), λ a. (le-div_iff_mul-le pos).1
-          (omega arith)))
+      below_unique (λ j. o + j * p) (λ j. omega arith) x _ (λ j. (
+        λ a. omega (arith, (le-div_iff_mul-le pos).0 a),
+        λ a. (le-div_iff_mul-le pos).1
+            (omega arith),
+      ))
 
   pub upto_period : (d x : ℕ) → below (λ j. o + j * p + d) (suc x) ≡ (x + p - (o + d)) / p
   upto_period d x =

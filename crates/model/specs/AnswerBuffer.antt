@@ -1,6 +1,5 @@
 -- The whole answer of a check as numbers in a lent buffer, and the exported call that gives it.
 use Rattle.std.specs.Prelude.{List, [], ◌∷◌, ◌++◌, Bool, cond, ℕ, ◌+◌, ◌*◌, drop, replicate}
-use Rattle.model.specs.Notation.{fill}
 use Rattle.model.specs.Values.{Verdict, Answer, AnswerNumbers}
 use Rattle.model.specs.Limits.{task_limit}
 use Rattle.model.specs.TableFile.{four, eight, bytes_of}

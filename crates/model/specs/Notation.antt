@@ -1,7 +1,7 @@
 -- The words that the definitions use: those of the library, all of them here, and sums, counts, searches and texts.
 -- None is of scheduling.
-use Rattle.std.specs.Prelude.{◌≡◌, ◌⊎◌, Bool, true, false, cond, not, ◌&&◌, ◌||◌, List, [], ◌∷◌, ◌++◌, map, ℕ, zero, suc, ◌+◌, ◌-◌, ◌*◌}
-use Rattle.std.specs.Prelude.{◌/◌, ◌%◌, ◌^◌, min, max, ◌≤◌, ◌<◌, T, leb, ltb, eqb, ℤ, pos, negsuc, ◌-ℤ◌, length, get_or, set, replicate, take, drop}
+use Rattle.std.specs.Prelude.{Bool, true, false, List, [], ◌∷◌, ◌++◌, ℕ, zero, suc, ◌+◌, ◌*◌}
+use Rattle.std.specs.Prelude.{◌/◌, ◌%◌, ◌^◌, max, ◌<◌, ltb, eqb, set}
 use Prim.Native.String as string
 use Prim.Native.Char.{code}
 

@@ -206,5 +206,5 @@ state_front a b size =
     let given : counts_in (a ++ b) counts_at ≡ counts_in a counts_at = fill_eq task_limit _ _ (replicate task_limit 0)
     (λ i l. eight_front a b (counts_at + 8 * i) (omega arith)) in
     let empty : eight (a ++ b) (counts_at + 8 * task_limit) ≡ eight a (counts_at + 8 * task_limit) = eight_front a b (counts_at + 8 * task_limit)
-        (omega arith) in
+    (omega arith) in
     rw (wait, left, last, given, empty)

@@ -27,7 +27,7 @@ module _ (s s' : List ℕ) (long : longest_file < length s) (long' : longest_fil
 
   record_same : (b : ℕ) (ks : List Task) (at : ℕ) (go go' : ℕ → Task → Contents) → at < longest_file
       → go task_bytes (task_in s (at + 1)) ≡ go' task_bytes (task_in s' (at + 1)) → go button_bytes (button_in s (at + 1)) ≡ go' button_bytes
-          (button_in s' (at + 1))
+      (button_in s' (at + 1))
       → read_record s b ks at go ≡ read_record s' b ks at go'
   record_same b ks at go go' h e f =
       rw (

@@ -1,12 +1,11 @@
 -- The loop has passed no task that does not belong; then the other two ways out of the tests.
 use mathlib.Core.Path.{◌≡◌, sym, ◌∙◌}
 use mathlib.Core.Bool.{true, false}
-use Prim.Native.Nat.{◌≤◌, ◌-◌}
+use Prim.Native.Nat.{◌≤◌}
 use native.Mathlib.Omega.{arith}
-use borrow.Author.Rules.{rules}
 use borrow.Author.Tests.{lt-ltb, le-ltb}
 use Rattle.model.specs.Dispatcher.{strange, first_strange, slot_count}
-use Rattle.counting.specs.Search.{NoneFrom, none_up, first_is, first_none}
+use Rattle.counting.specs.Search.{none_up, first_is, first_none}
 use Rattle.belonging.specs.Room.{room_for}
 use Rattle.belonging.proofs.belonging.Goals.{After-loop-i}
 use Rattle.belonging.proofs.belonging.Goals as goal
@@ -34,8 +33,11 @@ none c =
     omega (arith, first_none (strange c.args.t c.args.d) 0 c.args.t.count (λ k l m. c.loop-i.invariant.1 k l (omega arith)))
 
 pub returns-then-last_strange : goal.returns-then-last_strange
-returns-then-last_strange c = rw (le-ltb _ _ (none (goal.at.returns-then-last_strange c).After-loop-i), ← c.last_strange.ensures,
-    c.if-last_strange.true) c.strange_state-then-last_strange.ensures
+returns-then-last_strange c = rw (
+  le-ltb _ _ (none (goal.at.returns-then-last_strange c).After-loop-i),
+  ← c.last_strange.ensures,
+  c.if-last_strange.true,
+) c.strange_state-then-last_strange.ensures
 
 pub returns : goal.returns
 unfolding slot_count room_for

@@ -1,6 +1,5 @@
 -- The two ways out of the test.
 use borrow.Author.Tests.{lt-ltb, le-ltb}
-use borrow.Author.Rules.{rules}
 use Rattle.belonging.proofs.cannot_be_open.Goals as goal
 
 pub returns-then-wait-less : goal.returns-then-wait-less

@@ -1,9 +1,7 @@
 -- What is left and what was taken make what can be counted.
 use mathlib.Core.Path.{◌∙◌}
-use Prim.Native.Nat.{◌≤◌, ◌-◌}
 use native.Mathlib.Omega.{arith}
-use borrow.Author.Rules.{rules}
-use Rattle.belonging.specs.Room.{Left, room_start, room_again, room_beyond, room_end}
+use Rattle.belonging.specs.Room.{room_start, room_again, room_beyond, room_end}
 use Rattle.belonging.proofs.room_for.Goals as goal
 
 pub loop-i-init : goal.loop-i-init

@@ -1,5 +1,4 @@
 -- Above the larger of two is above both.
-use borrow.Author.Rules.{rules}
 use borrow.Author.Tests.{lt-ltb, le-ltb}
 use Rattle.belonging.specs.Strange.{above_both}
 use Rattle.belonging.proofs.waits_too_long.Goals as goal

@@ -1,7 +1,5 @@
 -- The task stands in the table.
 use mathlib.Core.Path.{sym, ap, subst}
-use native.Mathlib.Omega.{arith}
-use borrow.Author.Rules.{rules}
 use Rattle.model.specs.Tasks.{task}
 use Rattle.wellformed.specs.Ranges.{InRange}
 use Rattle.changes.proofs.changed_task.Goals as goal

@@ -1,12 +1,7 @@
 -- No task that the loop has passed has a cost above its deadline.
-use mathlib.Core.Path.{◌≡◌, refl}
-use mathlib.Core.Bool.{Bool}
-use Prim.Native.Nat.{ℕ, ◌≤◌, ◌<◌, ◌-◌}
+use mathlib.Core.Path.{refl}
 use native.Mathlib.Omega.{arith}
-use borrow.Author.Rules.{rules}
-use lib.Dec.{T, leb}
-use Rattle.values.specs.declared.Table.{Table}
-use Rattle.model.specs.Tasks.{task}
+use lib.Dec.{T}
 use Rattle.counting.specs.Count.{tests, all_pass, one_fails}
 use Rattle.counting.specs.Search.{below_suc}
 use Rattle.changes.proofs.keeps_costs.Invariants.{keeps}

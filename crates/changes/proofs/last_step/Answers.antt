@@ -1,6 +1,5 @@
 -- By the change.
 use native.Mathlib.Omega.{arith}
-use borrow.Author.Rules.{rules}
 use Rattle.changes.proofs.last_step.Goals as goal
 
 pub returns-in-Deadline : goal.returns-in-Deadline

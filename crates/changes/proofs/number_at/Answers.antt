@@ -1,7 +1,6 @@
 -- By the change.
 use Prim.Native.Nat.{suc, ◌-◌, ◌≤◌}
 use native.Mathlib.Omega.{arith}
-use borrow.Author.Rules.{rules}
 use Rattle.changes.proofs.number_at.Goals as goal
 
 pub overflow_sub-result : goal.overflow_sub-result

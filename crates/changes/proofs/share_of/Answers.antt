@@ -2,7 +2,6 @@
 use Prim.Native.Nat.{◌*◌, ◌≤◌}
 use native.Mathlib.Nat.{mul-le-mul}
 use native.Mathlib.Omega.{arith}
-use borrow.Author.Rules.{rules}
 use Rattle.model.specs.Limits.{slot_limit, share_limit}
 use Rattle.changes.proofs.share_of.Goals.{Start}
 use Rattle.changes.proofs.share_of.Goals as goal

@@ -1,7 +1,6 @@
 -- The divisor of the odd parts, doubled as often as both numbers are, is that of the numbers.
 use mathlib.Core.Path.{◌≡◌}
 use native.Mathlib.Omega.{arith}
-use borrow.Author.Rules.{rules}
 use Rattle.counting.specs.Divisors.{gcd_zero}
 use Rattle.divisor.specs.Halves.{gcd_none, gcd_shifted, zeros_lt}
 use Rattle.divisor.proofs.divisor.Goals as goal

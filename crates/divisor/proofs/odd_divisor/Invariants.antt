@@ -1,7 +1,6 @@
 -- The larger of two odd numbers gives way to the odd part of their difference. The sum falls at each turn.
 use Prim.Native.Nat.{◌+◌}
-use native.Mathlib.Omega.{arith}
-use Rattle.divisor.specs.Halves.{Odds, odds_start, odds_right, odds_left, odds_end, odd_part_le}
+use Rattle.divisor.specs.Halves.{Odds}
 use Rattle.divisor.proofs.odd_divisor.Given as goal
 
 abbrev pub invariant-loop-x : goal.invariant-loop-x

@@ -1,10 +1,8 @@
 -- Each turn keeps what the search has found.
 use mathlib.Core.Path.{◌≡◌, refl, sym}
-use Prim.Native.Nat.{◌-◌, ◌≤◌}
 use native.Mathlib.Omega.{arith}
-use borrow.Author.Rules.{rules}
 use Rattle.model.specs.Easing.{kept_as}
-use Rattle.easing.specs.Searching.{Searching, begin, next_is, kept_lt, turn, ended_none, ended_all}
+use Rattle.easing.specs.Searching.{begin, next_is, kept_lt, turn, ended_none, ended_all}
 use Rattle.easing.proofs.compare.Goals.{After-next_eased-k}
 use Rattle.easing.proofs.compare.Goals as goal
 
@@ -31,9 +29,11 @@ returns-then-n-k c =
     (omega (arith, c.if-n-k.true)))
 
 pub with_task-kept-requires : goal.with_task-kept-requires
-with_task-kept-requires c =
-    (omega (arith, c.requires.0, c.if-n-k.false), kept_lt c.args.old c.args.new c.loop-i.invariant.3
-        (found (goal.at.with_task-kept-requires c).After-next_eased-k) (omega arith))
+with_task-kept-requires c = (
+  omega (arith, c.requires.0, c.if-n-k.false),
+  kept_lt c.args.old c.args.new c.loop-i.invariant.3
+      (found (goal.at.with_task-kept-requires c).After-next_eased-k) (omega arith),
+)
 
 pub overflow_add-from : goal.overflow_add-from
 overflow_add-from c = omega (arith, c.requires.0, c.if-n-k.false)

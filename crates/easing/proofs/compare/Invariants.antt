@@ -1,10 +1,7 @@
 -- Each turn keeps what the search has found.
-use mathlib.Core.Path.{◌≡◌, refl, sym}
+use mathlib.Core.Path.{◌≡◌}
 use Prim.Native.Nat.{◌-◌, ◌≤◌}
-use native.Mathlib.Omega.{arith}
-use borrow.Author.Rules.{rules}
-use Rattle.model.specs.Easing.{kept_as}
-use Rattle.easing.specs.Searching.{Searching, begin, next_is, kept_lt, turn, ended_none, ended_all}
+use Rattle.easing.specs.Searching.{Searching}
 use Rattle.easing.proofs.compare.Given as goal
 
 abbrev pub invariant-loop-i : goal.invariant-loop-i

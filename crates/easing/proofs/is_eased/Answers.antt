@@ -1,6 +1,5 @@
 -- Each return by the comparison that led to it.
 use native.Mathlib.Omega.{arith}
-use borrow.Author.Rules.{rules}
 use Rattle.easing.specs.Searching.{not_eased, eased_by}
 use Rattle.easing.proofs.is_eased.Goals as goal
 

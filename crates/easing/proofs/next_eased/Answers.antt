@@ -1,15 +1,9 @@
 -- None of the tasks that the loop has passed is one of which k is the eased one.
-use mathlib.Core.Path.{◌≡◌, refl, sym, subst, ◌∙◌}
-use mathlib.Core.Bool.{Bool}
-use Prim.Native.Nat.{ℕ, ◌-◌, ◌≤◌}
+use mathlib.Core.Path.{refl, sym, subst, ◌∙◌}
+use Prim.Native.Nat.{◌-◌}
 use native.Mathlib.Omega.{arith}
-use borrow.Author.Rules.{rules}
 use lib.Dec.{T}
-use Rattle.values.specs.declared.Task.{Task}
-use Rattle.values.specs.declared.Table.{Table}
-use Rattle.model.specs.Tasks.{task}
-use Rattle.model.specs.Easing.{eases}
-use Rattle.counting.specs.Search.{NoneFrom, none_up, first_is, first_none}
+use Rattle.counting.specs.Search.{none_up, first_is, first_none}
 use Rattle.easing.proofs.next_eased.Invariants.{eased}
 use Rattle.easing.proofs.next_eased.Goals as goal
 
@@ -23,7 +17,7 @@ pub returns-then-is_eased : goal.returns-then-is_eased
 returns-then-is_eased c =
     let found = subst T (sym c.if-is_eased.true ∙ c.is_eased.ensures) tt in
     sym (first_is (eased c.args.old c.args.k) c.args.from (c.args.old.count - c.args.from) c.loop-i.i c.loop-i.invariant.1
-        (omega (arith, c.loop-i.invariant.1)) found
+    (omega (arith, c.loop-i.invariant.1)) found
     c.loop-i.invariant.3)
 
 pub loop-i-preserved : goal.loop-i-preserved

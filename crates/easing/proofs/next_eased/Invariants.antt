@@ -1,15 +1,12 @@
 -- None of the tasks that the loop has passed is one of which k is the eased one.
-use mathlib.Core.Path.{◌≡◌, refl, sym, subst, ◌∙◌}
+use mathlib.Core.Path.{◌≡◌}
 use mathlib.Core.Bool.{Bool}
 use Prim.Native.Nat.{ℕ, ◌-◌, ◌≤◌}
-use native.Mathlib.Omega.{arith}
-use borrow.Author.Rules.{rules}
-use lib.Dec.{T}
 use Rattle.values.specs.declared.Task.{Task}
 use Rattle.values.specs.declared.Table.{Table}
 use Rattle.model.specs.Tasks.{task}
 use Rattle.model.specs.Easing.{eases}
-use Rattle.counting.specs.Search.{NoneFrom, none_up, first_is, first_none}
+use Rattle.counting.specs.Search.{NoneFrom}
 use Rattle.easing.proofs.next_eased.Given as goal
 
 abbrev pub eased : Table → Task → ℕ → Bool

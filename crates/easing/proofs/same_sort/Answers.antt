@@ -1,5 +1,4 @@
 -- By the old task's sort.
-use borrow.Author.Rules.{rules}
 use Rattle.easing.proofs.same_sort.Goals as goal
 
 pub returns-then-is_button : goal.returns-then-is_button

@@ -1,6 +1,5 @@
 -- The bit k stands above the others.
 use native.Mathlib.Omega.{arith}
-use borrow.Author.Rules.{rules}
 use Rattle.counting.specs.Bits.{set_bit}
 use Rattle.easing.proofs.with_task.Goals as goal
 

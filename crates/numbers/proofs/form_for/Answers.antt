@@ -1,5 +1,4 @@
 -- The length decides first.
-use borrow.Author.Rules.{rules}
 use borrow.Author.Tests.{eq-eqb, ne_eqb}
 use Rattle.numbers.proofs.form_for.Goals as goal
 

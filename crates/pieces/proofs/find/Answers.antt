@@ -1,10 +1,7 @@
 -- None of the bytes passed is looked for.
-use mathlib.Core.Path.{◌≡◌, refl, sym, ◌∙◌}
-use Prim.Native.Nat.{◌+◌, ◌-◌, ◌≤◌}
+use mathlib.Core.Path.{refl, sym, ◌∙◌}
 use native.Mathlib.Omega.{arith}
-use borrow.Author.Rules.{rules}
-use lib.ListN.{length, drop}
-use Rattle.pieces.specs.Marks.{is_mark, length_to, here, not_here, length_to_le}
+use Rattle.pieces.specs.Marks.{is_mark, here, not_here, length_to_le}
 use Rattle.pieces.proofs.find.Goals as goal
 
 pub loop-i-init : goal.loop-i-init

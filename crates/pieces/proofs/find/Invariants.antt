@@ -1,10 +1,8 @@
 -- None of the bytes passed is looked for.
-use mathlib.Core.Path.{◌≡◌, refl, sym, ◌∙◌}
+use mathlib.Core.Path.{◌≡◌}
 use Prim.Native.Nat.{◌+◌, ◌-◌, ◌≤◌}
-use native.Mathlib.Omega.{arith}
-use borrow.Author.Rules.{rules}
 use lib.ListN.{length, drop}
-use Rattle.pieces.specs.Marks.{is_mark, length_to, here, not_here, length_to_le}
+use Rattle.pieces.specs.Marks.{is_mark, length_to}
 use Rattle.pieces.proofs.find.Given as goal
 
 abbrev pub invariant-loop-i : goal.invariant-loop-i

@@ -2,13 +2,11 @@
 use mathlib.Core.Path.{◌≡◌, refl, sym, ap, ◌∙◌}
 use mathlib.Core.Bool.{Bool}
 use mathlib.Core.List.{List}
-use Prim.Native.Nat.{ℕ, ◌-◌, ◌≤◌, ◌<◌}
+use Prim.Native.Nat.{ℕ, ◌<◌}
 use native.Mathlib.Omega.{arith}
-use borrow.Author.Rules.{rules}
 use borrow.Author.Rules.{part_to_end}
 use lib.ListN.{length, take, length-drop}
-use Rattle.model.specs.PlainText.{lines_of, same}
-use Rattle.model.specs.ReportRead.{has_line}
+use Rattle.model.specs.PlainText.{same}
 use Rattle.pieces.specs.Pieces.{from_front}
 use Rattle.pieces.specs.HasLine.{first_line_is, no_line_left, later_lines}
 use Rattle.pieces.proofs.has_line.Goals.{After-same}
@@ -28,7 +26,7 @@ compared c b e =
 pub returns-then-same : goal.returns-then-same
 returns-then-same c =
     sym (sym c.loop-left.invariant.1 ∙ first_line_is c.loop-left.left.now c.args.line.now c.find-end.ensures.value
-        (compared (goal.at.returns-then-same c).After-same _ c.if-same.true))
+    (compared (goal.at.returns-then-same c).After-same _ c.if-same.true))
 
 pub returns-then-end-left : goal.returns-then-end-left
 returns-then-end-left c =

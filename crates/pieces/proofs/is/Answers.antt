@@ -1,5 +1,4 @@
 -- Each arm is the test of its mark.
-use borrow.Author.Rules.{rules}
 use Rattle.pieces.proofs.is.Goals as goal
 
 pub returns-in-LineEnd : goal.returns-in-LineEnd

@@ -1,10 +1,6 @@
 -- The bytes passed are the same.
-use mathlib.Core.Path.{◌≡◌, refl, sym, ◌∙◌}
-use Prim.Native.Nat.{◌-◌, ◌≤◌}
+use mathlib.Core.Path.{refl, sym, ◌∙◌}
 use native.Mathlib.Omega.{arith}
-use borrow.Author.Rules.{rules}
-use lib.ListN.{length, drop}
-use Rattle.model.specs.PlainText.{same}
 use Rattle.pieces.specs.Same.{other_length, other_byte, same_byte, same_end}
 use Rattle.pieces.proofs.same.Goals as goal
 

@@ -74,5 +74,8 @@ loop-slots-preserved c =
     let inside : c.find-end.result < length left = omega (arith, c.find-end.ensures.upper_bound, c.if-end-left.false) in
     let rest : drop 1 (lines_of left) ≡ lines_of (drop (c.find-end.result + 1) left) = later_line left c.loop-slots.invariant.1
     (omega (arith, c.find-end.ensures.value)) ∙ ap (λ (n : ℕ). lines_of (drop (n + 1) left)) (sym c.find-end.ensures.value) in
-    rw part_to_end (simp length-drop (omega (arith, c.loop-slots.invariant.0)), rw rest at
-        (joined (goal.at.loop-slots-preserved c).Joined-read_line (said (goal.at.loop-slots-preserved c).After-read_line)))
+    rw part_to_end (
+      simp length-drop (omega (arith, c.loop-slots.invariant.0)),
+      rw rest at
+          (joined (goal.at.loop-slots-preserved c).Joined-read_line (said (goal.at.loop-slots-preserved c).After-read_line)),
+    )

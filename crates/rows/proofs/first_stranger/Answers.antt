@@ -1,12 +1,8 @@
 -- None of the rows read is a stranger.
 use mathlib.Core.Path.{sym}
-use mathlib.Core.Bool.{Bool, not}
-use mathlib.Core.List.{List}
-use Prim.Native.Nat.{ℕ, ◌-◌, ◌≤◌}
 use native.Mathlib.Omega.{arith}
-use borrow.Author.Rules.{rules}
-use Rattle.model.specs.Writer.{rows, is_task, first_stranger}
-use Rattle.counting.specs.Search.{NoneFrom, none_up, first_is, first_none}
+use Rattle.model.specs.Writer.{rows, first_stranger}
+use Rattle.counting.specs.Search.{none_up, first_is, first_none}
 use Rattle.rows.proofs.first_stranger.Invariants.{stranger}
 use Rattle.rows.proofs.first_stranger.Goals as goal
 

@@ -1,12 +1,9 @@
 -- None of the rows read is a stranger.
-use mathlib.Core.Path.{sym}
 use mathlib.Core.Bool.{Bool, not}
 use mathlib.Core.List.{List}
 use Prim.Native.Nat.{ℕ, ◌-◌, ◌≤◌}
-use native.Mathlib.Omega.{arith}
-use borrow.Author.Rules.{rules}
-use Rattle.model.specs.Writer.{rows, is_task, first_stranger}
-use Rattle.counting.specs.Search.{NoneFrom, none_up, first_is, first_none}
+use Rattle.model.specs.Writer.{rows, is_task}
+use Rattle.counting.specs.Search.{NoneFrom}
 use Rattle.rows.proofs.first_stranger.Given as goal
 
 abbrev pub stranger : List ℕ → ℕ → Bool

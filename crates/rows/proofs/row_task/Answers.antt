@@ -1,4 +1,3 @@
-use borrow.Author.Rules.{rules}
 use Rattle.rows.proofs.row_task.Goals as goal
 
 pub returns : goal.returns

@@ -1,8 +1,7 @@
 -- The rows below `i` are in the table.
 use mathlib.Core.Path.{◌≡◌}
-use Prim.Native.Nat.{min, ◌-◌, ◌≤◌}
+use Prim.Native.Nat.{min}
 use native.Mathlib.Omega.{arith}
-use borrow.Author.Rules.{rules}
 use lib.ListN.{replicate}
 use Rattle.model.specs.Limits.{task_limit}
 use Rattle.model.specs.Notation.{fill}

@@ -1,14 +1,11 @@
 -- The rows below `i` are in the table.
 use mathlib.Core.Path.{◌≡◌}
 use Prim.Native.Nat.{min, ◌-◌, ◌≤◌}
-use native.Mathlib.Omega.{arith}
-use borrow.Author.Rules.{rules}
 use lib.ListN.{replicate}
 use Rattle.model.specs.Limits.{task_limit}
 use Rattle.model.specs.Notation.{fill}
 use Rattle.model.specs.Tasks.{no_task}
-use Rattle.model.specs.Writer.{rows, row_task, table_in}
-use Rattle.counting.specs.Fill.{fill_none, fill_put, fill_done}
+use Rattle.model.specs.Writer.{rows, row_task}
 use Rattle.rows.proofs.table_in.Given as goal
 
 abbrev pub invariant-loop-i : goal.invariant-loop-i

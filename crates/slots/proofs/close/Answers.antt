@@ -1,6 +1,5 @@
 -- A task has its slots closed, and no task has none.
 use borrow.Author.Tests.{lt-ltb, le-ltb}
-use borrow.Author.Rules.{rules}
 use Rattle.slots.specs.Slot.{closed}
 use Rattle.slots.proofs.close.Goals as goal
 

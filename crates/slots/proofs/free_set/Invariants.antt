@@ -1,16 +1,8 @@
 -- The loop has the free buttons among the tasks that it has passed.
 use mathlib.Core.Path.{◌≡◌}
-use mathlib.Core.Bool.{◌&&◌}
 use Prim.Native.Nat.{◌≤◌, ◌-◌}
-use native.Mathlib.Omega.{arith}
-use lib.Dec.{eqb}
-use borrow.Author.Tests.{lt-ltb}
-use borrow.Author.Rules.{rules}
 use Rattle.model.specs.Notation.{bits}
-use Rattle.model.specs.Tasks.{task, is_button}
-use Rattle.counting.specs.Bits.{bits_none, bits_more, bits_lt}
-use Rattle.slots.specs.Slot.{at, is_free}
-use Rattle.slots.specs.Laws.{found_done}
+use Rattle.slots.specs.Slot.{is_free}
 use Rattle.slots.proofs.free_set.Given as goal
 
 abbrev pub invariant-loop-i : goal.invariant-loop-i

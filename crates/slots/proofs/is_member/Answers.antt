@@ -1,7 +1,6 @@
 -- The last bit of the set moved down to i.
 use Prim.Native.Nat.{◌/◌, ◌^◌}
 use lib.Bits.{and_mask}
-use borrow.Author.Rules.{rules}
 use Rattle.slots.proofs.is_member.Goals as goal
 
 pub returns : goal.returns

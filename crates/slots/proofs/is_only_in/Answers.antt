@@ -1,5 +1,4 @@
 -- A member of the one, and not of the other.
-use borrow.Author.Rules.{rules}
 use Rattle.slots.proofs.is_only_in.Goals as goal
 
 pub returns-then-is_member : goal.returns-then-is_member

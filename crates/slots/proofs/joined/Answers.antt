@@ -1,6 +1,5 @@
 -- The bit i stands above the others.
 use native.Mathlib.Omega.{arith}
-use borrow.Author.Rules.{rules}
 use Rattle.counting.specs.Bits.{set_bit}
 use Rattle.slots.proofs.joined.Goals as goal
 

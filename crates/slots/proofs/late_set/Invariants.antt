@@ -1,15 +1,8 @@
 -- The loop has the late jobs of the tasks that it has passed.
 use mathlib.Core.Path.{◌≡◌}
-use mathlib.Core.Bool.{◌&&◌}
 use Prim.Native.Nat.{◌≤◌, ◌-◌}
-use native.Mathlib.Omega.{arith}
-use lib.Dec.{ltb, eqb}
-use borrow.Author.Tests.{lt-ltb}
-use borrow.Author.Rules.{rules}
 use Rattle.model.specs.Notation.{bits}
-use Rattle.counting.specs.Bits.{bits_none, bits_more, bits_lt}
-use Rattle.slots.specs.Slot.{at, is_late}
-use Rattle.slots.specs.Laws.{found_done}
+use Rattle.slots.specs.Slot.{is_late}
 use Rattle.slots.proofs.late_set.Given as goal
 
 abbrev pub invariant-loop-i : goal.invariant-loop-i

@@ -1,5 +1,4 @@
 -- A button, and its wait is 0.
-use borrow.Author.Rules.{rules}
 use Rattle.slots.proofs.may_be_pressed.Goals as goal
 
 pub returns-then-is_button : goal.returns-then-is_button

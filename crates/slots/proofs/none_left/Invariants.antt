@@ -1,11 +1,7 @@
 -- None of the tasks that the loop has passed has a slot left.
-use mathlib.Core.Path.{◌≡◌, sym}
+use mathlib.Core.Path.{◌≡◌}
 use Prim.Native.Nat.{ℕ, ◌-◌, ◌≤◌, ◌<◌}
-use native.Mathlib.Omega.{arith}
-use borrow.Author.Count.{below_more}
-use borrow.Author.Rules.{rules}
 use Rattle.slots.specs.Slot.{at}
-use Rattle.slots.specs.Laws.{one_left, all_given}
 use Rattle.slots.proofs.none_left.Given as goal
 
 abbrev pub invariant-loop-i : goal.invariant-loop-i

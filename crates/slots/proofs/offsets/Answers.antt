@@ -1,12 +1,7 @@
 -- The loop has the offsets of the tasks that it has passed.
-use mathlib.Core.Path.{◌≡◌}
-use Prim.Native.Nat.{◌≤◌, ◌-◌}
 use native.Mathlib.Omega.{arith}
-use borrow.Author.Rules.{rules}
-use Rattle.model.specs.Tasks.{task, offset}
 use Rattle.model.specs.Dispatcher.{start_of}
 use Rattle.counting.specs.Fill.{fill_none, fill_put, fill_done}
-use Rattle.slots.specs.Columns.{column}
 use Rattle.slots.proofs.offsets.Goals as goal
 
 pub loop-i-init : goal.loop-i-init

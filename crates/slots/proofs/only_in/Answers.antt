@@ -1,9 +1,6 @@
 -- The loop has the members of `tasks` that are not in `others`, among those that it has passed.
-use mathlib.Core.Path.{◌≡◌}
 use mathlib.Core.Bool.{not, ◌&&◌}
-use Prim.Native.Nat.{◌≤◌, ◌-◌}
 use native.Mathlib.Omega.{arith}
-use borrow.Author.Rules.{rules}
 use Rattle.model.specs.Limits.{task_limit}
 use Rattle.model.specs.Notation.{bits, in_set}
 use Rattle.counting.specs.Bits.{bits_none, bits_more, bits_lt}

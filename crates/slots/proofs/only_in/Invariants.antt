@@ -2,12 +2,8 @@
 use mathlib.Core.Path.{◌≡◌}
 use mathlib.Core.Bool.{not, ◌&&◌}
 use Prim.Native.Nat.{◌≤◌, ◌-◌}
-use native.Mathlib.Omega.{arith}
-use borrow.Author.Rules.{rules}
 use Rattle.model.specs.Limits.{task_limit}
 use Rattle.model.specs.Notation.{bits, in_set}
-use Rattle.counting.specs.Bits.{bits_none, bits_more, bits_lt}
-use Rattle.counting.specs.Fill.{at_end_lem}
 use Rattle.slots.proofs.only_in.Given as goal
 
 abbrev pub invariant-loop-i : goal.invariant-loop-i

@@ -1,12 +1,7 @@
 -- The loop has put the number for the set's members among the tasks that it has passed.
-use mathlib.Core.Path.{◌≡◌}
-use mathlib.Core.Bool.{cond}
-use Prim.Native.Nat.{◌≤◌, ◌-◌}
 use native.Mathlib.Omega.{arith}
-use borrow.Author.Rules.{rules}
-use Rattle.model.specs.Notation.{in_set, fill}
 use Rattle.counting.specs.Fill.{fill_none, fill_put, fill_read, fill_done}
-use Rattle.slots.specs.Slot.{at, put_all}
+use Rattle.slots.specs.Slot.{put_all}
 use Rattle.slots.proofs.put_all.Goals as goal
 
 pub loop-i-init : goal.loop-i-init

@@ -2,11 +2,8 @@
 use mathlib.Core.Path.{◌≡◌}
 use mathlib.Core.Bool.{cond}
 use Prim.Native.Nat.{◌≤◌, ◌-◌}
-use native.Mathlib.Omega.{arith}
-use borrow.Author.Rules.{rules}
 use Rattle.model.specs.Notation.{in_set, fill}
-use Rattle.counting.specs.Fill.{fill_none, fill_put, fill_read, fill_done}
-use Rattle.slots.specs.Slot.{at, put_all}
+use Rattle.slots.specs.Slot.{at}
 use Rattle.slots.proofs.put_all.Given as goal
 
 abbrev pub invariant-loop-i : goal.invariant-loop-i

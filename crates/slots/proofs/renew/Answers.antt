@@ -2,7 +2,6 @@
 use mathlib.Core.Path.{sym}
 use borrow.Author.Tests.{eq-eqb, ne_eqb}
 use lib.Seq.{set-get_or}
-use borrow.Author.Rules.{rules}
 use Rattle.slots.proofs.renew.Goals as goal
 
 pub returns-then-w-eq0 : goal.returns-then-w-eq0

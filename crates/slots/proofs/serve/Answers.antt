@@ -1,14 +1,12 @@
 -- The loop has passed over the tasks before i, none of them late.
 use mathlib.Core.Path.{◌≡◌, sym, ◌∙◌}
-use mathlib.Core.Logic.{inl, inr}
-use Prim.Native.Nat.{◌-◌, ◌≤◌, ◌<◌}
+use Prim.Native.Nat.{◌<◌}
 use native.Mathlib.Omega.{arith}
 use borrow.Author.Tests.{lt-ltb, le-ltb}
 use Rattle.model.specs.Limits.{task_limit}
 use Rattle.counting.specs.Fill.{fill_read}
 use Rattle.slots.specs.Slot.{at, wait_released, left_released}
-use Rattle.slots.specs.Serve.{Serving, serving_start, late_here, serve_closed, serve_first, serve_later, served_late, served_quiet}
-use borrow.Author.Rules.{rules}
+use Rattle.slots.specs.Serve.{serving_start, late_here, serve_closed, serve_first, serve_later, served_late, served_quiet}
 use Rattle.slots.proofs.serve.Goals.{then-left-i-gt0+else-wait-i, else-left-i-gt0}
 use Rattle.slots.proofs.serve.Goals.{then-open-gt0+then-key-least, then-open-gt0+else-key-least, else-open-gt0}
 use Rattle.slots.proofs.serve.Goals as goal

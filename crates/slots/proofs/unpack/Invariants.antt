@@ -1,12 +1,9 @@
 -- The loop has unpacked the tasks that it has passed.
-use mathlib.Core.Path.{◌≡◌, refl}
+use mathlib.Core.Path.{◌≡◌}
 use Prim.Native.Nat.{◌≤◌, ◌-◌}
-use native.Mathlib.Omega.{arith}
-use borrow.Author.Rules.{rules}
 use Rattle.model.specs.Tasks.{task}
 use Rattle.model.specs.Run.{tie_order}
-use Rattle.counting.specs.Fill.{fill_none, fill_put}
-use Rattle.slots.specs.Columns.{column, columns_of}
+use Rattle.slots.specs.Columns.{column}
 use Rattle.slots.proofs.unpack.Given as goal
 
 abbrev pub invariant-loop-i : goal.invariant-loop-i

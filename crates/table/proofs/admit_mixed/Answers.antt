@@ -1,6 +1,5 @@
 -- Refused as the survey is, or admitted.
 use native.Mathlib.Omega.{arith}
-use borrow.Author.Rules.{rules}
 use Rattle.wellformed.specs.WellFormed.{mixed_of}
 use Rattle.table.proofs.admit_mixed.Goals as goal
 

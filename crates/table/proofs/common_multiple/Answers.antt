@@ -1,6 +1,5 @@
 -- Above the limit, a multiple already, or by the greatest common divisor.
 use native.Mathlib.Omega.{arith}
-use borrow.Author.Rules.{rules}
 use Rattle.counting.specs.Divisors.{gcd_pos, lcm_by, lcm_multiple}
 use Rattle.wellformed.specs.Round.{multiple_le}
 use Rattle.table.proofs.common_multiple.Goals as goal

@@ -1,6 +1,5 @@
 -- Refused as the survey is; by 11 at the first button; or measured.
 use native.Mathlib.Omega.{arith}
-use borrow.Author.Rules.{rules}
 use borrow.Author.Tests.{lt-ltb, le-ltb}
 use Rattle.model.specs.Tasks.{judged}
 use Rattle.wellformed.specs.WellFormed.{mixed_of}

@@ -1,6 +1,5 @@
 -- Refused as the survey is, or measured.
 use native.Mathlib.Omega.{arith}
-use borrow.Author.Rules.{rules}
 use Rattle.wellformed.specs.WellFormed.{mixed_of}
 use Rattle.table.proofs.judge_mixed.Goals as goal
 

@@ -1,16 +1,11 @@
 -- The load so far is the sum over the tasks read, and at most a whole round for each; the latest offset so far is the largest.
-use mathlib.Core.Path.{◌≡◌, refl}
-use mathlib.Core.Logic.{⊎_elim}
-use Prim.Native.Nat.{ℕ, ◌-◌, ◌*◌, max, ◌≤◌}
-use native.Mathlib.Omega.{arith}
-use borrow.Author.Rules.{rules}
+use mathlib.Core.Path.{◌≡◌}
+use Prim.Native.Nat.{ℕ, ◌-◌, ◌*◌, ◌≤◌}
 use Rattle.values.specs.declared.Table.{Table}
 use Rattle.model.specs.Limits.{slot_limit, round_limit}
 use Rattle.model.specs.Notation.{sum, largest}
-use Rattle.model.specs.Tasks.{task, offset, round, load, horizon}
-use Rattle.counting.specs.Sum.{sum_none, sum_more}
-use Rattle.counting.specs.Search.{largest_none, largest_more}
-use Rattle.wellformed.specs.Round.{share, share_le}
+use Rattle.model.specs.Tasks.{task, offset}
+use Rattle.wellformed.specs.Round.{share}
 use Rattle.table.proofs.measure_of.Given as goal
 
 abbrev pub start : Table → ℕ → ℕ

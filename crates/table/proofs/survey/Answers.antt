@@ -1,16 +1,13 @@
 -- The tasks read keep their ranges, and their multiple and first button are known.
 use mathlib.Core.Path.{◌≡◌, sym, ◌∙◌}
-use mathlib.Core.Logic.{⊎_elim}
-use Prim.Native.Nat.{◌-◌, ◌≤◌}
 use native.Mathlib.Omega.{arith}
-use borrow.Author.Rules.{rules}
 use borrow.Author.Tests.{eq-eqb, ne_eqb, lt-ltb, le-ltb}
 use Rattle.model.specs.Limits.{task_limit}
 use Rattle.model.specs.Tasks.{task, task_fault, first_faulty, judged_mixed}
 use Rattle.counting.specs.Search.{first_is}
 use Rattle.wellformed.specs.Ranges.{faulty, faultless, marked}
 use Rattle.wellformed.specs.WellFormed.{mixed_long}
-use Rattle.table.specs.Survey.{button, Read, read_none, read_button, read_on, read_ranged, read_kept, read_long, read_first}
+use Rattle.table.specs.Survey.{Read, read_none, read_button, read_on, read_ranged, read_kept, read_long, read_first}
 use Rattle.table.proofs.survey.Goals.{After-loop-i, After-struct_known-1}
 use Rattle.table.proofs.survey.Goals.{then-button-n+then-is_button, else-button-n}
 use Rattle.table.proofs.survey.Goals.{else-button-n-via-then-button-n+else-is_button, else-button-n-via-else-button-n}
@@ -87,8 +84,8 @@ pub returns-then-round-gt-ROUND_LIMIT : goal.returns-then-round-gt-ROUND_LIMIT
 returns-then-round-gt-ROUND_LIMIT c =
     let t = c.args.t in
     rw c.refused-then-round-gt-ROUND_LIMIT.ensures
-        (mixed_long t (read_ranged t _ _ (omega arith) (omega arith) (read (goal.at.returns-then-round-gt-ROUND_LIMIT c).After-loop-i))
-        (read_long t _ _ (omega arith) (omega arith) (read (goal.at.returns-then-round-gt-ROUND_LIMIT c).After-loop-i)
+    (mixed_long t (read_ranged t _ _ (omega arith) (omega arith) (read (goal.at.returns-then-round-gt-ROUND_LIMIT c).After-loop-i))
+    (read_long t _ _ (omega arith) (omega arith) (read (goal.at.returns-then-round-gt-ROUND_LIMIT c).After-loop-i)
     (omega arith)))
 
 pub returns : goal.returns

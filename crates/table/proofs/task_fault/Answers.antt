@@ -1,5 +1,4 @@
 -- Each return rewrites with the tests that led to it.
-use borrow.Author.Rules.{rules}
 use Rattle.model.specs.Tasks.{task_fault}
 use Rattle.table.proofs.task_fault.Goals as goal
 

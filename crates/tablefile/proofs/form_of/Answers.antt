@@ -70,8 +70,13 @@ pub overflow_add-at-in-OneTask : goal.overflow_add-at-in-OneTask
 overflow_add-at-in-OneTask c = omega (arith, within (task_read_lem (goal.at.overflow_add-at-in-OneTask c).In-OneTask), c.record_bytes-at.ensures)
 
 pub loop-why-smaller : goal.loop-why-smaller
-loop-why-smaller c = omega (arith, within (task_read_lem (goal.at.loop-why-smaller c).In-OneTask), c.record_bytes-at.ensures, record_size_lem
-    (is_button c.in-OneTask.task))
+loop-why-smaller c = omega (
+  arith,
+  within (task_read_lem (goal.at.loop-why-smaller c).In-OneTask),
+  c.record_bytes-at.ensures,
+  record_size_lem
+      (is_button c.in-OneTask.task),
+)
 
 pub loop-why-preserved : goal.loop-why-preserved
 loop-why-preserved c = rw c.record_bytes-at.ensures (task_read_lem (goal.at.loop-why-preserved c).In-OneTask)

@@ -1,5 +1,4 @@
 use native.Mathlib.Omega.{arith}
-use borrow.Author.Rules.{rules}
 use Rattle.model.specs.Notation.{text}
 use Rattle.counting.specs.Put.{join}
 use Rattle.text.proofs.put_line.Goals as goal

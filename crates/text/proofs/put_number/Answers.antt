@@ -1,5 +1,4 @@
 use native.Mathlib.Omega.{arith}
-use borrow.Author.Rules.{rules}
 use Rattle.counting.specs.Put.{join}
 use Rattle.text.specs.Decimal.{wide}
 use Rattle.text.proofs.put_number.Goals as goal

@@ -1,5 +1,4 @@
 use native.Mathlib.Omega.{arith}
-use borrow.Author.Rules.{rules}
 use Rattle.model.specs.Notation.{decimal}
 use Rattle.text.specs.Pieces.{join_line}
 use Rattle.text.proofs.put_pair.Goals as goal

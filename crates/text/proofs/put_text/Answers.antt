@@ -1,12 +1,10 @@
 -- The bytes below `i` are put.
 use mathlib.Core.Path.{◌≡◌, refl}
-use Prim.Native.Nat.{◌≤◌, ◌+◌, ◌-◌}
 use native.Mathlib.Nat.{add-zero}
 use native.Mathlib.Omega.{arith}
-use borrow.Author.Rules.{rules}
-use lib.ListN.{length, take, length-set}
+use lib.ListN.{length, length-set}
 use lib.Seq.{take-length}
-use Rattle.counting.specs.Put.{Put, nothing}
+use Rattle.counting.specs.Put.{nothing}
 use Rattle.text.specs.Pieces.{copied}
 use Rattle.text.proofs.put_text.Goals as goal
 

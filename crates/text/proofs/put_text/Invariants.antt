@@ -1,13 +1,8 @@
 -- The bytes below `i` are put.
-use mathlib.Core.Path.{◌≡◌, refl}
+use mathlib.Core.Path.{◌≡◌}
 use Prim.Native.Nat.{◌≤◌, ◌+◌, ◌-◌}
-use native.Mathlib.Nat.{add-zero}
-use native.Mathlib.Omega.{arith}
-use borrow.Author.Rules.{rules}
-use lib.ListN.{length, take, length-set}
-use lib.Seq.{take-length}
-use Rattle.counting.specs.Put.{Put, nothing}
-use Rattle.text.specs.Pieces.{copied}
+use lib.ListN.{length, take}
+use Rattle.counting.specs.Put.{Put}
 use Rattle.text.proofs.put_text.Given as goal
 
 abbrev pub invariant-loop-i : goal.invariant-loop-i

@@ -1,6 +1,5 @@
 -- The lower word, and behind it the upper one.
 use native.Mathlib.Omega.{arith}
-use borrow.Author.Rules.{rules}
 use Rattle.model.specs.TableFile.{bytes_of}
 use Rattle.counting.specs.Put.{join}
 use Rattle.words.proofs.put_long.Goals as goal

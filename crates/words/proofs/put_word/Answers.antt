@@ -1,7 +1,6 @@
 -- The four bytes stand one after another.
 use mathlib.Core.Path.{refl}
 use native.Mathlib.Omega.{arith}
-use borrow.Author.Rules.{rules}
 use lib.ListN.{length-set}
 use Rattle.words.specs.Bytes.{four_put}
 use Rattle.words.proofs.put_word.Goals as goal

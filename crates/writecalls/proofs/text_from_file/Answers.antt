@@ -1,5 +1,4 @@
 -- What was said is told.
-use borrow.Author.Rules.{rules}
 use Rattle.writecalls.proofs.text_from_file.Goals as goal
 
 pub returns : goal.returns

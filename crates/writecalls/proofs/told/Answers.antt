@@ -1,5 +1,4 @@
 -- Each arm is one case of what was said.
-use borrow.Author.Rules.{rules}
 use Rattle.writecalls.proofs.told.Goals as goal
 
 pub returns-in-Refused : goal.returns-in-Refused

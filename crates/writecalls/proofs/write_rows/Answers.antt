@@ -1,6 +1,5 @@
 -- The rows decide first.
 use mathlib.Core.Path.{sym, ◌∙◌}
-use borrow.Author.Rules.{rules}
 use borrow.Author.Tests.{lt-ltb, le-ltb}
 use Rattle.writecalls.proofs.write_rows.Goals as goal
 
