@@ -1,4 +1,4 @@
--- THE PERMITTED ANSWER (`permitted_course`): what is said of a table that is refused or overloaded, and at the end of a walk, is what the model permits.
+-- What is said of a table that is refused or overloaded, and at the end of a walk, is what the model permits.
 use Rattle.std.specs.Prelude.{◌≡◌, refl, List, ℕ, suc, ◌-◌, ◌≤◌, ◌<◌, min, T}
 use Rattle.std.proofs.Common.{◌∙◌, inl, inr, arith, lt-ltb, le-ltb}
 use Rattle.std.proofs.Math.Decide.{dec_lt}
@@ -24,9 +24,7 @@ use Rattle.backlog.proofs.PassedWorst.{met_of_passed}
 use Rattle.backlog.specs.Walk.{Clear}
 use Rattle.backlog.proofs.WalkWorst.{walk_worsts}
 use Rattle.patterns.specs.FirstIdle.{first_idle_lem}
-use Rattle.walks.specs.declared.Course.{Course}
 use Rattle.walks.specs.Tally.{Tally, idle_is}
-use Rattle.walks.specs.Course.{Ends}
 use Rattle.exact.specs.Concluded.{refused_by, overloaded, concluded}
 
 pub permitted_refused : (t : Table) (why : Refusal) → judged t ≡ Judgement.Refused why → (budget : ℕ) → Permitted t budget (refused_by why)
@@ -57,7 +55,7 @@ module _ (t : Table) (m : Measure) (budget : ℕ) (well : judged t ≡ Judgement
     idle_told h = tally.idles ∙ idle_is t n (omega (arith, (first_idle_lem t r (tie_order t) fits).1, facts.offset_le 0 r.some, facts.horizon_is))
 
     -- It reached the budget or the horizon and found nothing late.
-    permitted_quiet : (from : ℕ) → Clear t (suc n) → n ≡ min budget m.horizon → Permitted t budget (concluded m from 0 n worst idle)
+    pub permitted_quiet : (from : ℕ) → Clear t (suc n) → n ≡ min budget m.horizon → Permitted t budget (concluded m from 0 n worst idle)
     permitted_quiet from c e = go (dec_lt n (horizon t)) (dec_t (late_at t (needed t)))
       where
         go : Dec (n < horizon t) → Dec (T (late_at t (needed t))) → Permitted t budget (concluded m from 0 n worst idle)
@@ -78,7 +76,7 @@ module _ (t : Table) (m : Measure) (budget : ℕ) (well : judged t ≡ Judgement
             permitted _ Verdict.Passes u.0 (worst, q, rw (le-ltb n m.horizon (omega (arith, facts.horizon_is)), u.1, a, ← idle_told (omega arith), ← b))
 
     -- It found, at a late deadline, the largest start that asks too much.
-    permitted_late : (from asked : ℕ) → n ≤ min budget m.horizon → Clear t n → T (late_at t n) → from < n → asked ≡ demand t from n → n - from < asked
+    pub permitted_late : (from asked : ℕ) → n ≤ min budget m.horizon → Clear t n → T (late_at t n) → from < n → asked ≡ demand t from n → n - from < asked
         → ((later : ℕ) → from < later → later < n → T (asks_too_much t later n) → ⊥) → Permitted t budget (concluded m from asked n worst idle)
     permitted_late from asked b clear h l e o none =
         let a : needed t ≡ n = needed_is t n (omega (arith, facts.horizon_is)) clear (λ x. h) in
@@ -87,11 +85,3 @@ module _ (t : Table) (m : Measure) (budget : ℕ) (well : judged t ≡ Judgement
         (λ later x y. none later x ((too_much_iff t later n).0 y).0 y) in
         let v : verdict t budget ≡ Verdict.Late from n asked = u.0 ∙ rw (a, f, e) in
         permitted _ (Verdict.Late from n asked) v (rw (lt-ltb 0 asked (omega arith), u.1, a))
-
-  -- So it is permitted, however it ended.
-  pub permitted_course : m.load ≤ m.round → {c : Course} → Ends t m budget c
-      → Permitted t budget (concluded m c.from c.asked c.at c.worst c.idle)
-  permitted_course light {c} e = elim e.way [
-    | inl q ↦ rw q.none (permitted_quiet light e.tally c.from q.clear q.ends)
-    | inr l ↦ permitted_late light e.tally c.from c.asked l.upto l.clear l.late l.before l.asks l.much l.last
-  ]

@@ -125,7 +125,7 @@ module _ (t : Table) (d : State) (done : Bool) (slots bytes b : ℕ) where
   behind_by true opened = refl
   behind_by false opened = refl
 
-  other_is : (opened : Bool) (found : Finding) → ends_slot found bytes opened b ≡ false
+  pub other_is : (opened : Bool) (found : Finding) → ends_slot found bytes opened b ≡ false
       → joined d (other_read (reading opened found) b found) ≡ read_by t (log opened found) b found
   other_is opened Finding.Nothing e = other_by (eqb bytes log_limit) opened (eqb b 17) e refl
   other_is opened Finding.Good e = behind_by (eqb bytes log_limit) opened
@@ -136,11 +136,6 @@ pub slot_byte : (t : Table) (d : State) (r : Reading) (b : ℕ) → ends_slot r.
     → slot_met t (joined d r) b ≡ read_byte t (joined d r) b
 unfolding read_byte
 slot_byte t d r b e = slot_is t d r.done r.slots r.bytes b r.opened r.found e
-
-pub other_byte : (t : Table) (d : State) (r : Reading) (b : ℕ) → ends_slot r.found r.bytes r.opened b ≡ false
-    → joined d (other_read r b r.found) ≡ read_byte t (joined d r) b
-unfolding read_byte
-other_byte t d r b e = other_is t d r.done r.slots r.bytes b r.opened r.found e
 
 -- A dispatcher's step on such a log is not refused.
 pub steps : (t : Table) (l : Log) → Readable t l → Unrefused t l.state

@@ -1,7 +1,8 @@
 -- An overload, or what the walk found.
 use native.Mathlib.Omega.{arith}
 use borrow.Author.Rules.{rules}
-use Rattle.exact.specs.Answers.{permitted_overload, permitted_course}
+use Rattle.exact.specs.Answers.{permitted_overload}
+use Rattle.exact.proofs.Course.{permitted_course}
 use Rattle.exact.proofs.tested.Goals as goal
 
 pub returns-then-m : goal.returns-then-m

@@ -9,7 +9,8 @@ use Rattle.model.specs.Dispatcher.{slot_count}
 use Rattle.model.specs.Log.{Log, read_byte}
 use Rattle.dispatch.specs.Step.{Unpacked, Advanced, state_with, owner_room, state_is}
 use Rattle.slotlog.specs.State.{joined}
-use Rattle.slotlog.specs.Bytes.{Readable, steps, slot_same, slot_other, slot_byte, other_byte, one_more}
+use Rattle.slotlog.specs.Bytes.{Readable, steps, slot_same, slot_other, slot_byte, one_more}
+use Rattle.slotlog.proofs.OtherByte.{other_byte}
 use Rattle.slotlog.proofs.read_bytes.Goals.{After-advance-moved, At-loop-i, Joined-ends_slot, Start}
 use Rattle.slotlog.proofs.read_bytes.Goals.{then-ends_slot+then-is_due, then-ends_slot+else-is_due, else-ends_slot}
 use Rattle.slotlog.proofs.read_bytes.Goals as goal

@@ -10,7 +10,8 @@ use Rattle.model.specs.Dispatcher.{slot_count}
 use Rattle.model.specs.Log.{Log, read_byte}
 use Rattle.dispatch.specs.Step.{Unpacked, Advanced, state_with, owner_room, state_is}
 use Rattle.slotlog.specs.State.{joined}
-use Rattle.slotlog.specs.Bytes.{Readable, is_due, steps, slot_same, slot_byte, other_byte, one_more}
+use Rattle.slotlog.specs.Bytes.{Readable, is_due, steps, slot_same, slot_byte, one_more}
+use Rattle.slotlog.proofs.OtherByte.{other_byte}
 use Rattle.slotlog.specs.InPlace.{moved_to, moved_if, whole}
 use Rattle.slotlog.proofs.read_in_place.Goals.{At-loop-log, Else-not-is_met, In-loop-log, Joined-ends_slot, Start}
 use Rattle.slotlog.proofs.read_in_place.Goals.{then-ends_slot+else-not-is_met, else-ends_slot}

@@ -1,0 +1,2 @@
+-- What rests on laws that an edit makes false.
+pub mod Course
