@@ -1,4 +1,4 @@
--- A DISTANCE (`distance_button`, `distance_periodic`), and the common divisor by which it is reduced.
+-- A BUTTON IS AT DISTANCE 0 (`distance_button`), and two periodic tasks at what their common divisor leaves.
 use Rattle.std.specs.Prelude.{◌≡◌, refl, Bool, true, false, ◌&&◌, ℕ, suc, ◌-◌, ◌%◌, ◌<◌, eqb, ◌-ℤ◌, pos as int}
 use Rattle.std.proofs.Common.{arith, eqb→eq}
 use Rattle.std.proofs.Math.Nat.{dvd_iff_mod-eq-zero, le_of_dvd, pos_of_dvd_of_pos}

@@ -211,9 +211,9 @@ refused_export file buffer e r long q checked = elim (periodic_refused file r q)
 ]
 
 -- A short buffer is refused by 30 at its length, before the file is looked at, and stays as it was.
-pub short_buffer : (file buffer : List ℕ) (e : Exported)
+pub short_buffer_lem : (file buffer : List ℕ) (e : Exported)
     → ltb (length buffer) report_bytes ≡ true → Checked file buffer e → e ≡ refused (refusal 30 (length buffer)) buffer
-short_buffer file buffer e short =
+short_buffer_lem file buffer e short =
     told_refused (λ r. refused r buffer) (report_written buffer)
     (file_read file) e (refusal 30 (length buffer)) (taken report_bytes file buffer) (rw short)
 
@@ -266,9 +266,9 @@ refused_answer_said t budget r a e p = ap answer_said (refused_answer t budget r
 -- with `task_limit` for the last-run number, or with `sum_place` for more slots than can be counted;
 -- one that can count no slot more is refused by 9.
 module _ (t : Table) (m : Measure) (d : State) (done : Bool) (well : judged t ≡ Judgement.WellFormed m) where
-  pub strange_state : first_strange t d < t.count → slot_said (stepped t d done).answer ≡ 8 ∷ first_strange t d ∷ []
+  pub strange_state_lem : first_strange t d < t.count → slot_said (stepped t d done).answer ≡ 8 ∷ first_strange t d ∷ []
   unfolding stepped_by stateAdmitted
-  strange_state h = rw (well, lt-ltb (first_strange t d) t.count h) refl
+  strange_state_lem h = rw (well, lt-ltb (first_strange t d) t.count h) refl
 
   module _ (each : t.count ≤ first_strange t d) where
     pub strange_last : last_strange t d ≡ true → slot_said (stepped t d done).answer ≡ 8 ∷ task_limit ∷ []
@@ -281,10 +281,10 @@ module _ (t : Table) (m : Measure) (d : State) (done : Bool) (well : judged t �
     strange_sum last more =
         rw (well, le-ltb (first_strange t d) t.count each, last, lt-ltb slot_count_limit (slot_count t d) more) refl
 
-    pub full_state : last_strange t d ≡ false → slot_count t d ≡ slot_count_limit
+    pub full_state_lem : last_strange t d ≡ false → slot_count t d ≡ slot_count_limit
         → slot_said (stepped t d done).answer ≡ 9 ∷ 0 ∷ []
     unfolding stepped_by
-    full_state last full =
+    full_state_lem last full =
         rw (state_admitted t m well d each last (omega arith), eq-eqb (slot_count t d) slot_count_limit full) refl
 
     -- Every other state is taken.

@@ -28,7 +28,7 @@ use Rattle.patterns.proofs.QuickDistance.{quick_distance}
 use Rattle.tablefile.specs.Admitted.{well_table}
 use Rattle.tablefile.specs.Periodic.{periodic_read}
 use Rattle.telling.specs.Distance.{distance_refuses, distance_words, distance_low, distance_one, distance_heavy}
-use Rattle.promises.specs.FileNumbers.{Apart, refused_file, read_file, file_apart}
+use Rattle.promises.specs.FileNumbers.{Apart, refused_file_lem, read_file, file_apart}
 
 -- A refused table is refused by its number and place; of any other 0 is said, with 2 for overload,
 -- 1 for pass and 0 for no answer.
@@ -90,7 +90,7 @@ distance_overload t m well =
 -- 2 for overload, 1 for pass, 0 for none.
 pub refused_distance_file : (file : List ℕ) (r : Refusal)
     → (file_read file).admission ≡ Admission.Refused r → distance_exported file ≡ refusal_number r
-refused_distance_file file = refused_file file (λ t. distance_number (distance_answer t)) distance_refuses
+refused_distance_file file = refused_file_lem file (λ t. distance_number (distance_answer t)) distance_refuses
 
 pub read_distance_file : (file : List ℕ) → (file_read file).admission ≡ Admission.Admitted
     → distance_exported file ≡ distance_number (distance_answer (file_read file).table)

@@ -31,9 +31,9 @@ abbrev pub RefusesButtons : (Table → ℕ) → Type 0
 RefusesButtons tell = (t : Table) (r : Refusal) → judged t ≡ Judgement.Refused r → tell t ≡ refusal_number r
 
 module _ (file : List ℕ) (tell : Table → ℕ) where
-  pub refused_file : Refuses tell → (r : Refusal) → (file_read file).admission ≡ Admission.Refused r
+  pub refused_file_lem : Refuses tell → (r : Refusal) → (file_read file).admission ≡ Admission.Refused r
       → file_number file tell ≡ refusal_number r
-  refused_file refuses r h = elim (refused_for file r h) [
+  refused_file_lem refuses r h = elim (refused_for file r h) [
     | inl f ↦ rw (f, file_number)
     | inr (f, j) ↦ rw (f, file_number) (refuses (form_of file).table r j)
   ]
@@ -48,7 +48,7 @@ module _ (file : List ℕ) (tell : Table → ℕ) where
       → (most : ℕ) → ((t : Table) (m : Measure) → judged_mixed t ≡ Judgement.WellFormed m → tell t ≤ most)
       → Apart (file_read file).admission most (file_number file tell)
   file_apart refuses most low = elim (admitted_or_told (file_read file).admission (read_tellable file)) [
-    | inr (r, e, h) ↦ inr (r, e, refused_file refuses r e, h)
+    | inr (r, e, h) ↦ inr (r, e, refused_file_lem refuses r e, h)
     | inl e ↦ let (same, (m, well)) = admitted file e in
         inl (e, rw (read_file e) (low (file_read file).table m (rw same well)))
   ]
@@ -57,7 +57,7 @@ module _ (file : List ℕ) (tell : Table → ℕ) where
   pub refused_periodic : RefusesButtons tell → (r : Refusal) → (periodic_from file).admission ≡ Admission.Refused r
       → file_number file tell ≡ refusal_number r
   refused_periodic refuses r h = elim (periodic_refused file r h) [
-    | inl e ↦ refused_file (λ t w f. refuses t w (refused_both t w f)) r e
+    | inl e ↦ refused_file_lem (λ t w f. refuses t w (refused_both t w f)) r e
     | inr (e, f) ↦ rw (read_file e) (refuses (file_read file).table r f)
   ]
 

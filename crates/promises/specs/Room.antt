@@ -25,7 +25,7 @@ use Rattle.patterns.proofs.CostsFall.{lowered_distance}
 use Rattle.tablefile.specs.Refused.{read_tellable}
 use Rattle.telling.specs.Refusals.{admitted_or_told}
 use Rattle.telling.specs.Rooms as rooms
-use Rattle.promises.specs.FileNumbers.{refused_file, read_file}
+use Rattle.promises.specs.FileNumbers.{refused_file_lem, read_file}
 
 -- What the distance test passes it passes with costs alone lowered.
 pub lower_costs_pass : (t t' : Table) (m m' : Measure)
@@ -76,7 +76,7 @@ one_room t i c d a b = elim (dec_lt c d) [
 -- A refused file is refused as by reading it; of any other its table is answered for.
 pub room_refused_file : (file : List ℕ) (i : ℕ) (r : Refusal)
     → (file_read file).admission ≡ Admission.Refused r → room_exported file i ≡ refusal_number r
-room_refused_file file i = refused_file file (λ t. room_answer t (min i 65535)) (λ t r e. room_refused t (min i 65535) r e)
+room_refused_file file i = refused_file_lem file (λ t. room_answer t (min i 65535)) (λ t r e. room_refused t (min i 65535) r e)
 
 pub room_exported_lem : (file : List ℕ) (i : ℕ) → (file_read file).admission ≡ Admission.Admitted
     → room_exported file i ≡ room_answer (file_read file).table (min i 65535)

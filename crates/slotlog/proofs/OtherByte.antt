@@ -1,5 +1,5 @@
 -- A byte that makes no slot's record whole is read as the code reads it.
-use Rattle.std.specs.Prelude.{◌≡◌, Bool, false, ℕ}
+use Rattle.std.specs.Prelude.{◌≡◌, false, ℕ}
 use Rattle.values.specs.declared.Table.{Table}
 use Rattle.model.specs.Dispatcher.{State}
 use Rattle.model.specs.Log.{read_byte}

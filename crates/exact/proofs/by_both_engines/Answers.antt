@@ -1,5 +1,4 @@
 -- One answer is permitted.
-use borrow.Author.Rules.{rules}
 use Rattle.backlog.proofs.Unique.{permitted_unique}
 use Rattle.exact.proofs.by_both_engines.Goals as goal
 

@@ -1,7 +1,6 @@
 -- By cases on what was found and where the walk ended.
 use native.Mathlib.Omega.{arith}
 use borrow.Author.Tests.{lt-ltb, le-ltb}
-use borrow.Author.Rules.{rules}
 use Rattle.exact.proofs.conclude.Goals as goal
 
 pub returns-then-asked-gt0 : goal.returns-then-asked-gt0

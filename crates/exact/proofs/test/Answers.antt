@@ -1,6 +1,5 @@
 -- A refusal, or the answer to a table that is judged well-formed.
 use mathlib.Core.Path.{sym, ◌∙◌}
-use borrow.Author.Rules.{rules}
 use Rattle.exact.specs.Answers.{permitted_refused}
 use Rattle.exact.proofs.test.Goals as goal
 

@@ -1,6 +1,5 @@
 -- An overload, or what the walk found.
 use native.Mathlib.Omega.{arith}
-use borrow.Author.Rules.{rules}
 use Rattle.exact.specs.Answers.{permitted_overload}
 use Rattle.exact.proofs.Course.{permitted_course}
 use Rattle.exact.proofs.tested.Goals as goal
