@@ -1,4 +1,4 @@
--- The words that the definitions use: those of the library, all of them here, and sums, counts, searches and texts.
+-- The words that the definitions use beside those of the library's Prelude: sums, counts, searches and texts.
 -- None is of scheduling.
 use Rattle.std.specs.Prelude.{Bool, true, false, List, [], ◌∷◌, ◌++◌, ℕ, zero, suc, ◌+◌, ◌*◌}
 use Rattle.std.specs.Prelude.{◌/◌, ◌%◌, ◌^◌, max, ◌<◌, ltb, eqb, set}
