@@ -159,8 +159,13 @@ module _ (t : Table) (d : State) (done : Bool) (unrefused : Unrefused t d) (whol
 
     pub advanced_is : Advanced t d done (record { wait = wait'; left = left'; owner = seen.owner; late = late })
     unfolding after_by
-    advanced_is = record { waits = (slot lefts_left serving).waits; lefts = lefts_are lefts_left serving; owned = owner_is lefts_left serving; lates =
-        late_are }
+    advanced_is = record {
+      waits = (slot lefts_left serving).waits;
+      lefts = lefts_are lefts_left serving;
+      owned = owner_is lefts_left serving;
+      lates =
+          late_are;
+    }
 
 -- And the slot counted: the owner is a task of the table or none, and its count has room for one slot more.
 module _ (t : Table) (d : State) (done : Bool) (unrefused : Unrefused t d) (m : Moved) (a : Advanced t d done m) where

@@ -294,8 +294,11 @@ module _
               upto = c;
               clear = x.clear;
               tally = busy_tally soon soon_gt y (omega (arith, done_at_lem));
-              goes = λ e. (soon_gt, rw task_is (preempted t r soon_gt x h (done - soon) bound (omega (arith, done_at_lem)) (omega arith)
-                  (omega (arith, due_at))));
+              goes = λ e. (
+                soon_gt,
+                rw task_is (preempted t r soon_gt x h (done - soon) bound (omega (arith, done_at_lem)) (omega arith)
+                    (omega (arith, due_at))),
+              );
               late = λ g. absurd (subst T (sym g) tt);
               ends = λ e. absurd (subst T (sym e) tt);
             }

@@ -22,7 +22,7 @@ use Rattle.patterns.proofs.PressHistory.{J, D, onward, press_history, same_state
 -- Until another can come, a job is finished exactly if it had its cost or was reported since it arrived.
 pub finished_iff : (t : Table) (done : ℕ → Bool) (pressed : ℕ → ℕ) (i u n : ℕ) → n ≤ u + (task t i).period
     → FinishedUnder t done pressed i u n ↔
-        ((had_under t done pressed i u n ≡ (task t i).cost) ⊎ ((v : ℕ) × (u < v) × (v ≤ n) × T (done_under t done pressed i v)))
+    ((had_under t done pressed i u n ≡ (task t i).cost) ⊎ ((v : ℕ) × (u < v) × (v ≤ n) × T (done_under t done pressed i v)))
 finished_iff t done pressed i u n h = rw (min-eq_left h) (λ x. x, λ x. x)
 
 module _ (t : Table) (r : Ranged t) (done : ℕ → Bool) (pressed : ℕ → ℕ) (pass : T (distance_pass t)) where

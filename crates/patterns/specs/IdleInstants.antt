@@ -62,7 +62,7 @@ pub idle_any_order : (t : Table) (r : Ranged t) (rank rank' : Order) (u : ℕ) �
 unfolding released_at
 idle_any_order t r rank rank' u =
     same_test _ _ (λ h. (idle_streams S' u).1 (carry S S' refl ((idle_streams S u).0 h)))
-        (λ h. (idle_streams S u).1 (carry S' S refl ((idle_streams S' u).0 h)))
+    (λ h. (idle_streams S u).1 (carry S' S refl ((idle_streams S' u).0 h)))
   where
     S : System
     S = system_of t r rank

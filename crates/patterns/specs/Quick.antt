@@ -77,5 +77,8 @@ quick_iff t r = (
     passed : NeverTooMuch s → verdict s (horizon s) ≡ Verdict.Passes → T (quick_pass t)
     passed never e =
         let (fits, x) = never_of_passed s q (horizon s) e in
-        (and_iff (light t) (calm s)).1 (omega (tests, starting_load t r (λ i. 0), starting_round t r (λ i. 0)), (calm_iff s q).1
-            (λ u l. (never_iff s).0 never u))
+        (and_iff (light t) (calm s)).1 (
+          omega (tests, starting_load t r (λ i. 0), starting_round t r (λ i. 0)),
+          (calm_iff s q).1
+              (λ u l. (never_iff s).0 never u),
+        )

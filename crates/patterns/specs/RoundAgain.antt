@@ -43,8 +43,11 @@ module _ (t : Table) {d e : State} (s : Same d e) where
 
   after_same : Same (after t d false) (after t e false)
   unfolding after_by owner_now_by
-  after_same = record { waits = ap (λ (x : State). (after t x false).wait) (same_blanked s); lefts = ap (λ (x : State). (after t x false).left)
-      (same_blanked s) }
+  after_same = record {
+    waits = ap (λ (x : State). (after t x false).wait) (same_blanked s);
+    lefts = ap (λ (x : State). (after t x false).left)
+        (same_blanked s);
+  }
 
 module _ (t : Table) (r : Ranged t) (Y : Cycle (tie_system t r)) where
   abbrev S : System

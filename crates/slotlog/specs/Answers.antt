@@ -157,7 +157,7 @@ module _ (t : Table) (few : t.count ≤ task_limit) (done : ℕ → Bool) (n p :
     unfolding read_byte
     says_empty rest apart =
         stop t here 17 rest (Finding.Differs n) (rw
-            (within, ne_eqb (owner_at t done n) task_limit (λ e. apart (rw (eq-eqb (owner_at t done n) task_limit e))))) tt
+        (within, ne_eqb (owner_at t done n) task_limit (λ e. apart (rw (eq-eqb (owner_at t done n) task_limit e))))) tt
 
     says_unknown : (k : ℕ) (rest : List ℕ) → (k < 16) ⊎ (19 < k) → says t here (k ∷ rest) ≡ Finding.Fault 40 p
     unfolding read_byte

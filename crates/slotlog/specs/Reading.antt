@@ -246,7 +246,7 @@ module _ (t : Table) (few : t.count ≤ task_limit) where
             let z : ◌≡◌ {A = ℕ} 16 17 = cc in absurd (omega arith)
         go (inr l) =
             let y : ◌≡◌ {A = List ℕ} (16 ∷ k ∷ []) (16 ∷ owner_at t done n ∷ []) = rw
-                (ne_eqb (owner_at t done n) task_limit (λ e. absurd (omega arith))) at x in
+            (ne_eqb (owner_at t done n) task_limit (λ e. absurd (omega arith))) at x in
             let z : k ≡ owner_at t done n = cc in
             (and_iff (ltb k t.count) (eqb k (owner_at t done n))).1 (lt→ltb k t.count (omega arith), eq→eqb k (owner_at t done n) z)
 

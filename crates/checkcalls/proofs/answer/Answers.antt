@@ -19,5 +19,5 @@ returns-then-buffer-lt-ANSWER_BYTES c =
 pub returns : goal.returns
 returns c =
     let told = told_of_lem (λ r. refused r c.args.buffer.now) (numbers_written c.args.buffer.now) c.args.file.now c.check_file-found.result
-        c.check_file-found.ensures.file_found in
+    c.check_file-found.ensures.file_found in
     rw (le-ltb _ _ c.if-buffer-lt-ANSWER_BYTES.false, c.export_numbers.ensures) told

@@ -18,5 +18,5 @@ returns-then-report-lt-REPORT_BYTES c =
 pub returns : goal.returns
 returns c =
     let told = told_of_lem (λ r. refused r c.args.report.now) (report_written c.args.report.now) c.args.file.now c.check_file-found.result
-        c.check_file-found.ensures.file_found in
+    c.check_file-found.ensures.file_found in
     rw (le-ltb _ _ c.if-report-lt-REPORT_BYTES.false, c.export_report.ensures) told

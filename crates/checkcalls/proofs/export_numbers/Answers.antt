@@ -11,4 +11,4 @@ returns-in-Refused c = rw (c.in-Refused.is, c.refusal_number.ensures)
 pub returns-in-Tested : goal.returns-in-Tested
 returns-in-Tested c =
     by_outcome_of (λ w. refused w c.args.buffer.now) (numbers_written c.args.buffer.now) c.args.found c.in-Tested.is
-        (rw (c.write_answer.ensures, c.numbers_of-numbers.ensures))
+    (rw (c.write_answer.ensures, c.numbers_of-numbers.ensures))

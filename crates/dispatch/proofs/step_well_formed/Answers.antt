@@ -27,8 +27,13 @@ pub returns-then-room-eq0 : goal.returns-then-room-eq0
 returns-then-room-eq0 c =
     rw (
       (told (goal.at.returns-then-room-eq0 c).In-Slots).0,
-      eq-eqb (slot_count c.args.t c.args.d) slot_count_limit (omega (arith, (told (goal.at.returns-then-room-eq0 c).In-Slots).1, most
-          (goal.at.returns-then-room-eq0 c).In-Slots, c.if-room-eq0.true)),
+      eq-eqb (slot_count c.args.t c.args.d) slot_count_limit (omega (
+        arith,
+        (told (goal.at.returns-then-room-eq0 c).In-Slots).1,
+        most
+            (goal.at.returns-then-room-eq0 c).In-Slots,
+        c.if-room-eq0.true,
+      )),
       ← c.full_state.ensures,
     ) c.handed_back-then-room-eq0.ensures
 

@@ -31,7 +31,7 @@ pattern_calm-requires c = record {
 pub returns-then-not-pattern_calm : goal.returns-then-not-pattern_calm
 returns-then-not-pattern_calm c =
     one_fails (stands (table (goal.at.returns-then-not-pattern_calm c).In-loop-i)) (table (goal.at.returns-then-not-pattern_calm c).In-loop-i).count
-        c.loop-i.i c.loop-i-test.true
+    c.loop-i.i c.loop-i-test.true
     (subst T (sym c.pattern_calm.ensures ∙ c.if-not-pattern_calm.true))
 
 pub loop-i-preserved : goal.loop-i-preserved

@@ -27,11 +27,21 @@ returns-then-m c =
 pub returns-then-all_calm : goal.returns-then-all_calm
 unfolding distance_answer distance_pass
 returns-then-all_calm c =
-    rw (well (goal.at.returns-then-all_calm c).In-WellFormed, is_light _ (well (goal.at.returns-then-all_calm c).In-WellFormed) c.if-m.false, ←
-        c.all_calm.ensures, c.if-all_calm.true)
+    rw (
+      well (goal.at.returns-then-all_calm c).In-WellFormed,
+      is_light _ (well (goal.at.returns-then-all_calm c).In-WellFormed) c.if-m.false,
+      ←
+          c.all_calm.ensures,
+      c.if-all_calm.true,
+    )
 
 pub returns-else-all_calm : goal.returns-else-all_calm
 unfolding distance_answer distance_pass
 returns-else-all_calm c =
-    rw (well (goal.at.returns-else-all_calm c).In-WellFormed, is_light _ (well (goal.at.returns-else-all_calm c).In-WellFormed) c.if-m.false, ←
-        c.all_calm.ensures, c.if-all_calm.false)
+    rw (
+      well (goal.at.returns-else-all_calm c).In-WellFormed,
+      is_light _ (well (goal.at.returns-else-all_calm c).In-WellFormed) c.if-m.false,
+      ←
+          c.all_calm.ensures,
+      c.if-all_calm.false,
+    )

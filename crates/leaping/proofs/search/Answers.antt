@@ -99,7 +99,7 @@ long : (c : After-time_of-length)
     → (0 < c.time_of-length.result) × (c.time_of-length.result ≤ c.leap-here.result.time)
 long c =
     length_in _ c.search.invariant.0.ranged _ c.loop-count.invariant (busy (goal.at.After-time_of-length c).At-loop-count) c.time_of-length.result
-        c.time_of-length.ensures
+    c.time_of-length.ensures
 
 pub overflow_sub-from : goal.overflow_sub-from
 overflow_sub-from c = (long (goal.at.overflow_sub-from c).After-time_of-length).1
@@ -149,15 +149,25 @@ requeue-jobs-requires c =
       few (goal.at.requeue-jobs-requires c).At-loop-count,
       omega (arith, long (goal.at.requeue-jobs-requires c).After-time_of-length, c.time_of-length.ensures),
       omega (arith, (c.leap-here.ensures _ h).upto, h.limit),
-      omega (arith, c.time_of.ensures, period-is (goal.at.requeue-jobs-requires c).After-task_of-i,
-          (h.ranged.each _ (own (goal.at.requeue-jobs-requires c).After-task_of-i)).period_le),
+      omega (
+        arith,
+        c.time_of.ensures,
+        period-is (goal.at.requeue-jobs-requires c).After-task_of-i,
+        (h.ranged.each _ (own (goal.at.requeue-jobs-requires c).After-task_of-i)).period_le,
+      ),
     )
 
 pub loop-count-smaller : goal.loop-count-smaller
 loop-count-smaller c =
     let h = c.search.invariant.0 in
-    omega (arith, c.if-length-count.false, long (goal.at.loop-count-smaller c).After-time_of-length, h.columns.costs _
-        (own (goal.at.loop-count-smaller c).After-task_of-i), (h.ranged.each _ (own (goal.at.loop-count-smaller c).After-task_of-i)).cost_pos)
+    omega (
+      arith,
+      c.if-length-count.false,
+      long (goal.at.loop-count-smaller c).After-time_of-length,
+      h.columns.costs _
+          (own (goal.at.loop-count-smaller c).After-task_of-i),
+      (h.ranged.each _ (own (goal.at.loop-count-smaller c).After-task_of-i)).cost_pos,
+    )
 
 pub loop-count-preserved : goal.loop-count-preserved
 loop-count-preserved c =
@@ -167,11 +177,11 @@ loop-count-preserved c =
     let first : entry_at c.offsets-offset.result c.task_of-i.result
     ≡ offset (task t (entry_at c.loop-count.queue (c.loop-count.jobs - 1) % places)) = ap (λ (w : List ℕ). entry_at w c.task_of-i.result)
     c.offsets-offset.ensures ∙ wait_start t r _ (own (goal.at.loop-count-preserved c).After-task_of-i) ∙ ap (λ (i : ℕ). offset (task t i))
-        c.task_of-i.ensures in
+    c.task_of-i.ensures in
     rw (cost-is (goal.at.loop-count-preserved c).After-task_of-i)
     (goes_on _ r _ c.loop-count.invariant (busy (goal.at.loop-count-preserved c).At-loop-count)
-        (omega (arith, c.if-length-count.false, cost-is (goal.at.loop-count-preserved c).After-task_of-i, c.time_of-length.ensures))
-        (few (goal.at.loop-count-preserved c).At-loop-count)
+    (omega (arith, c.if-length-count.false, cost-is (goal.at.loop-count-preserved c).After-task_of-i, c.time_of-length.ensures))
+    (few (goal.at.loop-count-preserved c).At-loop-count)
     (rw (period, first) at c.requeue-jobs.ensures))
 
 pub search-smaller : goal.search-smaller
@@ -196,7 +206,7 @@ returns-then-length-count c =
     let h = c.search.invariant.0 in
     let asked = c.demand-asked.ensures in
     let (much, last) = found _ h.ranged _ c.loop-count.invariant (busy (goal.at.returns-then-length-count c).At-loop-count) c.time_of-length.result
-        c.time_of-length.ensures
+    c.time_of-length.ensures
     (omega (arith, c.if-length-count.true, cost-is (goal.at.returns-then-length-count c).After-task_of-i)) in record {
       ended = λ e. late_ended _ h.ranged h.light (c.leap-here.ensures _ h) c.if-here.true _ _
           (omega (arith, long (goal.at.returns-then-length-count c).After-time_of-length)) asked

@@ -47,7 +47,7 @@ small c =
     let (t, y) = c.requires in
     rw c.task_of-i.ensures
     (left_small t y.ranged y.light y.clear y.held y.tally (c.time_of-soon.ensures ∙ ap (λ (k : ℕ). at c.args.releases.now k / span) y.last_is)
-        y.before (omega (arith, c.if-jobs-eq0.false)))
+    y.before (omega (arith, c.if-jobs-eq0.false)))
 
 -- It is within the arrays.
 low : (c : After-task_of-i) → c.task_of-i.result < task_limit
@@ -65,7 +65,7 @@ rest-requires c = let y = c.requires.1 in omega (arith, y.before, y.limit)
 pub returns-then-jobs-eq0 : goal.returns-then-jobs-eq0
 returns-then-jobs-eq0 c t y =
     rw c.rest.ensures (rests t y.ranged y.light y.clear y.held y.tally (soon (goal.at.returns-then-jobs-eq0 c).After-time_of-soon t y) y.before
-        c.if-jobs-eq0.true)
+    c.if-jobs-eq0.true)
 
 pub offset_bounds-ready-jobs : goal.offset_bounds-ready-jobs
 offset_bounds-ready-jobs c = omega (arith, few (goal.at.offset_bounds-ready-jobs c).Else-jobs-eq0)
@@ -83,7 +83,7 @@ pub returns-then-due-soon : goal.returns-then-due-soon
 returns-then-due-soon c t y =
     rw c.stop.ensures
     (stops t y.ranged y.light y.clear y.held y.tally (soon (goal.at.returns-then-due-soon c).After-time_of-soon t y) y.before
-        (busy (goal.at.returns-then-due-soon c).Else-jobs-eq0)
+    (busy (goal.at.returns-then-due-soon c).Else-jobs-eq0)
     c.task_of-i.ensures c.time_of-due.ensures refl
     (inl (omega (arith, c.if-due-soon.true, c.if-soon-done.true), omega (arith, c.if-due-soon.true))))
 
@@ -91,7 +91,7 @@ pub returns-then-end-soon : goal.returns-then-end-soon
 returns-then-end-soon c t y =
     rw c.stop-then-end-soon.ensures
     (stops t y.ranged y.light y.clear y.held y.tally (soon (goal.at.returns-then-end-soon c).After-time_of-soon t y) y.before
-        (busy (goal.at.returns-then-end-soon c).Else-jobs-eq0)
+    (busy (goal.at.returns-then-end-soon c).Else-jobs-eq0)
     c.task_of-i.ensures c.time_of-due.ensures refl
     (inr (
       omega (arith, c.if-end-soon.true, c.if-soon-done.true),
@@ -113,7 +113,7 @@ pub returns-then-due-done : goal.returns-then-due-done
 returns-then-due-done c t y =
     rw c.stop-then-due-done.ensures
     (stops t y.ranged y.light y.clear y.held y.tally (soon (goal.at.returns-then-due-done c).After-time_of-soon t y) y.before
-        (busy (goal.at.returns-then-due-done c).Else-jobs-eq0)
+    (busy (goal.at.returns-then-due-done c).Else-jobs-eq0)
     c.task_of-i.ensures c.time_of-due.ensures refl
     (inl (omega (arith, c.if-due-done.true), omega (arith, c.if-due-done.true, c.if-soon-done.false))))
 
@@ -121,7 +121,7 @@ pub returns-then-end-done : goal.returns-then-end-done
 returns-then-end-done c t y =
     rw c.stop-then-end-done.ensures
     (stops t y.ranged y.light y.clear y.held y.tally (soon (goal.at.returns-then-end-done c).After-time_of-soon t y) y.before
-        (busy (goal.at.returns-then-end-done c).Else-jobs-eq0)
+    (busy (goal.at.returns-then-end-done c).Else-jobs-eq0)
     c.task_of-i.ensures c.time_of-due.ensures refl
     (inr (
       omega (arith, c.if-end-done.true),
@@ -135,7 +135,7 @@ overflow_sub-jobs c = omega (arith, busy (goal.at.overflow_sub-jobs c).Else-jobs
 -- The owner's deadline, read from its entry.
 deadline-is : (c : After-task_of-i) (t : Table) →
     (y : Ready t c.args.deadline.now c.args.releases.now c.args.ready.now c.args.left.now c.args.worst.now c.args.last c.args.at c.args.end
-        c.args.jobs c.args.idle)
+    c.args.jobs c.args.idle)
     → at c.args.deadline.now c.task_of-i.result / span ≡ (task t c.task_of-i.result).deadline
 deadline-is c t y = ap (λ (x : ℕ). x / span) (y.deadlines _ (own c t y)) ∙ entry_time t y.ranged _ c.task_of-i.result (own c t y)
 
@@ -149,8 +149,12 @@ finish-requires c =
       omega (arith, few (goal.at.finish-requires c).Else-jobs-eq0),
       omega (arith, c.if-due-done.false),
       omega (arith, spare, d),
-      omega (arith, d, (y.ranged.each _ (own (goal.at.finish-requires c).After-task_of-i t y)).deadline_le,
-          (y.ranged.each _ (own (goal.at.finish-requires c).After-task_of-i t y)).period_le),
+      omega (
+        arith,
+        d,
+        (y.ranged.each _ (own (goal.at.finish-requires c).After-task_of-i t y)).deadline_le,
+        (y.ranged.each _ (own (goal.at.finish-requires c).After-task_of-i t y)).period_le,
+      ),
     )
 
 pub returns : goal.returns

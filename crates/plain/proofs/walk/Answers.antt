@@ -180,5 +180,5 @@ returns-then-asked-at c =
     let last = none_between (table a) f.ranged (light a) c.loop-from.invariant.0 (omega (arith, c.loop-from.invariant.1, c.loop-from.invariant.2))
     c.start_before-from.ensures.1 c.loop-from.invariant.3 in
     late_course i.3.tally _ _ (omega (arith, (ending a).smaller-end.ensures)) i.3.walk.clear late
-        (omega (arith, c.loop-from.invariant.0, down (goal.at.returns-then-asked-at c).After-start_before-from))
+    (omega (arith, c.loop-from.invariant.0, down (goal.at.returns-then-asked-at c).After-start_before-from))
     c.demand-asked.ensures c.if-asked-at.true last

@@ -24,8 +24,11 @@ most : (c : Start) → slot_count c.args.t c.args.d ≤ slot_count_limit
 most c = (fitting _ _ (measure c.args.t) (told c).0).room
 
 pub returns-then-room-eq0 : goal.returns-then-room-eq0
-returns-then-room-eq0 c = rw ((told (goal.at.returns-then-room-eq0 c).Start).0, eq-eqb (slot_count c.args.t c.args.d) slot_count_limit
-    (omega (arith, (told (goal.at.returns-then-room-eq0 c).Start).1, most (goal.at.returns-then-room-eq0 c).Start, c.if-room-eq0.true)))
+returns-then-room-eq0 c = rw (
+  (told (goal.at.returns-then-room-eq0 c).Start).0,
+  eq-eqb (slot_count c.args.t c.args.d) slot_count_limit
+      (omega (arith, (told (goal.at.returns-then-room-eq0 c).Start).1, most (goal.at.returns-then-room-eq0 c).Start, c.if-room-eq0.true)),
+)
     c.handed_back.ensures
 
 pub step_taken-requires : goal.step_taken-requires
@@ -33,6 +36,9 @@ step_taken-requires c = pressable _ _ c.requires.ranged (told (goal.at.step_take
     (omega (arith, (told (goal.at.step_taken-requires c).Start).1, c.if-room-eq0.false))
 
 pub returns : goal.returns
-returns c = rw ((told (goal.at.returns c).Start).0, ne_eqb (slot_count c.args.t c.args.d) slot_count_limit
-    (λ e. absurd (omega (arith, (told (goal.at.returns c).Start).1, c.if-room-eq0.false))))
+returns c = rw (
+  (told (goal.at.returns c).Start).0,
+  ne_eqb (slot_count c.args.t c.args.d) slot_count_limit
+      (λ e. absurd (omega (arith, (told (goal.at.returns c).Start).1, c.if-room-eq0.false))),
+)
     c.step_taken.ensures

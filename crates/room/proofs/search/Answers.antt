@@ -45,7 +45,7 @@ loop-fails-smaller-then-passes_with c = omega arith
 pub loop-fails-preserved-then-passes_with : goal.loop-fails-preserved-then-passes_with
 loop-fails-preserved-then-passes_with c =
     halving_up c.args.t c.args.i c.loop-fails.passes c.loop-fails.fails (middle (goal.at.loop-fails-preserved-then-passes_with c).At-loop-fails)
-        c.loop-fails.invariant (omega arith) (omega arith)
+    c.loop-fails.invariant (omega arith) (omega arith)
     (sym c.passes_with.ensures ∙ c.if-passes_with.true)
 
 pub loop-fails-smaller : goal.loop-fails-smaller
@@ -54,7 +54,7 @@ loop-fails-smaller c = omega arith
 pub loop-fails-preserved : goal.loop-fails-preserved
 loop-fails-preserved c =
     halving_down c.args.t c.args.i c.loop-fails.passes c.loop-fails.fails (middle (goal.at.loop-fails-preserved c).At-loop-fails)
-        c.loop-fails.invariant (omega arith) (omega arith)
+    c.loop-fails.invariant (omega arith) (omega arith)
     (sym c.passes_with.ensures ∙ c.if-passes_with.false)
 
 pub returns : goal.returns

@@ -39,9 +39,12 @@ told c = (goal.at.After-miscounted c).In-Admitted
 
 pub returns-then-miscounted : goal.returns-then-miscounted
 unfolding log_admitted admitted
-returns-then-miscounted c = rw (well (told (goal.at.returns-then-miscounted c).After-miscounted),
-    (counts (goal.at.returns-then-miscounted c).After-miscounted).0, ← (counts (goal.at.returns-then-miscounted c).After-miscounted).1,
-    c.if-miscounted.true) refl
+returns-then-miscounted c = rw (
+  well (told (goal.at.returns-then-miscounted c).After-miscounted),
+  (counts (goal.at.returns-then-miscounted c).After-miscounted).0,
+  ← (counts (goal.at.returns-then-miscounted c).After-miscounted).1,
+  c.if-miscounted.true,
+) refl
 
 pub returns-in-Refused : goal.returns-in-Refused
 unfolding log_admitted admitted
@@ -58,6 +61,9 @@ returns-in-Refused-belonging c =
 
 pub returns-else-miscounted : goal.returns-else-miscounted
 unfolding log_admitted admitted
-returns-else-miscounted c = rw (well (told (goal.at.returns-else-miscounted c).After-miscounted),
-    (counts (goal.at.returns-else-miscounted c).After-miscounted).0, ← (counts (goal.at.returns-else-miscounted c).After-miscounted).1,
-    c.if-miscounted.false) refl
+returns-else-miscounted c = rw (
+  well (told (goal.at.returns-else-miscounted c).After-miscounted),
+  (counts (goal.at.returns-else-miscounted c).After-miscounted).0,
+  ← (counts (goal.at.returns-else-miscounted c).After-miscounted).1,
+  c.if-miscounted.false,
+) refl

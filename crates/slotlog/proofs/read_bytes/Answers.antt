@@ -38,15 +38,20 @@ moved c t unpacked readable = c.advance-moved.ensures t c.loop-i.given c.loop-i.
 
 pub advance-moved-requires : goal.advance-moved-requires
 advance-moved-requires c =
-    let s = start-from (goal.at.advance-moved-requires c).At-loop-i in
-    (s.requires.unpacked.0, c.loop-i.given, c.loop-i.empty, s.requires.unpacked.2, steps _ (here (goal.at.advance-moved-requires c).At-loop-i)
-        (now (goal.at.advance-moved-requires c).At-loop-i))
+    let s = start-from (goal.at.advance-moved-requires c).At-loop-i in (
+      s.requires.unpacked.0,
+      c.loop-i.given,
+      c.loop-i.empty,
+      s.requires.unpacked.2,
+      steps _ (here (goal.at.advance-moved-requires c).At-loop-i)
+          (now (goal.at.advance-moved-requires c).At-loop-i),
+    )
 
 pub count_given-requires : goal.count_given-requires
 count_given-requires c =
     let s = start-from (goal.at.count_given-requires c).At-loop-i in
     owner_room s.requires.unpacked.0 (here (goal.at.count_given-requires c).At-loop-i).state c.loop-i.read.done
-        (steps _ (here (goal.at.count_given-requires c).At-loop-i) (now (goal.at.count_given-requires c).At-loop-i)) c.advance-moved.result
+    (steps _ (here (goal.at.count_given-requires c).At-loop-i) (now (goal.at.count_given-requires c).At-loop-i)) c.advance-moved.result
     (moved (goal.at.count_given-requires c).After-advance-moved s.requires.unpacked.0 s.requires.unpacked.2 (now (goal.at.count_given-requires c).At-loop-i))
 
 pub count_empty-empty-requires : goal.count_empty-empty-requires

@@ -12,7 +12,7 @@ invariant-loop-i l =
     let log = joined (state_with l.initial.wait l.initial.left l.initial.last l.initial.given l.initial.empty) l.initial.read in
     let here = joined (state_with l.wait l.left l.last l.given l.empty) l.read in
     (l.from ≤ l.i) × (l.i ≤ l.to) × ((t : Table) (start : Log) → Unpacked t l.period l.cost l.slack l.rank l.n → ReadTo t start l.piece l.from log →
-        ReadTo t start l.piece l.i here)
+    ReadTo t start l.piece l.i here)
 
 abbrev pub decreases-loop-i : goal.decreases-loop-i
 decreases-loop-i l = l.to - l.i
