@@ -1,11 +1,10 @@
 -- THE PERMITTED ANSWER, COMPUTED (`computed`): of any table and budget, with the worst responses that a walk to the horizon sees. So the answers of
 -- given tables are found by computing.
-use Rattle.std.specs.Prelude.{◌≡◌, refl, ℕ}
+use Rattle.model.specs.Values.{Judgement}
+use Rattle.std.specs.Prelude.{◌≡◌, refl, ℕ, Ok, Err}
 use Rattle.values.specs.declared.Table.{Table}
 use Rattle.values.specs.declared.Measure.{Measure}
-use Rattle.values.specs.declared.Judgement.{Judgement}
 use Rattle.values.specs.declared.Verdict.{Verdict}
-use Rattle.values.specs.declared.Outcome.{Outcome}
 use Rattle.values.specs.declared.Answer.{Answer}
 use Rattle.model.specs.Tasks.{horizon, judged}
 use Rattle.model.specs.Run.{tie_order}
@@ -21,19 +20,19 @@ use Rattle.backlog.proofs.WalkWorst.{walk_worsts}
 abbrev pub answer_by : Table → ℕ → Measure → Verdict → Answer
 answer_by t budget m Verdict.Passes =
     record {
-      outcome = Outcome.Tested Verdict.Passes;
+      outcome = Ok Verdict.Passes;
       measure = m;
       settled = settled_by t budget;
       worst = worst_by t (horizon t);
       idle = first_idle t (tie_order t);
     }
-answer_by t budget m Verdict.Overload = brief (Outcome.Tested Verdict.Overload) m (settled_by t budget)
-answer_by t budget m (Verdict.Late from to asked) = brief (Outcome.Tested (Verdict.Late from to asked)) m (settled_by t budget)
-answer_by t budget m Verdict.Undecided = brief (Outcome.Tested Verdict.Undecided) m (settled_by t budget)
+answer_by t budget m Verdict.Overload = brief (Ok Verdict.Overload) m (settled_by t budget)
+answer_by t budget m (Verdict.Late from to asked) = brief (Ok (Verdict.Late from to asked)) m (settled_by t budget)
+answer_by t budget m Verdict.Undecided = brief (Ok Verdict.Undecided) m (settled_by t budget)
 
 abbrev pub answer_judged : Table → ℕ → Judgement → Answer
-answer_judged t budget (Judgement.Refused r) = brief (Outcome.Refused r) (record { round = 0; load = 0; horizon = 0 }) 0
-answer_judged t budget (Judgement.WellFormed m) = answer_by t budget m (verdict t budget)
+answer_judged t budget (Err r) = brief (Err r) (record { round = 0; load = 0; horizon = 0 }) 0
+answer_judged t budget (Ok m) = answer_by t budget m (verdict t budget)
 
 unfoldable pub answer_of : Table → ℕ → Answer
 answer_of t budget = answer_judged t budget (judged t)
@@ -46,8 +45,8 @@ answers t r budget m (Verdict.Late from to asked) e = refl
 answers t r budget m Verdict.Undecided e = refl
 
 judged_answer : (t : Table) (budget : ℕ) (j : Judgement) → judged t ≡ j → PermittedBy t budget (answer_judged t budget j) j
-judged_answer t budget (Judgement.Refused r) e = refl
-judged_answer t budget (Judgement.WellFormed m) e = answers t (well_formed t m e).ranged budget m (verdict t budget) refl
+judged_answer t budget (Err r) e = refl
+judged_answer t budget (Ok m) e = answers t (well_formed t m e).ranged budget m (verdict t budget) refl
 
 pub computed : (t : Table) (budget : ℕ) → Permitted t budget (answer_of t budget)
 unfolding Permitted answer_of

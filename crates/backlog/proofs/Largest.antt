@@ -1,6 +1,6 @@
 -- THE LARGEST COST (`largest_cost_lem`): of a table that passes, the largest cost of a task passes, is at least the present one and at most the deadline,
 -- and no larger one up to there ever passes.
-use Rattle.std.specs.Prelude.{◌≡◌, refl, ◌↔◌, ◌≢◌, T, length}
+use Rattle.std.specs.Prelude.{◌≡◌, refl, ◌↔◌, ◌≢◌, T, length, Ok}
 use Rattle.std.proofs.Common.{ap, ◌∙◌, add-mul, arith, get_or-set_same, get_or-set_other}
 use Rattle.std.proofs.Math.Bool.{Bool}
 use Prim.Native.Nat.{ℕ, suc, ◌+◌, ◌-◌, ◌*◌, ◌/◌, ◌≤◌, ◌<◌}
@@ -10,7 +10,6 @@ use Rattle.std.proofs.lemmas.List.{set-get_or}
 use Rattle.values.specs.declared.Task.{Task}
 use Rattle.values.specs.declared.Table.{Table}
 use Rattle.values.specs.declared.Measure.{Measure}
-use Rattle.values.specs.declared.Judgement.{Judgement}
 use Rattle.values.specs.declared.Verdict.{Verdict}
 use Rattle.model.specs.Notation.{last}
 use Rattle.model.specs.Tasks.{no_task, task, offset, round, load, horizon, judged}
@@ -100,8 +99,8 @@ module _ (t : Table) (r : Ranged t) (i : ℕ) (l : i < t.count) where
       other k m h = rw (with_other c k h)
 
   -- With more of that cost, up to the deadline, the table is well-formed too: its load grows, and nothing else.
-  pub well_with : (m : Measure) → judged t ≡ Judgement.WellFormed m → (c : ℕ) → (task t i).cost ≤ c → c ≤ (task t i).deadline
-      → judged (with_cost t i c) ≡ Judgement.WellFormed
+  pub well_with : (m : Measure) → judged t ≡ Ok m → (c : ℕ) → (task t i).cost ≤ c → c ≤ (task t i).deadline
+      → judged (with_cost t i c) ≡ Ok
       (record { round = m.round; load = m.load + (c - (task t i).cost) * (m.round / (task t i).period); horizon = m.horizon })
   well_with m w c a b =
       let (_, h, same, none) = (judged_iff t m).0 w in

@@ -1,12 +1,9 @@
 -- NO STEP IS REFUSED (`never_refused`): from a start on a well-formed table every step that can still be counted is taken, and gives the next state.
-use Rattle.std.specs.Prelude.{◌≡◌, Bool, ℕ, suc, ◌≤◌, ◌<◌}
+use Rattle.std.specs.Prelude.{◌≡◌, Bool, ℕ, suc, ◌≤◌, ◌<◌, Ok}
 use Rattle.std.proofs.Common.{arith}
 use borrow.Author.Tests.{eq-eqb, ne_eqb}
 use Rattle.values.specs.declared.Table.{Table}
 use Rattle.values.specs.declared.Measure.{Measure}
-use Rattle.values.specs.declared.Judgement.{Judgement}
-use Rattle.values.specs.declared.Admission.{Admission}
-use Rattle.values.specs.declared.SlotAnswer.{SlotAnswer}
 use Rattle.model.specs.Values.{refusal}
 use Rattle.model.specs.Limits.{slot_count_limit}
 use Rattle.model.specs.Tasks.{judged}
@@ -18,8 +15,8 @@ use Rattle.backlog.proofs.Accounts.{slots_are}
 use Rattle.wellformed.specs.WellFormed.{well_formed}
 use Rattle.wellformed.specs.Admitted.{admitted_iff}
 
-module _ (t : Table) (m : Measure) (well : judged t ≡ Judgement.WellFormed m) (rank : Order) (done : ℕ → Bool) (n : ℕ) where
-  pub history_admitted : n ≤ slot_count_limit → admitted t (state_at_by t rank done n) ≡ Admission.Admitted
+module _ (t : Table) (m : Measure) (well : judged t ≡ Ok m) (rank : Order) (done : ℕ → Bool) (n : ℕ) where
+  pub history_admitted : n ≤ slot_count_limit → admitted t (state_at_by t rank done n) ≡ Ok tt
   history_admitted h =
       let b = (sound t (well_formed t m well).ranged rank done n).belongs in
       (admitted_iff t (state_at_by t rank done n)).1 (record {
@@ -29,7 +26,7 @@ module _ (t : Table) (m : Measure) (well : judged t ≡ Judgement.WellFormed m) 
       })
 
   pub never_refused : n < slot_count_limit → stepped_by t rank (state_at_by t rank done n) (done n)
-      ≡ record { answer = SlotAnswer.Slot (turn_by t rank (state_at_by t rank done n) (done n)); state = state_at_by t rank done (suc n) }
+      ≡ record { answer = Ok (turn_by t rank (state_at_by t rank done n) (done n)); state = state_at_by t rank done (suc n) }
   unfolding stepped_by state_at_by
   never_refused h =
       rw (

@@ -1,10 +1,10 @@
 -- ONE PERMITTED ANSWER (`permitted_unique`): any two to a table and a budget are equal.
-use Rattle.std.specs.Prelude.{◌≡◌, List, ℕ}
+use Rattle.model.specs.Values.{Judgement}
+use Rattle.std.specs.Prelude.{◌≡◌, List, ℕ, Ok, Err}
 use Rattle.std.proofs.Common.{sym, ◌∙◌, arith, ext_get_or}
 use Rattle.std.proofs.Math.Decide.{dec_lt}
 use Rattle.values.specs.declared.Table.{Table}
 use Rattle.values.specs.declared.Measure.{Measure}
-use Rattle.values.specs.declared.Judgement.{Judgement}
 use Rattle.values.specs.declared.Verdict.{Verdict}
 use Rattle.values.specs.declared.Answer.{Answer}
 use Rattle.model.specs.Tasks.{judged}
@@ -25,8 +25,8 @@ answers_unique t budget m a b (Verdict.Late x y z) e f = cc
 answers_unique t budget m a b Verdict.Undecided e f = cc
 
 judged_unique : (t : Table) (budget : ℕ) (a b : Answer) (j : Judgement) → PermittedBy t budget a j → PermittedBy t budget b j → a ≡ b
-judged_unique t budget a b (Judgement.Refused r) e f = cc
-judged_unique t budget a b (Judgement.WellFormed m) e f = answers_unique t budget m a b (verdict t budget) e f
+judged_unique t budget a b (Err r) e f = cc
+judged_unique t budget a b (Ok m) e f = answers_unique t budget m a b (verdict t budget) e f
 
 pub permitted_unique : (t : Table) (budget : ℕ) (a b : Answer) → Permitted t budget a → Permitted t budget b → a ≡ b
 unfolding Permitted

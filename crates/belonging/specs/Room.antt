@@ -1,16 +1,14 @@
 -- How many slots a state that belongs to a table can still count.
-use Rattle.std.specs.Prelude.{◌≡◌, refl, List, cond, ℕ, suc, ◌+◌, ◌-◌, ◌≤◌, ◌<◌, ltb}
+use Rattle.std.specs.Prelude.{◌≡◌, refl, List, cond, ℕ, suc, ◌+◌, ◌-◌, ◌≤◌, ◌<◌, ltb, Ok, Err}
 use Rattle.std.proofs.Math.Path.{ap}
 use Rattle.std.proofs.Common.{add-one, lt-ltb, le-ltb}
 use native.Mathlib.Omega.{arith}
 use Rattle.std.proofs.Math.ListN.{get_or}
 use Rattle.values.specs.declared.Table.{Table}
 use Rattle.values.specs.declared.Refusal.{Refusal}
-use Rattle.values.specs.declared.Judgement.{Judgement}
-use Rattle.values.specs.declared.Admission.{Admission}
 use Rattle.model.specs.Limits.{slot_count_limit, sum_place}
 use Rattle.model.specs.Notation.{sum}
-use Rattle.model.specs.Values.{refusal}
+use Rattle.model.specs.Values.{refusal, Admission}
 use Rattle.model.specs.Tasks.{measure}
 use Rattle.model.specs.Dispatcher.{State, slot_count, admitted_by}
 use Rattle.counting.specs.Sum.{sum_longer}
@@ -18,26 +16,26 @@ use Rattle.belonging.specs.declared.Room.{Room}
 
 -- By whether a state is admitted, and the slots that it counts.
 abbrev pub room_by : Admission → ℕ → Room
-room_by (Admission.Refused r) slots = Room.Refused r
-room_by Admission.Admitted slots = Room.Slots (slot_count_limit - slots)
+room_by (Err r) slots = Room.Refused r
+room_by (Ok u) slots = Room.Slots (slot_count_limit - slots)
 
 -- Of a well-formed table; and where nothing but the sum can be against a state.
 abbrev pub belonging : Table → State → Room
-belonging t d = room_by (admitted_by t d (Judgement.WellFormed (measure t))) (slot_count t d)
+belonging t d = room_by (admitted_by t d (Ok (measure t))) (slot_count t d)
 
 unfoldable pub room_for : List ℕ → ℕ → ℕ → Room
 room_for given empty n =
     let slots = sum n (λ i. get_or given i 0) + empty in
-    room_by (cond (ltb slot_count_limit slots) (Admission.Refused (refusal 8 sum_place)) Admission.Admitted) slots
+    room_by (cond (ltb slot_count_limit slots) (Err (refusal 8 sum_place)) (Ok tt)) slots
 
 -- What the room tells of the admission.
-pub refused_tells : (a : Admission) (slots : ℕ) (r : Refusal) → room_by a slots ≡ Room.Refused r → a ≡ Admission.Refused r
-refused_tells (Admission.Refused q) slots r e = let same : q ≡ r = cc in rw same
-refused_tells Admission.Admitted slots r e = let z : ◌≡◌ {A = ℕ} 0 1 = cc in absurd (omega arith)
+pub refused_tells : (a : Admission) (slots : ℕ) (r : Refusal) → room_by a slots ≡ Room.Refused r → a ≡ Err r
+refused_tells (Err q) slots r e = let same : q ≡ r = cc in rw same
+refused_tells (Ok u) slots r e = let z : ◌≡◌ {A = ℕ} 0 1 = cc in absurd (omega arith)
 
-pub slots_tell : (a : Admission) (slots room : ℕ) → room_by a slots ≡ Room.Slots room → (a ≡ Admission.Admitted) × (room ≡ slot_count_limit - slots)
-slots_tell (Admission.Refused q) slots room e = let z : ◌≡◌ {A = ℕ} 0 1 = cc in absurd (omega arith)
-slots_tell Admission.Admitted slots room e = (refl, cc)
+pub slots_tell : (a : Admission) (slots room : ℕ) → room_by a slots ≡ Room.Slots room → (a ≡ Ok tt) × (room ≡ slot_count_limit - slots)
+slots_tell (Err q) slots room e = let z : ◌≡◌ {A = ℕ} 0 1 = cc in absurd (omega arith)
+slots_tell (Ok u) slots room e = (refl, cc)
 
 -- What is left once the first i counts are taken from what can be counted.
 abbrev pub Left : List ℕ → ℕ → ℕ → ℕ → Type 0

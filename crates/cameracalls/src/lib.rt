@@ -31,8 +31,8 @@ fn start_table(table: Table, state: &mut [u8]) -> u64
     let started = dispatcher.start(table);
     let admission = started.admission;
     match admission {
-        Admission::Refused(why) => numbers::refusal_number(why),
-        Admission::Admitted => {
+        Err(why) => numbers::refusal_number(why),
+        Ok(()) => {
             let begun = started.dispatcher;
             let first = begun.state;
             statebuffer::write_state(state, first, quiet());
@@ -48,8 +48,8 @@ pub fn start(file: &[u8], state: &mut [u8]) -> u64
     let form = numbers::form_for(file, STATE_BYTES, state.len());
     let admission = form.admission;
     match admission {
-        Admission::Refused(why) => numbers::refusal_number(why),
-        Admission::Admitted => {
+        Err(why) => numbers::refusal_number(why),
+        Ok(()) => {
             let table = form.table;
             start_table(table, state)
         }
@@ -73,8 +73,8 @@ fn step_table(table: Table, state: &mut [u8], done: u32) -> u64
     let stepped = dispatcher.step(table, said_done(done));
     let answer = stepped.answer;
     match answer {
-        SlotAnswer::Refused(why) => numbers::refusal_number(why),
-        SlotAnswer::Slot(turn) => {
+        Err(why) => numbers::refusal_number(why),
+        Ok(turn) => {
             let next = stepped.next;
             let after = next.state;
             statebuffer::write_state(state, after, turn);
@@ -89,8 +89,8 @@ pub fn step(file: &[u8], state: &mut [u8], done: u32) -> u64
     let form = numbers::form_for(file, STATE_BYTES, state.len());
     let admission = form.admission;
     match admission {
-        Admission::Refused(why) => numbers::refusal_number(why),
-        Admission::Admitted => {
+        Err(why) => numbers::refusal_number(why),
+        Ok(()) => {
             let table = form.table;
             step_table(table, state, done)
         }

@@ -1,10 +1,10 @@
 -- WHAT FITS AT A STEP (`fits_easier`): a table that fits at a step of a change, with any budget, fits at every easier one, with every budget
 -- that reaches its horizon.
-use Rattle.std.specs.Prelude.{◌≡◌, refl, ◌↔◌, Bool, true, false, ℕ, ◌≤◌, ◌<◌, T, leb}
+use Rattle.model.specs.Values.{Judgement}
+use Rattle.std.specs.Prelude.{◌≡◌, refl, ◌↔◌, Bool, true, false, ℕ, ◌≤◌, ◌<◌, T, leb, Ok, Err}
 use Rattle.std.proofs.Common.{sym, ap, ◌∙◌, arith, leb→le, le→leb}
 use Rattle.values.specs.declared.Table.{Table}
 use Rattle.values.specs.declared.Measure.{Measure}
-use Rattle.values.specs.declared.Judgement.{Judgement}
 use Rattle.values.specs.declared.Verdict.{Verdict}
 use Rattle.model.specs.Notation.{every}
 use Rattle.model.specs.Tasks.{task, button_sort, sort_offset, round, horizon, measure, judged}
@@ -37,17 +37,17 @@ costs_kept_lem t e k l = leb→le _ _ ((every_iff (cost_kept t) t.count).0 (rw e
 
 -- A table fits exactly if it is well-formed and passes.
 pub fits_iff : (t : Table) (budget : ℕ)
-    → T (fits t budget) ↔ (((m : Measure) × (judged t ≡ Judgement.WellFormed m)) × (verdict t budget ≡ Verdict.Passes))
+    → T (fits t budget) ↔ (((m : Measure) × (judged t ≡ Ok m)) × (verdict t budget ≡ Verdict.Passes))
 unfolding fits
 fits_iff t budget = (fwd (judged t) refl, λ ((m, well), pass). rw (well, pass) tt)
   where
     fwd : (j : Judgement) → judged t ≡ j → T (fits_by j (verdict t budget))
-        → ((m : Measure) × (judged t ≡ Judgement.WellFormed m)) × (verdict t budget ≡ Verdict.Passes)
-    fwd (Judgement.Refused r) e h = absurd h
-    fwd (Judgement.WellFormed m) e h = ((m, e), (pass_iff (verdict t budget)).0 h)
+        → ((m : Measure) × (judged t ≡ Ok m)) × (verdict t budget ≡ Verdict.Passes)
+    fwd (Err r) e h = absurd h
+    fwd (Ok m) e h = ((m, e), (pass_iff (verdict t budget)).0 h)
 
 -- Where it is well-formed, the verdict decides.
-pub fits_by_verdict : (t : Table) (m : Measure) → judged t ≡ Judgement.WellFormed m → (budget : ℕ) → fits t budget ≡ is_pass (verdict t budget)
+pub fits_by_verdict : (t : Table) (m : Measure) → judged t ≡ Ok m → (budget : ℕ) → fits t budget ≡ is_pass (verdict t budget)
 unfolding fits
 fits_by_verdict t m well budget = rw well
 
@@ -67,7 +67,7 @@ fits_not t budget e =
     is_false (fits t budget)
     (λ h. let all = (every_iff (cost_kept t) t.count).1 (λ k l. le→leb _ _ ((fits_ranged t budget h).each k l).cost_le) in rw e at all)
 
-module _ (t : Table) (m : Measure) (well : judged t ≡ Judgement.WellFormed m) (u : ℕ → Table) (h : Hardening t u) (x : ℕ) (some : 1 ≤ x) where
+module _ (t : Table) (m : Measure) (well : judged t ≡ Ok m) (u : ℕ → Table) (h : Hardening t u) (x : ℕ) (some : 1 ≤ x) where
   -- With its costs within their deadlines, a table at a step keeps its ranges.
   pub step_ranged : CostsKept (u x) → Ranged (u x)
   step_ranged within =
@@ -107,7 +107,7 @@ module _ (t : Table) (m : Measure) (well : judged t ≡ Judgement.WellFormed m) 
       record { is = ap (λ (y : Measure). y.round) same ∙ sym (step_round q); le = omega (arith, ap (λ (y : Measure). y.round) same) }
 
   -- So it is well-formed.
-  pub step_well : Ranged (u x) → judged (u x) ≡ Judgement.WellFormed (measure (u x))
+  pub step_well : Ranged (u x) → judged (u x) ≡ Ok (measure (u x))
   step_well q =
       let (_, le, _, none) = (judged_iff t m).0 well in
       (judged_iff (u x) (measure (u x))).1 (
@@ -117,7 +117,7 @@ module _ (t : Table) (m : Measure) (well : judged t ≡ Judgement.WellFormed m) 
         λ k l. let a : k < t.count = omega (arith, h.count x) in rw (h.kept x k some a).sort (none k a),
       )
 
-module _ (t : Table) (m : Measure) (well : judged t ≡ Judgement.WellFormed m) (u : ℕ → Table) (h : Hardening t u)
+module _ (t : Table) (m : Measure) (well : judged t ≡ Ok m) (u : ℕ → Table) (h : Hardening t u)
     (x y : ℕ) (some : 1 ≤ x) (le : x ≤ y) where
   -- An easier step eases the table.
   step_eases : Eased (u y) (u x)

@@ -1,10 +1,9 @@
 -- THE NUMBER OF AN EDGE (`edge_number`): the last step at which a table fits stands for the number that the question asks for.
-use Rattle.std.specs.Prelude.{◌≡◌, Bool, T}
+use Rattle.std.specs.Prelude.{◌≡◌, Bool, T, Ok}
 use Rattle.std.proofs.Common.{ap, ◌∙◌, arith}
 use Prim.Native.Nat.{ℕ, suc, ◌-◌, ◌≤◌, ◌<◌}
 use Rattle.values.specs.declared.Table.{Table}
 use Rattle.values.specs.declared.Measure.{Measure}
-use Rattle.values.specs.declared.Judgement.{Judgement}
 use Rattle.values.specs.declared.Verdict.{Verdict}
 use Rattle.values.specs.declared.Change.{Change}
 use Rattle.model.specs.Limits.{share_limit}
@@ -24,7 +23,7 @@ use Rattle.changes.specs.Fits.{fits_iff, step_ranged, step_well, fits_falls}
 abbrev pub fits_at : Table → Change → ℕ → ℕ → Bool
 fits_at t c budget x = fits (hardened t c x) budget
 
-module _ (t : Table) (m : Measure) (well : judged t ≡ Judgement.WellFormed m) where
+module _ (t : Table) (m : Measure) (well : judged t ≡ Ok m) where
   ranged : Ranged t
   ranged = ((judged_iff t m).0 well).0
 
@@ -67,7 +66,7 @@ module _ (t : Table) (m : Measure) (well : judged t ≡ Judgement.WellFormed m) 
           (ranged.each k b).cost_le,
         ))
 
-    pub easiest_well : judged (hardened t c 1) ≡ Judgement.WellFormed (measure (hardened t c 1))
+    pub easiest_well : judged (hardened t c 1) ≡ Ok (measure (hardened t c 1))
     easiest_well = step_well t m well (hardened t c) (hardening t ranged c l) 1 (omega arith) easiest_ranged
 
     -- Where that passes, it fits.

@@ -1,12 +1,10 @@
 -- What a check finds of a file, and that whatever is told of this is told of the file.
-use Rattle.std.specs.Prelude.{◌≡◌, Bool, List, ℕ}
+use Rattle.model.specs.Values.{Judgement, Outcome, Admission}
+use Rattle.std.specs.Prelude.{◌≡◌, Bool, List, ℕ, Ok, Err}
 use Rattle.std.proofs.Math.Path.{refl, sym, ap}
 use Rattle.std.proofs.Common.{◌∙◌}
-use Rattle.values.specs.declared.Admission.{Admission}
 use Rattle.values.specs.declared.Answer.{Answer}
 use Rattle.values.specs.declared.Contents.{Contents}
-use Rattle.values.specs.declared.Judgement.{Judgement}
-use Rattle.values.specs.declared.Outcome.{Outcome}
 use Rattle.values.specs.declared.Refusal.{Refusal}
 use Rattle.values.specs.declared.Table.{Table}
 use Rattle.values.specs.declared.Verdict.{Verdict}
@@ -37,13 +35,13 @@ module _ {A : Type 0} (refuse : Refusal → A) (tell : ℕ → Bool → Answer �
   by_outcome : (n : ℕ) (quick : Bool) (a : Answer) (o : Outcome)
       → found_told (outcome_told refused_by answered n quick a o) ≡ outcome_told refuse tell n quick a o
   unfolding found_told
-  by_outcome n quick a (Outcome.Refused r) = refl
-  by_outcome n quick a (Outcome.Tested v) = refl
+  by_outcome n quick a (Err r) = refl
+  by_outcome n quick a (Ok v) = refl
 
   told_by : (l : Contents) (x : FileAnswer) (a : Admission) → FileFound l x a → FileTold refuse tell l (told_of refuse tell x) a
   unfolding found_told
-  told_by l x (Admission.Refused r) e = sym (by_outcome _ _ x.answer x.answer.outcome) ∙ ap found_told e
-  told_by l x Admission.Admitted (a, p, e) =
+  told_by l x (Err r) e = sym (by_outcome _ _ x.answer x.answer.outcome) ∙ ap found_told e
+  told_by l x (Ok u) (a, p, e) =
       (a, p, sym (by_outcome _ _ x.answer x.answer.outcome) ∙ ap found_told e ∙ by_outcome _ _ a a.outcome)
 
   pub told_of_lem : (file : List ℕ) (x : FileAnswer) → FileFound (file_read file) x (file_read file).admission

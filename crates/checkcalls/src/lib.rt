@@ -41,8 +41,8 @@ fn check_table(t: Table, budget: u64, plainly: bool) -> FileAnswer
     ensures tasks_le_task_limit { result.tasks ≤ task_limit }
 {
     match table::judge(t) {
-        Judgement::Refused(why) => refuse(why),
-        Judgement::WellFormed(m) => FileAnswer {
+        Err(why) => refuse(why),
+        Ok(m) => FileAnswer {
             tasks: t.count,
             quick: quick::passes(t, m),
             answer: exact::tested(t, m, budget, plainly),
@@ -57,8 +57,8 @@ fn check_file(file: &[u8], plainly: bool) -> FileAnswer
     let form = tablefile::form_of(file);
     let admission = form.admission;
     match admission {
-        Admission::Refused(why) => refuse(why),
-        Admission::Admitted => {
+        Err(why) => refuse(why),
+        Ok(()) => {
             let table = form.table;
             check_table(table, form.budget, plainly)
         }
@@ -73,8 +73,8 @@ fn export_report(found: FileAnswer, buffer: &mut [u8]) -> u64
     let answer = found.answer;
     let outcome = answer.outcome;
     match outcome {
-        Outcome::Refused(why) => numbers::refusal_number(why),
-        Outcome::Tested(verdict) => {
+        Err(why) => numbers::refusal_number(why),
+        Ok(verdict) => {
             report::write_report(buffer, found.tasks, found.quick, answer, verdict) as u64
         }
     }
@@ -88,8 +88,8 @@ fn export_numbers(found: FileAnswer, buffer: &mut [u8]) -> u64
     let answer = found.answer;
     let outcome = answer.outcome;
     match outcome {
-        Outcome::Refused(why) => numbers::refusal_number(why),
-        Outcome::Tested(verdict) => {
+        Err(why) => numbers::refusal_number(why),
+        Ok(verdict) => {
             let numbers = answerbuffer::numbers_of(found.tasks, found.quick, answer, verdict);
             answerbuffer::write_answer(buffer, numbers);
             0

@@ -1,15 +1,12 @@
 -- A step by what the slot's rules make of the lists.
-use Rattle.std.specs.Prelude.{◌≡◌, refl, ◌⊎◌, List, Bool, true, false, cond, ◌&&◌, ℕ, ◌+◌, ◌-◌, ◌<◌, T, ltb, eqb, length, get_or}
+use Rattle.std.specs.Prelude.{◌≡◌, refl, ◌⊎◌, List, Bool, true, false, cond, ◌&&◌, ℕ, ◌+◌, ◌-◌, ◌<◌, T, ltb, eqb, length, get_or, Ok}
 use Rattle.std.proofs.Common.{sym, subst, ◌∙◌, arith, le-ltb}
 use Rattle.std.proofs.Math.Path.{ap}
 use Rattle.std.proofs.Math.Logic.{inl, inr}
 use Rattle.std.proofs.Math.Decide.{dec_lt}
 use Rattle.std.specs.Int.Count.{ones, count_trailing_zeros}
 use Rattle.values.specs.declared.Table.{Table}
-use Rattle.values.specs.declared.Judgement.{Judgement}
-use Rattle.values.specs.declared.Admission.{Admission}
 use Rattle.values.specs.declared.Turn.{Turn}
-use Rattle.values.specs.declared.SlotAnswer.{SlotAnswer}
 use Rattle.model.specs.Limits.{task_limit, slot_count_limit}
 use Rattle.model.specs.Notation.{bit, bits, fill}
 use Rattle.model.specs.Tasks.{task, measure}
@@ -34,11 +31,11 @@ use Rattle.dispatch.specs.Accounts.{counted, counted_fill}
 
 -- A step that nothing refuses.
 abbrev pub taken : Table → State → Bool → Stepped
-taken t d done = record { answer = SlotAnswer.Slot (turn t d done); state = after t d done }
+taken t d done = record { answer = Ok (turn t d done); state = after t d done }
 
 -- A step on a well-formed table: refused by 8 or by 9, or taken.
 abbrev pub step_well_formed : Table → State → Bool → Stepped
-step_well_formed t d done = step_admitted_by t (tie_order t) d done (admitted_by t d (Judgement.WellFormed (measure t)))
+step_well_formed t d done = step_admitted_by t (tie_order t) d done (admitted_by t d (Ok (measure t)))
 
 -- These lists, of n tasks, are the table's.
 abbrev pub Unpacked : Table → List ℕ → List ℕ → List ℕ → List ℕ → ℕ → Type 0
@@ -50,7 +47,7 @@ pub record Unrefused (t : Table) (d : State) : Type 0 where
   pub ran : (d.last ≡ task_limit) ⊎ (d.last < t.count)
   pub room : slot_count t d < slot_count_limit
 
-pub unrefused : (t : Table) (d : State) → Ranged t → admitted_by t d (Judgement.WellFormed (measure t)) ≡ Admission.Admitted
+pub unrefused : (t : Table) (d : State) → Ranged t → admitted_by t d (Ok (measure t)) ≡ Ok tt
     → slot_count t d < slot_count_limit → Unrefused t d
 unrefused t d r e l =
     record { ranged = r; ran = (one_of_iff d.last task_limit t.count).0 (fitting t d (measure t) e).ran; room = l }
@@ -186,6 +183,6 @@ module _ (t : Table) (d : State) (done : Bool) (unrefused : Unrefused t d) (m : 
 
   pub taken_is : {answer : Turn} {given : List ℕ} {empty : ℕ} → given ≡ counted d.given m.owner → answer ≡ turn_of m.owner m.late
       → empty ≡ d.empty + bit (eqb m.owner task_limit)
-      → record { answer = SlotAnswer.Slot answer; state = state_with m.wait m.left m.owner given empty } ≡ taken t d done
+      → record { answer = Ok answer; state = state_with m.wait m.left m.owner given empty } ≡ taken t d done
   unfolding turn_by
   taken_is g w h = rw (w, state_is g h, a.owned, a.lates, ones_bits, trailing_bits)

@@ -40,12 +40,12 @@ impl Dispatcher {
         ensures { started_of result ≡ started t self.state }
     {
         match table::admit(t) {
-            Admission::Refused(refusal) => Started {
-                admission: Admission::Refused(refusal),
+            Err(refusal) => Started {
+                admission: Err(refusal),
                 dispatcher: self,
             },
-            Admission::Admitted => Started {
-                admission: Admission::Admitted,
+            Ok(()) => Started {
+                admission: Ok(()),
                 dispatcher: Dispatcher {
                     state: State {
                         wait: slots::offsets(t),
@@ -64,8 +64,8 @@ impl Dispatcher {
     {
         let state = self.state;
         match table::admit(t) {
-            Admission::Refused(why) => handed_back(state, why),
-            Admission::Admitted => step_well_formed(state, t, done),
+            Err(why) => handed_back(state, why),
+            Ok(()) => step_well_formed(state, t, done),
         }
     }
 }
@@ -74,7 +74,7 @@ fn handed_back(d: State, why: Refusal) -> Stepped
     ensures { stepped_of result ≡ refuse_step why d }
 {
     Stepped {
-        answer: SlotAnswer::Refused(why),
+        answer: Err(why),
         next: Dispatcher { state: d },
     }
 }
@@ -132,7 +132,7 @@ fn step_taken(
     let left = moved.left;
     count_given(&mut given, owner);
     Stepped {
-        answer: SlotAnswer::Slot(turn_of(owner, moved.late)),
+        answer: Ok(turn_of(owner, moved.late)),
         next: Dispatcher {
             state: State {
                 wait,

@@ -1,12 +1,11 @@
 -- The distance test by its parts: the distances, the patterns and the load.
 use Rattle.std.proofs.Math.Path.{◌≡◌, sym}
-use Rattle.std.specs.Prelude.{Bool, not, ℕ, ◌≤◌, ◌<◌, replicate}
+use Rattle.std.specs.Prelude.{Bool, not, ℕ, ◌≤◌, ◌<◌, replicate, Ok}
 use Rattle.std.proofs.Math.Bool.{true, false}
 use Rattle.std.proofs.Common.{arith}
 use Rattle.values.specs.declared.Task.{Task}
 use Rattle.values.specs.declared.Table.{Table}
 use Rattle.values.specs.declared.Measure.{Measure}
-use Rattle.values.specs.declared.Judgement.{Judgement}
 use Rattle.model.specs.Limits.{task_limit, round_limit}
 use Rattle.model.specs.Notation.{some}
 use Rattle.model.specs.Tasks.{task, is_button, round, load, judged_mixed}
@@ -28,7 +27,7 @@ use Rattle.calm.specs.Fit.{starting_fits}
 pub divisor_pos : (one other : Task) → 0 < one.period → 0 < other.period → 0 < common_divisor one.period other.period
 divisor_pos one other p q = gcd_pos (divisor_is one.period other.period p) q
 
-module _ (t : Table) {m : Measure} (well : judged_mixed t ≡ Judgement.WellFormed m) where
+module _ (t : Table) {m : Measure} (well : judged_mixed t ≡ Ok m) where
   abbrev facts : WellFormed t m
   facts = well_mixed t m well
 

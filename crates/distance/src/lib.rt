@@ -1,9 +1,8 @@
 // The distance test: each periodic task as first at 0, every other at its smallest distance, and a walk to the first idle instant.
 #![tactic(auto)]
 
-ghost use Rattle.std.specs.Prelude.{◌≡◌, not, ◌||◌, ◌^◌, ◌≤◌, ◌<◌, pos, ◌-ℤ◌};
+ghost use Rattle.std.specs.Prelude.{◌≡◌, not, ◌||◌, ◌^◌, ◌≤◌, ◌<◌, pos, ◌-ℤ◌, Ok};
 ghost use Rattle.std.specs.Int.Signed.{rem_z};
-ghost use Rattle.values.specs.declared.Judgement.{Judgement};
 ghost use Rattle.model.specs.Notation.{some, every};
 ghost use Rattle.model.specs.Tasks.{task, is_button, judged_mixed};
 ghost use Rattle.model.specs.Patterns.{calm as calmly, reduced as reducedTo, common_divisor, distance, pattern, calm_patterns, distance_answer};
@@ -84,7 +83,7 @@ fn distances(t: Table, i: usize) -> Numbers
 
 // A button never stands first.
 fn pattern_calm(t: Table, m: Measure, i: usize) -> bool
-    requires t_value { judged_mixed t ≡ Judgement.WellFormed m }
+    requires t_value { judged_mixed t ≡ Ok m }
     requires load_le_round { m.load ≤ m.round }
     requires i_lt_count { i < t.count }
     ensures { result ≡ (is_button (task t i) || calmly (pattern t i)) }
@@ -97,7 +96,7 @@ fn pattern_calm(t: Table, m: Measure, i: usize) -> bool
 
 // Whether the pattern of each periodic task is calm.
 fn each_calm(t: Table, m: Measure) -> bool
-    requires t_value { judged_mixed t ≡ Judgement.WellFormed m }
+    requires t_value { judged_mixed t ≡ Ok m }
     requires load_le_round { m.load ≤ m.round }
     ensures { result ≡ every (λ i. is_button (task t i) || calmly (pattern t i)) t.count }
 {
@@ -125,7 +124,7 @@ fn some_periodic(t: Table) -> bool
 
 // A quick pass is a pass of every pattern, so no pattern is walked. Buttons alone have one pattern, the quick test's.
 fn all_calm(t: Table, m: Measure) -> bool
-    requires t_value { judged_mixed t ≡ Judgement.WellFormed m }
+    requires t_value { judged_mixed t ≡ Ok m }
     requires load_le_round { m.load ≤ m.round }
     ensures { result ≡ calm_patterns t }
 {
@@ -141,8 +140,8 @@ pub fn test(t: Table) -> DistanceAnswer
     ensures { result ≡ distance_answer t }
 {
     match table::judge_mixed(t) {
-        Judgement::Refused(why) => DistanceAnswer::Refused(why),
-        Judgement::WellFormed(m) => {
+        Err(why) => DistanceAnswer::Refused(why),
+        Ok(m) => {
             if m.round < m.load {
                 DistanceAnswer::Overload
             } else if all_calm(t, m) {

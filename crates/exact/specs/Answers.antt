@@ -1,11 +1,10 @@
 -- What is said of a table that is refused or overloaded, and at the end of a walk, is what the model permits.
-use Rattle.std.specs.Prelude.{◌≡◌, refl, List, ℕ, suc, ◌-◌, ◌≤◌, ◌<◌, min, T}
+use Rattle.std.specs.Prelude.{◌≡◌, refl, List, ℕ, suc, ◌-◌, ◌≤◌, ◌<◌, min, T, Ok, Err}
 use Rattle.std.proofs.Common.{◌∙◌, arith, lt-ltb, le-ltb}
 use Rattle.std.proofs.Math.Decide.{dec_lt}
 use Rattle.values.specs.declared.Table.{Table}
 use Rattle.values.specs.declared.Measure.{Measure}
 use Rattle.values.specs.declared.Refusal.{Refusal}
-use Rattle.values.specs.declared.Judgement.{Judgement}
 use Rattle.values.specs.declared.Verdict.{Verdict}
 use Rattle.values.specs.declared.Answer.{Answer}
 use Rattle.model.specs.Tasks.{round, load, horizon, judged}
@@ -27,11 +26,11 @@ use Rattle.patterns.specs.FirstIdle.{first_idle_lem}
 use Rattle.walks.specs.Tally.{Tally, idle_is}
 use Rattle.exact.specs.Concluded.{refused_by, overloaded, concluded}
 
-pub permitted_refused : (t : Table) (why : Refusal) → judged t ≡ Judgement.Refused why → (budget : ℕ) → Permitted t budget (refused_by why)
+pub permitted_refused : (t : Table) (why : Refusal) → judged t ≡ Err why → (budget : ℕ) → Permitted t budget (refused_by why)
 unfolding Permitted
 permitted_refused t why e budget = rw e refl
 
-module _ (t : Table) (m : Measure) (budget : ℕ) (well : judged t ≡ Judgement.WellFormed m) where
+module _ (t : Table) (m : Measure) (budget : ℕ) (well : judged t ≡ Ok m) where
   abbrev facts : WellFormed t m
   facts = well_formed t m well
 

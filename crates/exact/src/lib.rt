@@ -1,8 +1,7 @@
 // The exact test: a table is judged, its load looked at, one of two engines walks it, and what it found is said.
 #![tactic(auto)]
 
-ghost use Rattle.std.specs.Prelude.{◌≡◌, ◌≤◌};
-ghost use Rattle.values.specs.declared.Judgement.{Judgement};
+ghost use Rattle.std.specs.Prelude.{◌≡◌, ◌≤◌, Ok};
 ghost use Rattle.model.specs.Tasks.{judged};
 ghost use Rattle.model.specs.Verdict.{brief as briefly, Permitted};
 ghost use Rattle.walks.specs.Course.{Ends};
@@ -32,13 +31,13 @@ pub fn refuse(why: Refusal) -> Answer
         load: 0,
         horizon: 0,
     };
-    brief(Outcome::Refused(why), nothing, 0)
+    brief(Err(why), nothing, 0)
 }
 
 fn overload(m: Measure) -> Answer
     ensures { result ≡ overloaded m }
 {
-    brief(Outcome::Tested(Verdict::Overload), m, 0)
+    brief(Ok(Verdict::Overload), m, 0)
 }
 
 // What a walk that ended at `at` says: late, where an interval was found that asks for some slots; undecided short of the
@@ -52,13 +51,13 @@ fn conclude(m: Measure, from: u64, asked: u64, at: u64, worst: Numbers, idle: u6
             to: at,
             demand: asked,
         };
-        return brief(Outcome::Tested(late), m, at);
+        return brief(Ok(late), m, at);
     }
     if at < m.horizon {
-        return brief(Outcome::Tested(Verdict::Undecided), m, at);
+        return brief(Ok(Verdict::Undecided), m, at);
     }
     Answer {
-        outcome: Outcome::Tested(Verdict::Passes),
+        outcome: Ok(Verdict::Passes),
         measure: m,
         settled: at,
         worst: worst,
@@ -67,7 +66,7 @@ fn conclude(m: Measure, from: u64, asked: u64, at: u64, worst: Numbers, idle: u6
 }
 
 fn walk(t: Table, m: Measure, budget: u64, plainly: bool) -> Course
-    requires t_value { judged t ≡ Judgement.WellFormed m }
+    requires t_value { judged t ≡ Ok m }
     requires load_le_round { m.load ≤ m.round }
     ensures { Ends t m budget result }
 {
@@ -80,7 +79,7 @@ fn walk(t: Table, m: Measure, budget: u64, plainly: bool) -> Course
 
 // The one permitted answer to a table that was judged.
 pub fn tested(t: Table, m: Measure, budget: u64, plainly: bool) -> Answer
-    requires { judged t ≡ Judgement.WellFormed m }
+    requires { judged t ≡ Ok m }
     ensures { Permitted t budget result }
 {
     if m.round < m.load {
@@ -96,8 +95,8 @@ pub fn test(t: Table, budget: u64, plainly: bool) -> Answer
     ensures { Permitted t budget result }
 {
     match table::judge(t) {
-        Judgement::Refused(why) => refuse(why),
-        Judgement::WellFormed(m) => tested(t, m, budget, plainly),
+        Err(why) => refuse(why),
+        Ok(m) => tested(t, m, budget, plainly),
     }
 }
 

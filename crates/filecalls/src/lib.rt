@@ -1,8 +1,7 @@
 // The calls on table files alone: the quick test, the distance test, the largest cost of a task, the room of a table, and whether one is an easing of another.
 #![tactic(auto)]
 
-ghost use Rattle.std.specs.Prelude.{◌≡◌, ◌+◌, ◌*◌, ◌<◌, ◌≤◌, min};
-ghost use Rattle.values.specs.declared.Admission.{Admission};
+ghost use Rattle.std.specs.Prelude.{◌≡◌, ◌+◌, ◌*◌, ◌<◌, ◌≤◌, min, Ok};
 ghost use Rattle.model.specs.Limits.{task_limit};
 ghost use Rattle.model.specs.TableFile.{periodic_from};
 ghost use Rattle.model.specs.Report.{quick_number, quick_exported, distance_number, distance_exported};
@@ -35,8 +34,8 @@ pub fn quick_file(file: &[u8]) -> u64
     let form = tablefile::form_of(file);
     let admission = form.admission;
     match admission {
-        Admission::Refused(why) => numbers::refusal_number(why),
-        Admission::Admitted => {
+        Err(why) => numbers::refusal_number(why),
+        Ok(()) => {
             let table = form.table;
             quick_number(quick::test(table))
         }
@@ -61,8 +60,8 @@ pub fn distance_file(file: &[u8]) -> u64
     let form = tablefile::form_of(file);
     let admission = form.admission;
     match admission {
-        Admission::Refused(why) => numbers::refusal_number(why),
-        Admission::Admitted => {
+        Err(why) => numbers::refusal_number(why),
+        Ok(()) => {
             let table = form.table;
             distance_number(distance::test(table))
         }
@@ -99,8 +98,8 @@ pub fn largest_file(file: &[u8], task: u32) -> u64
     let form = tablefile::form_of(file);
     let admission = form.admission;
     match admission {
-        Admission::Refused(why) => numbers::refusal_number(why),
-        Admission::Admitted => {
+        Err(why) => numbers::refusal_number(why),
+        Ok(()) => {
             let table = form.table;
             cost_number(largest::largest_cost(table, tellable_task(task), form.budget))
         }
@@ -114,8 +113,8 @@ pub fn room_file(file: &[u8], task: u32) -> u64
     let form = tablefile::form_of(file);
     let admission = form.admission;
     match admission {
-        Admission::Refused(why) => numbers::refusal_number(why),
-        Admission::Admitted => {
+        Err(why) => numbers::refusal_number(why),
+        Ok(()) => {
             let table = form.table;
             room::room_number(table, tellable_task(task))
         }
@@ -141,13 +140,13 @@ fn easing_number(told: Easing) -> u64
 
 fn eased_from(table: Table, new: &[u8]) -> u64
     requires { table.count ≤ task_limit }
-    ensures { result ≡ eased_number table (periodic_from new.now).table Admission.Admitted (periodic_from new.now).admission }
+    ensures { result ≡ eased_number table (periodic_from new.now).table (Ok tt) (periodic_from new.now).admission }
 {
     let contents = tablefile::read_periodic(new);
     let admission = contents.admission;
     match admission {
-        Admission::Refused(why) => refused_file(why, NEW_REFUSED),
-        Admission::Admitted => {
+        Err(why) => refused_file(why, NEW_REFUSED),
+        Ok(()) => {
             let eased = contents.table;
             easing_number(easing::compare(table, eased))
         }
@@ -161,8 +160,8 @@ pub fn eased_files(old: &[u8], new: &[u8]) -> u64
     let contents = tablefile::read_periodic(old);
     let admission = contents.admission;
     match admission {
-        Admission::Refused(why) => refused_file(why, OLD_REFUSED),
-        Admission::Admitted => {
+        Err(why) => refused_file(why, OLD_REFUSED),
+        Ok(()) => {
             let table = contents.table;
             eased_from(table, new)
         }

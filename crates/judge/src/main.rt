@@ -30,8 +30,8 @@ fn write_outcome(
     ensures upper_bound { result ≤ report_bytes }
 {
     match outcome {
-        Outcome::Refused(why) => report::write_refusal(buffer, why),
-        Outcome::Tested(verdict) => report::write_report(buffer, tasks, quick, answer, verdict),
+        Err(why) => report::write_refusal(buffer, why),
+        Ok(verdict) => report::write_report(buffer, tasks, quick, answer, verdict),
     }
 }
 
@@ -40,8 +40,8 @@ fn judge_table(t: Table, budget: u64, output: &mut [u8]) -> usize
     ensures { TablePrinted output.old t budget (exported result output.new) }
 {
     match table::judge(t) {
-        Judgement::Refused(why) => report::write_refusal(output, why),
-        Judgement::WellFormed(m) => {
+        Err(why) => report::write_refusal(output, why),
+        Ok(m) => {
             let answer = exact::tested(t, m, budget, false);
             let outcome = answer.outcome;
             let quick = quick::passes(t, m);
@@ -58,8 +58,8 @@ fn judge(input: &[u8], output: &mut [u8]) -> usize
     let form = tablefile::form_of(input);
     let admission = form.admission;
     match admission {
-        Admission::Refused(why) => report::write_refusal(output, why),
-        Admission::Admitted => {
+        Err(why) => report::write_refusal(output, why),
+        Ok(()) => {
             let table = form.table;
             judge_table(table, form.budget, output)
         }

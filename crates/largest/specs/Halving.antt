@@ -1,11 +1,9 @@
 -- What holds of the range of costs before each trial.
-use Rattle.std.specs.Prelude.{◌≡◌, true, false, ℕ, suc, ◌+◌, ◌-◌, ◌*◌, ◌/◌, ◌≤◌, ◌<◌, T}
+use Rattle.std.specs.Prelude.{◌≡◌, true, false, ℕ, suc, ◌+◌, ◌-◌, ◌*◌, ◌/◌, ◌≤◌, ◌<◌, T, Ok}
 use Rattle.std.proofs.Common.{sym, ap, arith}
 use Rattle.values.specs.declared.Table.{Table}
 use Rattle.values.specs.declared.Measure.{Measure}
-use Rattle.values.specs.declared.Judgement.{Judgement}
 use Rattle.values.specs.declared.Verdict.{Verdict}
-use Rattle.values.specs.declared.Outcome.{Outcome}
 use Rattle.values.specs.declared.Answer.{Answer}
 use Rattle.model.specs.Limits.{task_limit, round_limit}
 use Rattle.model.specs.Tasks.{task, judged}
@@ -20,11 +18,11 @@ use Rattle.backlog.proofs.Largest.{ranged_with, round_with, load_with, own_passe
 use Rattle.patterns.specs.Quick.{quick_passes}
 
 -- A well-formed table keeps its ranges.
-pub ranged_of : (t : Table) (m : Measure) → judged t ≡ Judgement.WellFormed m → Ranged t
+pub ranged_of : (t : Table) (m : Measure) → judged t ≡ Ok m → Ranged t
 ranged_of t m w = ((judged_iff t m).0 w).0
 
 -- The load with more of that cost is no large number.
-pub more_le : (t : Table) (m : Measure) → judged t ≡ Judgement.WellFormed m → (i c : ℕ) → i < t.count → (task t i).cost ≤ c
+pub more_le : (t : Table) (m : Measure) → judged t ≡ Ok m → (i c : ℕ) → i < t.count → (task t i).cost ≤ c
     → c ≤ (task t i).deadline → m.load + (c - (task t i).cost) * (m.round / (task t i).period) ≤ task_limit * round_limit
 more_le t m w i c l a b =
     let (r, h, same, _) = (judged_iff t m).0 w in
@@ -38,12 +36,12 @@ more_le t m w i c l a b =
     ))
 
 -- The test says the verdict of a well-formed table, and so does a quick pass, if the budget reaches the horizon.
-pub says : (t : Table) (m : Measure) → judged t ≡ Judgement.WellFormed m → (budget : ℕ) (a : Answer) → Permitted t budget a
-    → a.outcome ≡ Outcome.Tested (verdict t budget)
+pub says : (t : Table) (m : Measure) → judged t ≡ Ok m → (budget : ℕ) (a : Answer) → Permitted t budget a
+    → a.outcome ≡ Ok (verdict t budget)
 unfolding Permitted
 says t m w budget a h = (answers_say t budget _ a (verdict t budget) (rw w at h)).0
 
-pub quick_says : (t : Table) (m : Measure) → judged t ≡ Judgement.WellFormed m → (budget : ℕ) → m.horizon ≤ budget → T (quick_pass t)
+pub quick_says : (t : Table) (m : Measure) → judged t ≡ Ok m → (budget : ℕ) → m.horizon ≤ budget → T (quick_pass t)
     → verdict t budget ≡ Verdict.Passes
 quick_says t m w budget h pass =
     let (r, _, same, _) = (judged_iff t m).0 w in
@@ -57,7 +55,7 @@ pub record Halving (t : Table) (i budget passes fails : ℕ) : Type 0 where
   pub passed : T (passes_with t i budget passes)
   pub failed : fails ≤ (task t i).deadline → T (passes_with t i budget fails) → ⊥
 
-module _ (t : Table) (m : Measure) (w : judged t ≡ Judgement.WellFormed m) (i budget : ℕ) (l : i < t.count) (pass : verdict t budget ≡ Verdict.Passes) where
+module _ (t : Table) (m : Measure) (w : judged t ≡ Ok m) (i budget : ℕ) (l : i < t.count) (pass : verdict t budget ≡ Verdict.Passes) where
   -- At the start: the present cost, and the first past the deadline.
   pub halving_start : (fails : ℕ) → fails ≡ (task t i).deadline + 1 → Halving t i budget (task t i).cost fails
   halving_start fails e =

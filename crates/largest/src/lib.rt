@@ -1,8 +1,7 @@
 // The largest cost that one task of a table can take: the costs up to its deadline are halved by trials of the exact test.
 #![tactic(auto)]
 
-ghost use Rattle.std.specs.Prelude.{◌≡◌, ◌≤◌, ◌<◌};
-ghost use Rattle.values.specs.declared.Judgement.{Judgement};
+ghost use Rattle.std.specs.Prelude.{◌≡◌, ◌≤◌, ◌<◌, Ok};
 ghost use Rattle.values.specs.declared.LargestCost.{LargestCost};
 ghost use Rattle.values.specs.declared.Verdict.{Verdict};
 ghost use Rattle.model.specs.Values.{refusal};
@@ -29,10 +28,10 @@ pub fn with_cost(t: Table, i: usize, cost: u32) -> Table
 
 // More of one task's cost adds to the load, and moves neither H nor the horizon.
 fn measure_with(t: Table, m: Measure, i: usize, cost: u32) -> Measure
-    requires t_value { judged t ≡ Judgement.WellFormed m }
+    requires t_value { judged t ≡ Ok m }
     requires i_lt_count { i < t.count }
     requires i_bound { ((task t i).cost ≤ cost) × (cost ≤ (task t i).deadline) }
-    ensures { judged (with_cost t i cost) ≡ Judgement.WellFormed result }
+    ensures { judged (with_cost t i cost) ≡ Ok result }
 {
     let task = t.tasks[i];
     let more = words::to_u64(cost - task.cost);
@@ -46,7 +45,7 @@ fn measure_with(t: Table, m: Measure, i: usize, cost: u32) -> Measure
 
 // A quick pass spares the walk, where the budget reaches the horizon. A table that was judged is not refused.
 fn verdict_on(t: Table, m: Measure, budget: u64) -> Verdict
-    requires { judged t ≡ Judgement.WellFormed m }
+    requires { judged t ≡ Ok m }
     ensures { result ≡ verdict t budget }
 {
     if m.horizon <= budget {
@@ -57,8 +56,8 @@ fn verdict_on(t: Table, m: Measure, budget: u64) -> Verdict
     let answer = exact::tested(t, m, budget, false);
     let outcome = answer.outcome;
     match outcome {
-        Outcome::Refused(_) => Verdict::Undecided,
-        Outcome::Tested(said) => said,
+        Err(_) => Verdict::Undecided,
+        Ok(said) => said,
     }
 }
 
@@ -75,7 +74,7 @@ fn is_pass(said: Verdict) -> bool
 
 // One trial.
 fn passes_with(t: Table, m: Measure, i: usize, budget: u64, cost: u32) -> bool
-    requires t_value { judged t ≡ Judgement.WellFormed m }
+    requires t_value { judged t ≡ Ok m }
     requires i_lt_count { i < t.count }
     requires i_bound { ((task t i).cost ≤ cost) × (cost ≤ (task t i).deadline) }
     ensures { result ≡ passes_with t i budget cost }
@@ -86,7 +85,7 @@ fn passes_with(t: Table, m: Measure, i: usize, budget: u64, cost: u32) -> bool
 
 // The cost in the middle is tried, between one that passes and one that does not or is past the deadline.
 fn search(t: Table, m: Measure, i: usize, budget: u64) -> u32
-    requires t_value { judged t ≡ Judgement.WellFormed m }
+    requires t_value { judged t ≡ Ok m }
     requires i_lt_count { i < t.count }
     requires budget_value { verdict t budget ≡ Verdict.Passes }
     ensures { result ≡ largest_cost t i budget }
@@ -106,7 +105,7 @@ fn search(t: Table, m: Measure, i: usize, budget: u64) -> u32
 }
 
 fn told(t: Table, m: Measure, i: usize, budget: u64) -> LargestCost
-    requires t_value { judged t ≡ Judgement.WellFormed m }
+    requires t_value { judged t ≡ Ok m }
     requires i_lt_count { i < t.count }
     ensures { result ≡ cost_told t i budget (verdict t budget) }
 {
@@ -133,8 +132,8 @@ pub fn largest_cost(t: Table, task: u32, budget: u64) -> LargestCost
     ensures { result ≡ cost_answer t task budget }
 {
     match table::judge(t) {
-        Judgement::Refused(why) => LargestCost::Refused(why),
-        Judgement::WellFormed(m) => {
+        Err(why) => LargestCost::Refused(why),
+        Ok(m) => {
             let i = task as usize;
             if i < t.count {
                 told(t, m, i, budget)

@@ -1,8 +1,7 @@
 // The leaping engine of the exact test: from one release or finish to the next, and at the first late deadline a search for the largest start.
 #![tactic(auto)]
 
-ghost use Rattle.std.specs.Prelude.{◌≡◌, true, false, ◌/◌, ◌≤◌, ◌<◌};
-ghost use Rattle.values.specs.declared.Judgement.{Judgement};
+ghost use Rattle.std.specs.Prelude.{◌≡◌, true, false, ◌/◌, ◌≤◌, ◌<◌, Ok};
 ghost use Rattle.model.specs.Limits.{task_limit, slot_limit};
 ghost use Rattle.model.specs.Tasks.{judged, round, load};
 ghost use Rattle.wellformed.specs.Ranges.{Ranged};
@@ -143,7 +142,7 @@ pub fn search(t: Table, end: u64, again: u64, idling: bool) -> Course
 
 // To the budget or the horizon; a round before the horizon every task has had its first release.
 pub fn walk(t: Table, m: Measure, budget: u64) -> Course
-    requires t_value { judged t ≡ Judgement.WellFormed m }
+    requires t_value { judged t ≡ Ok m }
     requires load_le_round { m.load ≤ m.round }
     ensures { Ends t m budget result }
 {

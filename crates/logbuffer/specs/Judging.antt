@@ -1,5 +1,5 @@
 -- A start, pieces and a finish in one buffer are the judge's; what each returns tells an answer from a refusal, and a refusal changes no byte.
-use Rattle.std.specs.Prelude.{◌≡◌, ◌⊎◌, Bool, cond, eqb, replicate}
+use Rattle.std.specs.Prelude.{◌≡◌, ◌⊎◌, Bool, cond, eqb, replicate, Ok, Err}
 use Rattle.std.proofs.Math.Path.{refl, ap}
 use Rattle.std.proofs.Common.{sym, ◌∙◌, pos_of_ne-zero, eq-eqb, ne_eqb}
 use Rattle.std.proofs.Math.Logic.{inl, inr}
@@ -11,12 +11,10 @@ use native.Mathlib.Omega.{arith}
 use Rattle.std.proofs.Math.ListN.{length, length-replicate}
 use Rattle.values.specs.declared.Table.{Table}
 use Rattle.values.specs.declared.Measure.{Measure}
-use Rattle.values.specs.declared.Judgement.{Judgement}
-use Rattle.values.specs.declared.Admission.{Admission}
 use Rattle.values.specs.declared.Finding.{Finding}
 use Rattle.values.specs.declared.Refusal.{Refusal}
 use Rattle.model.specs.Limits.{task_limit, log_limit, word_limit, count_place}
-use Rattle.model.specs.Values.{refusal}
+use Rattle.model.specs.Values.{refusal, Judgement, Admission}
 use Rattle.model.specs.Tasks.{judged}
 use Rattle.model.specs.TableFile.{four, form_of}
 use Rattle.model.specs.Dispatcher.{start_of, start_judged, started, admitted}
@@ -53,8 +51,8 @@ module _ (t : Table) (r : Ranged t) (l : Log) (k : Kept t l) where
   kept_size : length (log_buffer_of l) ≡ log_bytes
   kept_size = log_length l (fits_sized k.fits)
 
-module _ (file : List ℕ) (t : Table) (m : Measure) (formed : (form_of file).admission ≡ Admission.Admitted) (held : (form_of file).table ≡ t)
-    (well : judged t ≡ Judgement.WellFormed m) where
+module _ (file : List ℕ) (t : Table) (m : Measure) (formed : (form_of file).admission ≡ Ok tt) (held : (form_of file).table ≡ t)
+    (well : judged t ≡ Ok m) where
   r : Ranged t
   r = (well_formed t m well).ranged
 
@@ -148,9 +146,9 @@ Apart Taken buffer e = Taken e.number ⊎ ((r : Refusal) × (e ≡ refused r buf
 
 module _ (file buffer : List ℕ) where
   by_admission : (Taken : ℕ → Type 0) (a : Admission) (next : Exported) → AdmissionTellable a → Below a → Apart Taken buffer next
-      → Apart Taken buffer (elim a [ Admission.Refused r ↦ refused r buffer | Admission.Admitted ↦ next ])
-  by_admission Taken (Admission.Refused r) next n b h = inr (r, refl, n, omega (arith, n.1))
-  by_admission Taken Admission.Admitted next n b h = h
+      → Apart Taken buffer (elim a [ Err r ↦ refused r buffer | Ok _ ↦ next ])
+  by_admission Taken (Err r) next n b h = inr (r, refl, n, omega (arith, n.1))
+  by_admission Taken (Ok u) next n b h = h
 
   pub on_file_lem : (bytes : ℕ) (Taken : ℕ → Type 0) (go : Table → Exported) → Apart Taken buffer (go (form_of file).table)
       → Apart Taken buffer (on_file bytes file buffer go)
@@ -159,7 +157,7 @@ module _ (file buffer : List ℕ) where
       (by (eqb (length buffer) bytes)).0 (by (eqb (length buffer) bytes)).1 h
     where
       unfit : Admission
-      unfit = Admission.Refused (refusal 50 (min (length buffer) 65535))
+      unfit = Err (refusal 50 (min (length buffer) 65535))
 
       by : (b : Bool) → AdmissionTellable (cond b (form_of file).admission unfit) × Below (cond b (form_of file).admission unfit)
       by true = (form_tellable file, form_below file)
@@ -173,23 +171,23 @@ module _ (file buffer : List ℕ) where
     where
       by : (t : Table) (j : Judgement) → JudgementTellable j → JudgedBelow j → let s = start_judged t (log_in buffer).state j in
           let f = on_log (log_in buffer) (unread (start_of t)) s.admission in Apart (λ n. n ≡ 0) buffer (log_written buffer f.log f.admission)
-      by t (Judgement.Refused r) n b = inr (r, refl, n, omega (arith, n.1))
-      by t (Judgement.WellFormed m) n b = inl refl
+      by t (Err r) n b = inr (r, refl, n, omega (arith, n.1))
+      by t (Ok m) n b = inl refl
 
   log_tellable : (t : Table) (l : Log) → AdmissionTellable (log_admitted t l)
   unfolding log_admitted
   log_tellable t l = go (admitted t l.state) (admitted_tellable t l.state)
     where
       go : (a : Admission) → AdmissionTellable a → AdmissionTellable (log_admitted_by t l a)
-      go (Admission.Refused r) h = h
-      go Admission.Admitted h = by (miscounted t l)
+      go (Err r) h = h
+      go (Ok u) h = by (miscounted t l)
         where
-          by : (b : Bool) → AdmissionTellable (cond b (Admission.Refused (refusal 8 count_place)) Admission.Admitted)
+          by : (b : Bool) → AdmissionTellable (cond b (Err (refusal 8 count_place)) (Ok tt))
           by true = (omega arith, omega arith)
           by false = tt
 
   -- A log that is admitted from a buffer has no more bytes than it can, and nothing found without a number.
-  read_most : (t : Table) → log_admitted t (log_in buffer) ≡ Admission.Admitted → (log_in buffer).bytes ≤ log_limit
+  read_most : (t : Table) → log_admitted t (log_in buffer) ≡ Ok tt → (log_in buffer).bytes ≤ log_limit
   unfolding log_in state_in
   read_most t e = ((log_admitted_iff t (log_in buffer) (record { waits = sized _; lefts = sized _; gives = sized _ })).0 e).1.bytes_le
     where
@@ -200,14 +198,14 @@ module _ (file buffer : List ℕ) where
   unfolding log_in
   read_numbered = numbered_read (four buffer (state_bytes + 8)) (four buffer (state_bytes + 12))
 
-  onto : (Taken : ℕ → Type 0) (t : Table) (next : Log) → (log_admitted t (log_in buffer) ≡ Admission.Admitted → Taken (answer_number next.found))
+  onto : (Taken : ℕ → Type 0) (t : Table) (next : Log) → (log_admitted t (log_in buffer) ≡ Ok tt → Taken (answer_number next.found))
       → let f = on_log (log_in buffer) next (log_admitted t (log_in buffer)) in Apart Taken buffer (log_written buffer f.log f.admission)
   onto Taken t next h = go (log_admitted t (log_in buffer)) refl (log_tellable t (log_in buffer)) (log_below t (log_in buffer))
     where
       go : (a : Admission) → log_admitted t (log_in buffer) ≡ a → AdmissionTellable a → Below a
           → let f = on_log (log_in buffer) next a in Apart Taken buffer (log_written buffer f.log f.admission)
-      go (Admission.Refused r) e n b = inr (r, refl, n, omega (arith, n.1))
-      go Admission.Admitted e n b = inl (h e)
+      go (Err r) e n b = inr (r, refl, n, omega (arith, n.1))
+      go (Ok u) e n b = inl (h e)
 
   pub feed_apart : (piece : List ℕ) → Apart Going buffer (log_feed_exported file buffer piece)
   unfolding fed

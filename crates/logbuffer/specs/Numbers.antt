@@ -1,12 +1,11 @@
 -- Every refusal of a file, a table and a log has a number below 100, so that what it is told as is below 2^32.
-use Rattle.std.specs.Prelude.{Bool, true, false, cond, not, ◌||◌, leb, ltb, length, get_or}
+use Rattle.model.specs.Values.{Judgement, Admission}
+use Rattle.std.specs.Prelude.{Bool, true, false, cond, not, ◌||◌, leb, ltb, length, get_or, Ok, Err}
 use mathlib.Core.List.{List, [], ◌∷◌, ◌++◌}
 use Prim.Native.Nat.{ℕ, zero, suc, ◌+◌, ◌<◌}
 use Rattle.std.proofs.Math.Dec.{eqb, lit<}
 use Rattle.values.specs.declared.Task.{Task}
 use Rattle.values.specs.declared.Table.{Table}
-use Rattle.values.specs.declared.Judgement.{Judgement}
-use Rattle.values.specs.declared.Admission.{Admission}
 use Rattle.values.specs.declared.Contents.{Contents}
 use Rattle.model.specs.Limits.{task_limit, slot_limit, round_limit, slot_count_limit, budget_bytes}
 use Rattle.model.specs.Tasks.{task, offset, within, task_fault, first_faulty, first_button, round, judged_mixed, periodic_only, judged}
@@ -16,15 +15,15 @@ use Rattle.model.specs.Log.{Log, miscounted, log_admitted_by, log_admitted}
 
 -- What refuses by a number below 100.
 abbrev pub Below : Admission → Type 0
-Below (Admission.Refused r) = r.number < 100
-Below Admission.Admitted = Unit
+Below (Err r) = r.number < 100
+Below (Ok u) = Unit
 
 abbrev Small : ℕ → Type 0
 Small n = n < 100
 
 abbrev pub JudgedBelow : Judgement → Type 0
-JudgedBelow (Judgement.Refused r) = r.number < 100
-JudgedBelow (Judgement.WellFormed m) = Unit
+JudgedBelow (Err r) = r.number < 100
+JudgedBelow (Ok m) = Unit
 
 -- What holds of both holds of whichever a test takes.
 either : {A : Type 0} (P : A → Type 0) (b : Bool) {x y : A} → P x → P y → P (cond b x y)
@@ -83,13 +82,13 @@ unfolding judged
 judged_below t = go (judged_mixed t) (mixed_below t)
   where
     go : (j : Judgement) → JudgedBelow j → JudgedBelow (periodic_only t j)
-    go (Judgement.Refused r) h = h
-    go (Judgement.WellFormed m) h = either JudgedBelow (ltb (first_button t) t.count) (lit< tt) tt
+    go (Err r) h = h
+    go (Ok m) h = either JudgedBelow (ltb (first_button t) t.count) (lit< tt) tt
 
 -- A dispatcher's state, by what its table is judged to be, and a log.
 pub state_below : (t : Table) (d : State) (j : Judgement) → JudgedBelow j → Below (admitted_by t d j)
-state_below t d (Judgement.Refused r) h = h
-state_below t d (Judgement.WellFormed m) h =
+state_below t d (Err r) h = h
+state_below t d (Ok m) h =
     either Below (ltb (first_strange t d) t.count) (lit< tt)
     (either Below (last_strange t d) (lit< tt) (either Below (ltb slot_count_limit (slot_count t d)) (lit< tt) tt))
 
@@ -98,5 +97,5 @@ unfolding log_admitted admitted
 log_below t l = go (admitted t l.state) (state_below t l.state (judged t) (judged_below t))
   where
     go : (a : Admission) → Below a → Below (log_admitted_by t l a)
-    go (Admission.Refused r) h = h
-    go Admission.Admitted h = either Below (miscounted t l) (lit< tt) tt
+    go (Err r) h = h
+    go (Ok u) h = either Below (miscounted t l) (lit< tt) tt

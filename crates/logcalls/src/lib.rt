@@ -16,8 +16,8 @@ fn log_told(said: Fed, state: &mut [u8]) -> u64
 {
     let admission = said.admission;
     match admission {
-        Admission::Refused(why) => numbers::refusal_number(why),
-        Admission::Admitted => {
+        Err(why) => numbers::refusal_number(why),
+        Ok(()) => {
             let log = said.log;
             let reading = log.reading;
             let found = reading.found;
@@ -34,8 +34,8 @@ pub fn log_start(file: &[u8], state: &mut [u8]) -> u64
     let form = numbers::form_for(file, LOG_STATE_BYTES, state.len());
     let admission = form.admission;
     match admission {
-        Admission::Refused(why) => numbers::refusal_number(why),
-        Admission::Admitted => {
+        Err(why) => numbers::refusal_number(why),
+        Ok(()) => {
             let table = form.table;
             let log = logbuffer::log_in(state);
             log_told(log.start(table), state)
@@ -49,8 +49,8 @@ pub fn log_feed(file: &[u8], state: &mut [u8], piece: &[u8]) -> u64
     let form = numbers::form_for(file, LOG_STATE_BYTES, state.len());
     let admission = form.admission;
     match admission {
-        Admission::Refused(why) => numbers::refusal_number(why),
-        Admission::Admitted => {
+        Err(why) => numbers::refusal_number(why),
+        Ok(()) => {
             let table = form.table;
             let log = logbuffer::log_in(state);
             log_told(log.feed(table, piece), state)
@@ -64,8 +64,8 @@ pub fn log_finish(file: &[u8], state: &mut [u8]) -> u64
     let form = numbers::form_for(file, LOG_STATE_BYTES, state.len());
     let admission = form.admission;
     match admission {
-        Admission::Refused(why) => numbers::refusal_number(why),
-        Admission::Admitted => {
+        Err(why) => numbers::refusal_number(why),
+        Ok(()) => {
             let table = form.table;
             let log = logbuffer::log_in(state);
             log_told(log.finish(table), state)

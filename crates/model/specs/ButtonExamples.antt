@@ -1,5 +1,5 @@
 -- Tables with buttons (T-13), by computing.
-use Rattle.std.specs.Prelude.{◌≡◌, refl, List, [], ◌∷◌, ◌++◌, map, ◌||◌, true, false, ℕ, zero, suc, ◌+◌, ◌-◌, ◌*◌, eqb, get_or, replicate}
+use Rattle.std.specs.Prelude.{◌≡◌, refl, List, [], ◌∷◌, ◌++◌, map, ◌||◌, true, false, ℕ, zero, suc, ◌+◌, ◌-◌, ◌*◌, eqb, get_or, replicate, Ok, Err}
 use Rattle.model.specs.Values.{Sort, Task, Table, QuickAnswer, DistanceAnswer, LargestCost, Admission, SlotAnswer}
 use Rattle.model.specs.Values.{judgement_said, refusal}
 use Rattle.model.specs.Notation.{sum, largest, count, first, last, bits, fill, text, digits, decimal}
@@ -61,7 +61,7 @@ abbrev file_shutter : List ℕ
 file_shutter = budget_of 1000 ++ row_of (of 0 1 3 6) ++ row_of (of 3 1 2 6) ++ press_of 1 1 2 ++ (3 ∷ [])
 
 button_files :
-    (file_read file_shutter ≡ record { admission = Admission.Admitted; budget = 1000; table = table_shutter })
+    (file_read file_shutter ≡ record { admission = Ok tt; budget = 1000; table = table_shutter })
     × (file_of 1000 (of 0 1 3 6 ∷ of 3 1 2 6 ∷ button 1 1 2 ∷ []) ≡ file_shutter)
     × ((file_read (budget_of 7 ++ press_of 1 2 3 ++ row_of (of 9 1 2 3) ++ (3 ∷ []))).table
     ≡ table_of (button 1 2 3 ∷ of 9 1 2 3 ∷ []))
@@ -104,7 +104,7 @@ text_refusal s = (text_read s).admission
 
 button_texts :
     (text_read (text "budget 7\nbutton 1 2 3\ntask 9 1 2 3\n")
-    ≡ record { admission = Admission.Admitted; budget = 7; table = table_of (button 1 2 3 ∷ of 9 1 2 3 ∷ []) })
+    ≡ record { admission = Ok tt; budget = 7; table = table_of (button 1 2 3 ∷ of 9 1 2 3 ∷ []) })
     × (text_of 7 (button 1 2 3 ∷ of 9 1 2 3 ∷ []) ≡ text "budget 7\nbutton 1 2 3\ntask 9 1 2 3\n")
     × (map text_refusal (text "button 1 2 3\nbudget 1" ∷ text "budget 1\nbutton 1 2"
     ∷ text "budget 1\nbutton 0 1 2 3" ∷ text "budget 1\nbutton 1 x" ∷ text "budget 1\nButton 1 2 3" ∷ [])
@@ -150,7 +150,7 @@ only_periodic :
     × (cost_answer table_shutter 9 1000 ≡ LargestCost.Refused (refusal 11 2))
     × ((started table_shutter (start_of table_shutter)).admission ≡ at 11 2)
     × ((stepped table_shutter (uncounted (padded 99 []) (padded 9 []) 99) false).answer
-    ≡ SlotAnswer.Refused (refusal 11 2))
+    ≡ Err (refusal 11 2))
     × (eased_exported file_b file_shutter ≡ 4 * (65536 * 11 + 2) + 3)
     × (eased_exported file_shutter [] ≡ 4 * (65536 * 11 + 2) + 2)
 unfolding quick_answer cost_answer started stepped_by admitted slot_count file_read periodic_from form_of read_from judged
@@ -178,7 +178,7 @@ once wait left = record { wait = padded 0 wait; left = padded 0 left; last = 0; 
 abbrev taken : ℕ → ℕ → State → Pressed
 taken owner untaken d =
     record {
-      answer = SlotAnswer.Slot (record { owner = owner; late = 0; closed = 0; lowest = task_limit });
+      answer = Ok (record { owner = owner; late = 0; closed = 0; lowest = task_limit });
       untaken = untaken;
       state = d;
     }
@@ -186,7 +186,7 @@ taken owner untaken d =
 -- At the start the shutter may be pressed: its job comes, and the lens, which is due sooner, has the slot.
 -- A press in the next slot is too early; one of the lens, a periodic task, and one of no task are never taken.
 press_taken_lem :
-    (started_mixed camera (once (9 ∷ 4 ∷ 19 ∷ 39 ∷ []) (1 ∷ [])) ≡ record { admission = Admission.Admitted; state = start_of camera })
+    (started_mixed camera (once (9 ∷ 4 ∷ 19 ∷ 39 ∷ []) (1 ∷ [])) ≡ record { admission = Ok tt; state = start_of camera })
     × (stepped_pressed camera (start_of camera) false 8
     ≡ taken 0 0 (once (9 ∷ 4 ∷ 19 ∷ 39 ∷ []) (1 ∷ 0 ∷ 4 ∷ 3 ∷ [])))
     × (stepped_pressed camera (start_of camera) false 0
@@ -203,9 +203,9 @@ press_refused :
     once (9 ∷ 4 ∷ 19 ∷ 40 ∷ []) [] ∷ once (9 ∷ 4 ∷ 19 ∷ 41 ∷ []) [] ∷ once (9 ∷ 4 ∷ 19 ∷ 39 ∷ []) (0 ∷ 0 ∷ 0 ∷ 3 ∷ [])
     ∷ once (9 ∷ 4 ∷ 19 ∷ 29 ∷ []) (0 ∷ 0 ∷ 0 ∷ 3 ∷ []) ∷ once (9 ∷ 4 ∷ 19 ∷ 40 ∷ []) (0 ∷ 0 ∷ 0 ∷ 3 ∷ []) ∷ []
     )
-    ≡ Admission.Admitted ∷ at 8 3 ∷ Admission.Admitted ∷ at 8 3 ∷ at 8 3 ∷ [])
+    ≡ (Ok tt) ∷ at 8 3 ∷ (Ok tt) ∷ at 8 3 ∷ at 8 3 ∷ [])
     × (stepped_pressed camera (once (41 ∷ []) []) false 8
-    ≡ record { answer = SlotAnswer.Refused (refusal 8 0); untaken = 8; state = once (41 ∷ []) [] })
+    ≡ record { answer = Err (refusal 8 0); untaken = 8; state = once (41 ∷ []) [] })
 unfolding stepped_pressed admitted_mixed slot_count first_strange
     judged_mixed first_faulty task_fault first round load horizon largest sum count
 press_refused = (refl, refl)
@@ -225,7 +225,7 @@ press_at_deadline :
     let t = table_of (button 2 3 3 ∷ []) in
     let d = uncounted (padded 0 []) (padded 0 (1 ∷ [])) task_limit in
     map (λ pressed. (stepped_pressed t d false pressed).answer) (0 ∷ 1 ∷ [])
-    ≡ map (λ owner. SlotAnswer.Slot (record { owner = owner; late = 1; closed = 1; lowest = 0 })) (task_limit ∷ 0 ∷ [])
+    ≡ map (λ owner. Ok (record { owner = owner; late = 1; closed = 1; lowest = 0 })) (task_limit ∷ 0 ∷ [])
 unfolding stepped_pressed admitted_mixed slot_count first_strange owner_come choose
     judged_mixed first_faulty task_fault first round load horizon largest sum count bits
 press_at_deadline = refl

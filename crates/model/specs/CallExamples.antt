@@ -1,6 +1,6 @@
 -- What the program prints and the calls from C return and write, by computing: the report, the quick test and the
 -- distance test, the answer as numbers, the state buffer, and what a host reads off a report.
-use Rattle.std.specs.Prelude.{◌≡◌, refl, List, [], ◌∷◌, ◌++◌, map, true, false, ℕ, ◌+◌, ◌-◌, ◌*◌, get_or, replicate, take}
+use Rattle.std.specs.Prelude.{◌≡◌, refl, List, [], ◌∷◌, ◌++◌, map, true, false, ℕ, ◌+◌, ◌-◌, ◌*◌, get_or, replicate, take, Ok}
 use Rattle.model.specs.Values.{Verdict, Outcome, verdict_said, refusal}
 use Rattle.model.specs.Notation.{sum, largest, count, first, last, bits, fill, text, digits, decimal}
 use Rattle.model.specs.Limits.{task_limit, report_bytes}
@@ -28,7 +28,7 @@ use Rattle.model.specs.Examples.{padded, of, measured, word, budget_of, row_of, 
 -- Overload has neither an interval nor worst and idle lines. (`promises/specs/Tables.antt` has these answers.)
 reports :
     (report_of 2 false (record {
-      outcome = Outcome.Tested Verdict.Passes;
+      outcome = Ok Verdict.Passes;
       measure = measured 15 11 38;
       settled = 38;
       worst = padded 0 (7 ∷ 2 ∷ []);
@@ -36,16 +36,16 @@ reports :
     }) Verdict.Passes
     ≡ text "tasks 2\nload 11/15\nquick none\nhorizon 38\nverdict passes\nsettled 38\nworst 0 7\nworst 1 2\nidle 2\n")
     × (report_of 1 true (record {
-      outcome = Outcome.Tested Verdict.Passes;
+      outcome = Ok Verdict.Passes;
       measure = measured 1 1 2;
       settled = 2;
       worst = padded 0 (1 ∷ []);
       idle = 1;
     }) Verdict.Passes
     ≡ text "tasks 1\nload 1/1\nquick pass\nhorizon 2\nverdict passes\nsettled 2\nworst 0 1\nidle 1\n")
-    × (report_of 2 false (brief (Outcome.Tested (Verdict.Late 8 15 8)) (measured 15 12 38) 15) (Verdict.Late 8 15 8)
+    × (report_of 2 false (brief (Ok (Verdict.Late 8 15 8)) (measured 15 12 38) 15) (Verdict.Late 8 15 8)
     ≡ text "tasks 2\nload 12/15\nquick none\nhorizon 38\nverdict late\nsettled 15\ninterval 8 15 demand 8\n")
-    × (report_of 2 false (brief (Outcome.Tested Verdict.Overload) (measured 5 6 12) 0) Verdict.Overload
+    × (report_of 2 false (brief (Ok Verdict.Overload) (measured 5 6 12) 0) Verdict.Overload
     ≡ text "tasks 2\nload 6/5\nquick none\nhorizon 12\nverdict overload\nsettled 0\n")
 unfolding report_of worst_lines text decimal digits
 reports = (refl, refl, refl, refl)
@@ -73,7 +73,7 @@ unfolding file_read periodic_from form_of read_from Permitted judged judged_mixe
     verdict needed late_start late_at first last round load horizon largest sum count demand arrived_in report_of text
     decimal digits quick_pass calm starting_at fill first_idle idle_at missed_at owner_of served choose
 told =
-    let a = brief (Outcome.Tested Verdict.Undecided) (measured 2 2 5) 4 in
+    let a = brief (Ok Verdict.Undecided) (measured 2 2 5) 4 in
     ((a, refl, refl), (a, refl, refl))
 
 -- The line of a refusal; a number as long as the longest of a report, `task_limit` times the limit of H.
@@ -102,7 +102,7 @@ numbers_b =
 -- whatever the answer holds there.
 answers :
     (answer_buffer (numbers_of 2 false (record {
-      outcome = Outcome.Tested Verdict.Passes;
+      outcome = Ok Verdict.Passes;
       measure = measured 15 11 38;
       settled = 38;
       worst = padded 0 (7 ∷ 2 ∷ []);
@@ -112,7 +112,7 @@ answers :
     × ((numbers_in numbers_b).load ≡ 11) × ((numbers_in numbers_b).idle ≡ 2) × ((numbers_in numbers_b).verdict ≡ 4)
     × ((numbers_in numbers_b).worst ≡ padded 0 (7 ∷ 2 ∷ []))
     × (answer_buffer (numbers_of 2 true (record {
-      outcome = Outcome.Tested (Verdict.Late 8 15 8);
+      outcome = Ok (Verdict.Late 8 15 8);
       measure = measured 15 12 38;
       settled = 15;
       worst = padded 0 (9 ∷ 9 ∷ []);
@@ -124,7 +124,7 @@ unfolding answer_buffer numbers_in bytes_of halves fill
 answers = (refl, refl, refl, refl, refl, refl)
 
 -- Verdicts have the numbers by which they are said.
-said : map (λ v. (numbers_of 1 false (brief (Outcome.Tested v) (measured 1 1 2) 0) v).verdict ∷ [])
+said : map (λ v. (numbers_of 1 false (brief (Ok v) (measured 1 1 2) 0) v).verdict ∷ [])
     (Verdict.Overload ∷ Verdict.Undecided ∷ Verdict.Late 0 1 2 ∷ Verdict.Passes ∷ [])
     ≡ map (λ v. take 1 (verdict_said v 0 0 [])) (Verdict.Overload ∷ Verdict.Undecided ∷ Verdict.Late 0 1 2 ∷ Verdict.Passes ∷ [])
 said = refl
@@ -143,7 +143,7 @@ answered :
 unfolding file_read periodic_from form_of read_from Permitted judged judged_mixed first_button first_faulty task_fault settled_by
     verdict needed late_start late_at first last round load horizon largest sum count demand arrived_in answer_buffer
     bytes_of halves quick_pass calm starting_at fill first_idle idle_at missed_at owner_of served choose
-answered = (refl, refl, (brief (Outcome.Tested Verdict.Undecided) (measured 2 2 5) 4, refl, refl))
+answered = (refl, refl, (brief (Ok Verdict.Undecided) (measured 2 2 5) 4, refl, refl))
 
 -- ---- the quick test and the distance test
 

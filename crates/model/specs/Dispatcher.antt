@@ -1,5 +1,5 @@
 -- The dispatcher: its state, when a state belongs to a table, the start, and the step in its four rules.
-use Rattle.std.specs.Prelude.{Bool, cond, not, ◌&&◌, ◌||◌, ℕ, ◌+◌, ◌-◌, max, ltb, eqb, get_or, replicate}
+use Rattle.std.specs.Prelude.{Bool, cond, not, ◌&&◌, ◌||◌, ℕ, ◌+◌, ◌-◌, max, ltb, eqb, get_or, replicate, Ok, Err}
 use Rattle.model.specs.Notation.{bit, sum, count, first, bits, fill}
 use Rattle.model.specs.Values.{Table, Refusal, Judgement, Admission, Turn, SlotAnswer, refusal}
 use Rattle.model.specs.Limits.{task_limit, slot_count_limit, sum_place}
@@ -54,11 +54,11 @@ last_strange t d = not (eqb d.last task_limit || ltb d.last t.count)
 -- By what a table is judged to be: a state is refused by the table's number, then by 8 at the first place that does not
 -- belong, which is a task, `task_limit` for the last-run number or `sum_place` for too many slots; or it is admitted.
 abbrev pub admitted_by : Table → State → Judgement → Admission
-admitted_by t d (Judgement.Refused r) = Admission.Refused r
-admitted_by t d (Judgement.WellFormed m) =
-    cond (ltb (first_strange t d) t.count) (Admission.Refused (refusal 8 (first_strange t d)))
-    (cond (last_strange t d) (Admission.Refused (refusal 8 task_limit))
-    (cond (ltb slot_count_limit (slot_count t d)) (Admission.Refused (refusal 8 sum_place)) Admission.Admitted))
+admitted_by t d (Err r) = Err r
+admitted_by t d (Ok m) =
+    cond (ltb (first_strange t d) t.count) (Err (refusal 8 (first_strange t d)))
+    (cond (last_strange t d) (Err (refusal 8 task_limit))
+    (cond (ltb slot_count_limit (slot_count t d)) (Err (refusal 8 sum_place)) (Ok tt)))
 
 unfoldable pub admitted : Table → State → Admission
 admitted t d = admitted_by t d (judged t)
@@ -76,8 +76,8 @@ start_of t =
 
 -- A refused start hands the state back as it came.
 abbrev pub start_judged : Table → State → Judgement → Started
-start_judged t d (Judgement.Refused r) = record { admission = Admission.Refused r; state = d }
-start_judged t d (Judgement.WellFormed m) = record { admission = Admission.Admitted; state = start_of t }
+start_judged t d (Err r) = record { admission = Err r; state = d }
+start_judged t d (Ok m) = record { admission = Ok tt; state = start_of t }
 
 unfoldable pub started : Table → State → Started
 started t d = start_judged t d (judged t)
@@ -151,13 +151,13 @@ module _ (t : Table) (rank : Order) (d : State) (done : Bool) where
 -- A step on any table and any state: refused as the state is, then by 9 if it can count no more slots, or taken.
 -- A refusal hands the state back as it came.
 abbrev pub refuse_step : Refusal → State → Stepped
-refuse_step r d = record { answer = SlotAnswer.Refused r; state = d }
+refuse_step r d = record { answer = Err r; state = d }
 
 abbrev pub step_admitted_by : Table → Order → State → Bool → Admission → Stepped
-step_admitted_by t rank d done (Admission.Refused r) = refuse_step r d
-step_admitted_by t rank d done Admission.Admitted =
+step_admitted_by t rank d done (Err r) = refuse_step r d
+step_admitted_by t rank d done (Ok u) =
     cond (eqb (slot_count t d) slot_count_limit) (refuse_step (refusal 9 0) d)
-    (record { answer = SlotAnswer.Slot (turn_by t rank d done); state = after_by t rank d done })
+    (record { answer = Ok (turn_by t rank d done); state = after_by t rank d done })
 
 unfoldable pub stepped_by : Table → Order → State → Bool → Stepped
 stepped_by t rank d done = step_admitted_by t rank d done (admitted t d)

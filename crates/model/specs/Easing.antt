@@ -1,6 +1,6 @@
 -- What may be eased in a table (T-11): costs lowered, deadlines lengthened, tasks left out, and all of that together;
 -- and what is told of two tables.
-use Rattle.std.specs.Prelude.{List, ◌≡◌, Bool, cond, not, ◌&&◌, ℕ, zero, suc, ◌+◌, ◌-◌, ◌*◌, ◌≤◌, ◌<◌, leb, ltb, eqb}
+use Rattle.std.specs.Prelude.{List, ◌≡◌, Bool, cond, not, ◌&&◌, ℕ, zero, suc, ◌+◌, ◌-◌, ◌*◌, ◌≤◌, ◌<◌, leb, ltb, eqb, Ok, Err}
 use Rattle.model.specs.Notation.{some, first, bits}
 use Rattle.model.specs.Values.{Task, Table, Easing, Admission}
 use Rattle.model.specs.Tasks.{task, is_button, offset}
@@ -76,9 +76,9 @@ easing_number (Easing.Kept set) = 4 * set + 1
 -- The refusal of the old file, 4 · refusal + 2; then of the new one, 4 · refusal + 3;
 -- else what is told of their tables.
 abbrev pub eased_number : Table → Table → Admission → Admission → ℕ
-eased_number before after (Admission.Refused r) a = 4 * refusal_number r + 2
-eased_number before after Admission.Admitted (Admission.Refused r) = 4 * refusal_number r + 3
-eased_number before after Admission.Admitted Admission.Admitted = easing_number (easing before after)
+eased_number before after (Err r) a = 4 * refusal_number r + 2
+eased_number before after (Ok u) (Err r) = 4 * refusal_number r + 3
+eased_number before after (Ok u) (Ok v) = easing_number (easing before after)
 
 -- The number that the exported call returns of an old and a new file.
 abbrev pub eased_exported : List ℕ → List ℕ → ℕ

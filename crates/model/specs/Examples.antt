@@ -1,7 +1,7 @@
 -- The specification's tables, and the words that all examples use. By computing: the limits, the judgement of a table
 -- with its refusals in order, and the numbers of the answers. The examples of other files of the model stand in
 -- `TestExamples`, `StepExamples`, `FileExamples`, `CallExamples`, `ButtonExamples` and `LogExamples`.
-use Rattle.std.specs.Prelude.{◌≡◌, refl, List, [], ◌∷◌, ◌++◌, map, ℕ, ◌+◌, ◌-◌, ◌/◌, ◌%◌, ◌^◌, length, replicate}
+use Rattle.std.specs.Prelude.{◌≡◌, refl, List, [], ◌∷◌, ◌++◌, map, ℕ, ◌+◌, ◌-◌, ◌/◌, ◌%◌, ◌^◌, length, replicate, Ok, Err}
 use Rattle.model.specs.Values.{Sort, Task, Table, Measure, Judgement, Verdict, Outcome, Admission, SlotAnswer}
 use Rattle.model.specs.Values.{refusal, verdict_said, judgement_said, admission_said, slot_said, outcome_said}
 use Rattle.model.specs.Notation.{sum, largest, count, first}
@@ -30,7 +30,7 @@ padded x w = w ++ replicate (task_limit - length w) x
 
 -- A refusal of a file, a text or a state.
 abbrev pub at : ℕ → ℕ → Admission
-at n p = Admission.Refused (refusal n p)
+at n p = Err (refusal n p)
 
 -- A state that has counted no slot.
 abbrev pub uncounted : List ℕ → List ℕ → ℕ → State
@@ -105,7 +105,7 @@ file_g = budget_of 1 ++ row_of (of 0 2 4 4) ++ row_of (of 0 2 4 4) ++ (3 ∷ [])
 -- ---- judging a table
 
 abbrev refuse : ℕ → ℕ → Judgement
-refuse n p = Judgement.Refused (refusal n p)
+refuse n p = Err (refusal n p)
 
 -- The numbers 1 to 6 with their places: no task, one and two tasks too many, then T, D, C and O of task 1,
 -- before later faults and, but for T = 0 and D = 0, which leave no C in range, alone.
@@ -161,7 +161,7 @@ above_measured = measured 1000000000010 394160207 2000000000020
 
 -- The limit itself, which no table has, and one more; what is wrong with a task comes first.
 refused_by_round :
-    (judged_by (measured round_limit 1 1) within_limit ≡ Judgement.WellFormed (measured round_limit 1 1))
+    (judged_by (measured round_limit 1 1) within_limit ≡ Ok (measured round_limit 1 1))
     × (judged_by (measured (round_limit + 1) 1 1) within_limit ≡ refuse 7 0)
     × (judged_by above_measured (table_of (once 4093 ∷ of 60001 1 1 8779 ∷ once 27830 ∷ [])) ≡ refuse 6 1)
 unfolding first_faulty task_fault first
@@ -169,7 +169,7 @@ refused_by_round = (refl, refl, refl)
 
 -- H, load and horizon of b; H of three periods; of two offsets the largest counts.
 measures :
-    (judged table_b ≡ Judgement.WellFormed (measured 15 11 38))
+    (judged table_b ≡ Ok (measured 15 11 38))
     × (round (table_of (of 0 1 1 4 ∷ of 0 1 1 6 ∷ of 0 1 1 10 ∷ [])) ≡ 60)
     × (horizon (table_of (of 3 1 1 4 ∷ of 2 1 1 6 ∷ [])) ≡ 27)
 unfolding judged judged_mixed first_button first_faulty task_fault first round load horizon largest sum count
@@ -181,12 +181,12 @@ measures = (refl, refl, refl)
 said :
     (map (λ v. verdict_said v 8 2 (7 ∷ 6 ∷ [])) (Verdict.Overload ∷ Verdict.Undecided ∷ Verdict.Late 0 7 9 ∷ Verdict.Passes ∷ [])
     ≡ (1 ∷ 8 ∷ []) ∷ (2 ∷ 8 ∷ []) ∷ (3 ∷ 8 ∷ 0 ∷ 7 ∷ 9 ∷ []) ∷ (4 ∷ 8 ∷ 2 ∷ 7 ∷ 6 ∷ []) ∷ [])
-    × (map (λ o. outcome_said o 7 0 []) (Outcome.Refused (refusal 5 1) ∷ Outcome.Tested (Verdict.Late 0 7 9) ∷ [])
+    × (map (λ o. outcome_said o 7 0 []) (Err (refusal 5 1) ∷ Ok (Verdict.Late 0 7 9) ∷ [])
     ≡ (5 ∷ 1 ∷ []) ∷ (0 ∷ 3 ∷ 7 ∷ 0 ∷ 7 ∷ 9 ∷ []) ∷ [])
-    × (map judgement_said (refuse 5 1 ∷ Judgement.WellFormed (measured 15 11 38) ∷ [])
+    × (map judgement_said (refuse 5 1 ∷ Ok (measured 15 11 38) ∷ [])
     ≡ (5 ∷ 1 ∷ []) ∷ (0 ∷ 15 ∷ 11 ∷ 38 ∷ []) ∷ [])
-    × (map admission_said (at 21 9 ∷ Admission.Admitted ∷ []) ≡ (21 ∷ 9 ∷ []) ∷ (0 ∷ []) ∷ [])
-    × (map slot_said (SlotAnswer.Refused (refusal 8 task_limit)
-    ∷ SlotAnswer.Slot (record { owner = task_limit; late = 6; closed = 2; lowest = 1 }) ∷ [])
+    × (map admission_said (at 21 9 ∷ (Ok tt) ∷ []) ≡ (21 ∷ 9 ∷ []) ∷ (0 ∷ []) ∷ [])
+    × (map slot_said (Err (refusal 8 task_limit)
+    ∷ Ok (record { owner = task_limit; late = 6; closed = 2; lowest = 1 }) ∷ [])
     ≡ (8 ∷ task_limit ∷ []) ∷ (0 ∷ task_limit ∷ 6 ∷ 2 ∷ 1 ∷ []) ∷ [])
 said = (refl, refl, refl, refl, refl)

@@ -1,5 +1,5 @@
 -- Table files, what writes them, and tables in plain text, by computing: what is read, and the refusals in their order.
-use Rattle.std.specs.Prelude.{◌≡◌, refl, List, [], ◌∷◌, ◌++◌, map, ℕ, zero, suc, ◌+◌, ◌-◌, replicate}
+use Rattle.std.specs.Prelude.{◌≡◌, refl, List, [], ◌∷◌, ◌++◌, map, ℕ, zero, suc, ◌+◌, ◌-◌, replicate, Ok, Err}
 use Rattle.model.specs.Values.{Admission, Writing, refusal}
 use Rattle.model.specs.Notation.{sum, largest, count, first, fill, text, digits, decimal}
 use Rattle.model.specs.Limits.{task_limit, longest_file}
@@ -21,7 +21,7 @@ rows_of_one (suc n) = row_of (of 0 1 1 1) ++ rows_of_one n
 -- A file is read; of one whose table is refused nothing is kept. A table holds the most tasks, of zeros past its last.
 -- A budget of more than four bytes, and numbers of three and four.
 files :
-    (file_read file_b ≡ record { admission = Admission.Admitted; budget = 1000; table = table_b })
+    (file_read file_b ≡ record { admission = Ok tt; budget = 1000; table = table_b })
     × (file_read (budget_of 1000 ++ (3 ∷ [])) ≡ record { admission = at 1 0; budget = 0; table = table_of [] })
     × (table_of (of 0 1 1 1 ∷ []) ≡ record { count = 1; tasks = of 0 1 1 1 ∷ replicate (task_limit - 1) (of 0 0 0 0) })
     × ((form_of (1 ∷ 1 ∷ 2 ∷ 3 ∷ 4 ∷ 5 ∷ 6 ∷ 7 ∷ 8 ∷ 3 ∷ [])).budget ≡ 578437695752307201)
@@ -62,7 +62,7 @@ budgets_of_nothing :
     budget_of 0 ∷ (budget_of 0 ++ (9 ∷ [])) ∷ (budget_of 0 ++ (3 ∷ [])) ∷ (budget_of 1 ++ budget_of 0)
     ∷ (1 ∷ word 0 ++ word 1 ++ rows_of_one 1 ++ (3 ∷ [])) ∷ []
     )
-    ≡ at 27 0 ∷ at 27 0 ∷ at 27 0 ∷ at 23 9 ∷ Admission.Admitted ∷ []
+    ≡ at 27 0 ∷ at 27 0 ∷ at 27 0 ∷ at 23 9 ∷ (Ok tt) ∷ []
 unfolding file_read periodic_from form_of read_from judged judged_mixed first_button first_faulty
     task_fault first round load horizon largest sum count rows_of_one
 budgets_of_nothing = refl
@@ -73,12 +73,12 @@ budgets_of_nothing = refl
 -- The table's refusal comes first, then 27 for a budget of 0, then the buffer's.
 -- A budget of eight bytes has its lowest byte first.
 writes :
-    (file_written table_b 1000 (replicate 46 7) ≡ record { said = Writing.Bytes 44; buffer = file_b ++ (7 ∷ 7 ∷ []) })
+    (file_written table_b 1000 (replicate 46 7) ≡ record { said = Ok 44; buffer = file_b ++ (7 ∷ 7 ∷ []) })
     × (file_written table_b 1000 (replicate 43 7)
-    ≡ record { said = Writing.Refused (refusal 31 43); buffer = replicate 43 7 })
-    × (file_written (table_of []) 0 [] ≡ record { said = Writing.Refused (refusal 1 0); buffer = [] })
-    × (file_written table_b 0 (7 ∷ []) ≡ record { said = Writing.Refused (refusal 27 0); buffer = 7 ∷ [] })
-    × ((file_written table_b 1 []).said ≡ Writing.Refused (refusal 31 0))
+    ≡ record { said = Err (refusal 31 43); buffer = replicate 43 7 })
+    × (file_written (table_of []) 0 [] ≡ record { said = Err (refusal 1 0); buffer = [] })
+    × (file_written table_b 0 (7 ∷ []) ≡ record { said = Err (refusal 27 0); buffer = 7 ∷ [] })
+    × ((file_written table_b 1 []).said ≡ Err (refusal 31 0))
     × (file_of 578437695752307201 [] ≡ 1 ∷ 1 ∷ 2 ∷ 3 ∷ 4 ∷ 5 ∷ 6 ∷ 7 ∷ 8 ∷ 3 ∷ [])
 unfolding file_written judged judged_mixed first_button first_faulty task_fault
     first round load horizon largest sum count bytes_of task_records
@@ -105,7 +105,7 @@ exported_writes = (refl, refl, refl, refl, refl, refl)
 -- Words are parted by blanks and tabs; a carriage return at a line's end and a comment say nothing;
 -- the last line may lack its line feed.
 text_b : text_read (text "# the bench\n\n budget 1000\r\ntask 8\t5  7 015# camera\ntask 0 2 2 5")
-    ≡ record { admission = Admission.Admitted; budget = 1000; table = table_b }
+    ≡ record { admission = Ok tt; budget = 1000; table = table_b }
 unfolding text_read text_form read_lines line_of budget_line task_line numbers_fault value_after all_digits same filled split
     text judged judged_mixed first_button first_faulty task_fault first round load horizon largest sum count
 text_b = refl
@@ -161,7 +161,7 @@ tasks_of_one zero = []
 tasks_of_one (suc n) = text "task 0 1 1 1\n" ++ tasks_of_one n
 
 -- A task too many is 66, whatever follows it on its line.
-many_lines : ((text_read (text "budget 1\n" ++ tasks_of_one task_limit)).admission ≡ Admission.Admitted)
+many_lines : ((text_read (text "budget 1\n" ++ tasks_of_one task_limit)).admission ≡ Ok tt)
     × ((text_read (text "budget 1\n" ++ tasks_of_one task_limit ++ text "task x")).admission ≡ at 66 (task_limit + 2))
 unfolding tasks_of_one text_read text_form read_lines line_of budget_line task_line numbers_fault value_after all_digits same
     filled split text judged judged_mixed first_button first_faulty task_fault first round load horizon largest sum count

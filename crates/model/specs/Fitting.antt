@@ -1,6 +1,6 @@
 -- What would fit (ours): the largest cost and the smallest deadline of one task, and the largest share of every cost, with which
 -- a table passes; and the one permitted answer to a table, a change and a budget.
-use Rattle.std.specs.Prelude.{List, Bool, false, cond, ℕ, suc, ◌+◌, ◌-◌, ◌*◌, ◌/◌, min, ltb, set}
+use Rattle.std.specs.Prelude.{List, Bool, false, cond, ℕ, suc, ◌+◌, ◌-◌, ◌*◌, ◌/◌, min, ltb, set, Ok, Err}
 use Rattle.model.specs.Notation.{fill, first, last}
 use Rattle.model.specs.Values.{Task, Table, Judgement, Verdict, Change, Fit, refusal}
 use Rattle.model.specs.Limits.{slot_limit, share_limit, word_limit}
@@ -29,8 +29,8 @@ with_share t p = record { count = t.count; tasks = fill t.count (shared t p) t.t
 
 -- A table fits if it is well-formed, without a button, and passes.
 abbrev pub fits_by : Judgement → Verdict → Bool
-fits_by (Judgement.Refused r) v = false
-fits_by (Judgement.WellFormed m) v = is_pass v
+fits_by (Err r) v = false
+fits_by (Ok m) v = is_pass v
 
 unfoldable pub fits : Table → ℕ → Bool
 fits t budget = fits_by (judged t) (verdict t budget)
@@ -75,8 +75,8 @@ task_of Change.Share = 0
 -- By what the table is judged to be: its refusal; 12 for a number that is none of its tasks', at that number;
 -- or what is told.
 abbrev pub fit_judged : Table → Change → ℕ → Judgement → Fit
-fit_judged t c budget (Judgement.Refused r) = Fit.Refused r
-fit_judged t c budget (Judgement.WellFormed m) =
+fit_judged t c budget (Err r) = Fit.Refused r
+fit_judged t c budget (Ok m) =
     cond (ltb (task_of c) t.count) (fit_told t c budget (verdict (easiest t c) budget)) (Fit.Refused (refusal 12 (task_of c)))
 
 -- The one permitted answer to any table, change and budget, refusals included.

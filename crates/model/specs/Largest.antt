@@ -1,6 +1,6 @@
 -- The largest cost that one task of a table can take (T-12), and the one permitted answer to a table,
 -- a task number and a budget.
-use Rattle.std.specs.Prelude.{List, Bool, true, false, cond, ℕ, suc, ◌+◌, min, ltb, set}
+use Rattle.std.specs.Prelude.{List, Bool, true, false, cond, ℕ, suc, ◌+◌, min, ltb, set, Ok, Err}
 use Rattle.model.specs.Notation.{last}
 use Rattle.model.specs.Values.{Task, Table, Judgement, Verdict, LargestCost, refusal}
 use Rattle.model.specs.Limits.{slot_limit}
@@ -41,8 +41,8 @@ cost_told t i budget Verdict.Passes = LargestCost.Cost (largest_cost t i budget)
 -- By what the table is judged to be: its refusal; 12 for a number that is none of its tasks',
 -- at that number; or what is told.
 abbrev pub cost_judged : Table → ℕ → ℕ → Judgement → LargestCost
-cost_judged t i budget (Judgement.Refused r) = LargestCost.Refused r
-cost_judged t i budget (Judgement.WellFormed m) =
+cost_judged t i budget (Err r) = LargestCost.Refused r
+cost_judged t i budget (Ok m) =
     cond (ltb i t.count) (cost_told t i budget (verdict t budget)) (LargestCost.Refused (refusal 12 i))
 
 -- The one permitted answer to any table, task number and budget, refusals included.

@@ -1,6 +1,6 @@
 -- The log that a camera keeps, and its judge: from pieces cut anywhere the answer good,
 -- the first slot that differs, or a fault.
-use Rattle.std.specs.Prelude.{List, [], ◌∷◌, ◌++◌, Bool, true, false, cond, not, ◌&&◌, ◌||◌, ℕ, zero, suc, ◌+◌, ltb, eqb}
+use Rattle.std.specs.Prelude.{List, [], ◌∷◌, ◌++◌, Bool, true, false, cond, not, ◌&&◌, ◌||◌, ℕ, zero, suc, ◌+◌, ltb, eqb, Ok, Err}
 use Rattle.model.specs.Values.{Table, Admission, Finding, refusal}
 use Rattle.model.specs.Limits.{task_limit, log_limit, count_place}
 use Rattle.model.specs.Dispatcher.{State, slot_count, admitted, start_of, started, owner_now, after}
@@ -104,9 +104,9 @@ abbrev pub miscounted : Table → Log → Bool
 miscounted t l = not (eqb l.slots (slot_count t l.state)) || ltb l.bytes l.slots || ltb log_limit l.bytes
 
 abbrev pub log_admitted_by : Table → Log → Admission → Admission
-log_admitted_by t l (Admission.Refused r) = Admission.Refused r
-log_admitted_by t l Admission.Admitted =
-    cond (miscounted t l) (Admission.Refused (refusal 8 count_place)) Admission.Admitted
+log_admitted_by t l (Err r) = Err r
+log_admitted_by t l (Ok u) =
+    cond (miscounted t l) (Err (refusal 8 count_place)) (Ok tt)
 
 unfoldable pub log_admitted : Table → Log → Admission
 log_admitted t l = log_admitted_by t l (admitted t l.state)
@@ -122,8 +122,8 @@ pub record Fed : Type 0 where
   pub log : Log
 
 abbrev pub on_log : Log → Log → Admission → Fed
-on_log l next (Admission.Refused r) = record { admission = Admission.Refused r; log = l }
-on_log l next Admission.Admitted = record { admission = Admission.Admitted; log = next }
+on_log l next (Err r) = record { admission = Err r; log = l }
+on_log l next (Ok u) = record { admission = Ok tt; log = next }
 
 unfoldable pub log_started : Table → Log → Fed
 log_started t l = on_log l (unread (start_of t)) (started t l.state).admission

@@ -1,5 +1,5 @@
 -- A log's judge in a lent buffer, and the exported start, piece and finish.
-use Rattle.std.specs.Prelude.{List, [], ◌∷◌, ◌++◌, cond, not, ℕ, ◌+◌, ◌*◌, eqb, get_or}
+use Rattle.std.specs.Prelude.{List, [], ◌∷◌, ◌++◌, cond, not, ℕ, ◌+◌, ◌*◌, eqb, get_or, Ok, Err}
 use Rattle.model.specs.Notation.{bit}
 use Rattle.model.specs.Values.{Admission, Finding, finding_said}
 use Rattle.model.specs.Limits.{word_limit}
@@ -52,8 +52,8 @@ abbrev pub answer_number : Finding → ℕ
 answer_number f = word_limit * number_of f + place_of f
 
 abbrev pub log_written : List ℕ → Log → Admission → Exported
-log_written buffer l (Admission.Refused r) = refused r buffer
-log_written buffer l Admission.Admitted = record { number = answer_number l.found; buffer = log_buffer_of l }
+log_written buffer l (Err r) = refused r buffer
+log_written buffer l (Ok u) = record { number = answer_number l.found; buffer = log_buffer_of l }
 
 -- The one permitted result of each on any file and any buffer: 50, the file's form, the table,
 -- the state with its places of 8 up to the last.

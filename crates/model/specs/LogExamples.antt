@@ -1,5 +1,5 @@
 -- Logs of the specification's tables, by computing: each answer of its section 7.3, with its place.
-use Rattle.std.specs.Prelude.{◌≡◌, refl, List, [], ◌∷◌, ◌++◌, map, false, ℕ, ◌-◌, ◌*◌, ◌+◌, ◌^◌, eqb, replicate}
+use Rattle.std.specs.Prelude.{◌≡◌, refl, List, [], ◌∷◌, ◌++◌, map, false, ℕ, ◌-◌, ◌*◌, ◌+◌, ◌^◌, eqb, replicate, Ok, Err}
 use Rattle.model.specs.Notation.{sum, largest, count, first, fill}
 use Rattle.model.specs.Values.{Table, Admission, Finding, refusal, finding_said}
 use Rattle.model.specs.Limits.{task_limit, log_limit, count_place}
@@ -71,7 +71,7 @@ long_logs :
     × ((read_byte table_g (log_g 0 log_limit Finding.Good) 19).found ≡ Finding.Fault 44 log_limit)
     × (read_byte table_g (log_g 0 (log_limit - 1) Finding.Nothing) 19 ≡ log_g 0 log_limit Finding.Good)
     × (log_finished table_g (log_g 0 log_limit Finding.Good)
-    ≡ record { admission = Admission.Admitted; log = log_g 0 log_limit Finding.Good })
+    ≡ record { admission = Ok tt; log = log_g 0 log_limit Finding.Good })
     × (read_byte table_g (log_g 0 log_limit (Finding.Fault 40 7)) 19 ≡ log_g 0 log_limit (Finding.Fault 40 7))
     × ((fed table_g (log_finished table_g (log_g 0 5 Finding.Nothing)).log (19 ∷ [])).log
     ≡ log_g 0 5 (Finding.Fault 43 5))
@@ -90,7 +90,7 @@ strange_log = unread (record { wait = 9 ∷ []; left = []; last = 5; given = 6 �
 -- more slots than bytes; its state, before its counts; its table, before its state.
 refused_logs :
     (map (λ l. (log_finished table_g l).admission) (log_g 1 1 Finding.Nothing ∷ log_g 0 (log_limit + 1) Finding.Good ∷ [])
-    ≡ replicate 2 (Admission.Refused (refusal 8 34)))
+    ≡ replicate 2 (Err (refusal 8 34)))
     × ((log_finished table_g (record {
       state = three_empty;
       opened = false;
@@ -98,9 +98,9 @@ refused_logs :
       slots = 3;
       bytes = 2;
       found = Finding.Nothing;
-    })).admission ≡ Admission.Refused (refusal 8 34))
-    × (fed table_g strange_log (19 ∷ []) ≡ record { admission = Admission.Refused (refusal 8 0); log = strange_log })
-    × (fed (table_of []) strange_log [] ≡ record { admission = Admission.Refused (refusal 1 0); log = strange_log })
+    })).admission ≡ Err (refusal 8 34))
+    × (fed table_g strange_log (19 ∷ []) ≡ record { admission = Err (refusal 8 0); log = strange_log })
+    × (fed (table_of []) strange_log [] ≡ record { admission = Err (refusal 1 0); log = strange_log })
 unfolding fed log_finished log_admitted admitted slot_count start_of fill first_strange judged judged_mixed first_button
     first_faulty task_fault first round load horizon largest sum count
 refused_logs = (refl, refl, refl, refl)

@@ -1,6 +1,6 @@
 -- Tables in plain text: for any bytes the refusal, or the budget and the tasks;
 -- the text of a budget and tasks; the exported calls.
-use Rattle.std.specs.Prelude.{List, [], ◌∷◌, ◌++◌, Bool, true, false, cond, ◌&&◌, ◌||◌, ℕ, zero, suc, ◌+◌, ◌-◌, ◌*◌, min, leb, ltb, eqb, get_or, length, take}
+use Rattle.std.specs.Prelude.{List, [], ◌∷◌, ◌++◌, Bool, true, false, cond, ◌&&◌, ◌||◌, ℕ, zero, suc, ◌+◌, ◌-◌, ◌*◌, min, leb, ltb, eqb, get_or, length, take, Ok, Err}
 use Rattle.model.specs.Notation.{text, decimal}
 use Rattle.model.specs.Values.{Sort, Task, Table, Contents, Admission, Line}
 use Rattle.model.specs.Limits.{task_limit, word_limit, budget_limit}
@@ -184,8 +184,8 @@ text_written t budget buffer = written_by budget (text_of budget (tasks_of t)) b
 
 -- What is written of a form: its refusal, or `go`.
 abbrev pub form_written : List ℕ → Filled → Admission → Filled
-form_written buffer go (Admission.Refused r) = unwritten r.number r.place buffer
-form_written buffer go Admission.Admitted = go
+form_written buffer go (Err r) = unwritten r.number r.place buffer
+form_written buffer go (Ok u) = go
 
 -- The file of a text, and the text of a file, each in a lent buffer: the form comes first, then the table,
 -- then the buffer's length.

@@ -1,6 +1,6 @@
 -- The dispatcher of tables with buttons in a lent buffer: the exported start and step that take presses. The buffer is that
 -- of a camera's own loop.
-use Rattle.std.specs.Prelude.{List, not, ℕ, zero, suc, ◌+◌, ◌*◌, eqb}
+use Rattle.std.specs.Prelude.{List, not, ℕ, zero, suc, ◌+◌, ◌*◌, eqb, Ok, Err}
 use Rattle.model.specs.Values.{SlotAnswer}
 use Rattle.model.specs.Limits.{word_limit}
 use Rattle.model.specs.Dispatcher.{State}
@@ -11,8 +11,8 @@ use Rattle.model.specs.StateBuffer.{state_bytes, buffer_of, state_in, start_writ
 -- A step returns the presses that it did not take and, below them, the owner of the slot, and writes the whole buffer.
 -- A refusal takes no press and writes nowhere.
 abbrev pub press_written : List ℕ → State → ℕ → SlotAnswer → Exported
-press_written buffer d untaken (SlotAnswer.Refused r) = refused r buffer
-press_written buffer d untaken (SlotAnswer.Slot u) =
+press_written buffer d untaken (Err r) = refused r buffer
+press_written buffer d untaken (Ok u) =
     record { number = word_limit * untaken + u.owner; buffer = buffer_of d u }
 
 -- The one permitted result of each on any file and any buffer; a done report is any number but 0.

@@ -1,7 +1,7 @@
 -- The dispatcher of tables with buttons (ours, for T-13's tables): a button's job comes when it is pressed. Its state,
 -- its start, the places of 8 and rules 1, 2 and 4 are those of document 01's dispatcher, which refuses such tables; a
 -- button's wait is the slots until it may be pressed again.
-use Rattle.std.specs.Prelude.{◌≡◌, ◌⊎◌, Bool, cond, not, ◌&&◌, ℕ, zero, suc, ◌+◌, min, ◌≤◌, ◌<◌, T, leb, ltb, eqb}
+use Rattle.std.specs.Prelude.{◌≡◌, ◌⊎◌, Bool, cond, not, ◌&&◌, ℕ, zero, suc, ◌+◌, min, ◌≤◌, ◌<◌, T, leb, ltb, eqb, Ok, Err}
 use Rattle.model.specs.Notation.{bits, in_set, count}
 use Rattle.model.specs.Values.{Table, Refusal, Admission, Turn, SlotAnswer, refusal}
 use Rattle.model.specs.Limits.{task_limit, slot_count_limit}
@@ -48,19 +48,19 @@ pub record Pressed : Type 0 where
 
 -- A refused step takes no press, and hands the state back as it came.
 abbrev pub refuse_pressed : Refusal → State → ℕ → Pressed
-refuse_pressed r d pressed = record { answer = SlotAnswer.Refused r; untaken = pressed; state = d }
+refuse_pressed r d pressed = record { answer = Err r; untaken = pressed; state = d }
 
 abbrev pub press_taken : Table → State → Bool → ℕ → Pressed
 press_taken t d done pressed =
     record {
-      answer = SlotAnswer.Slot (slot_told t d done (owner_come t d done (comes t d pressed)));
+      answer = Ok (slot_told t d done (owner_come t d done (comes t d pressed)));
       untaken = not_taken t d pressed;
       state = after_come t d done (comes t d pressed);
     }
 
 abbrev pub press_admitted : Table → State → Bool → ℕ → Admission → Pressed
-press_admitted t d done pressed (Admission.Refused r) = refuse_pressed r d pressed
-press_admitted t d done pressed Admission.Admitted =
+press_admitted t d done pressed (Err r) = refuse_pressed r d pressed
+press_admitted t d done pressed (Ok u) =
     cond (eqb (slot_count t d) slot_count_limit) (refuse_pressed (refusal 9 0) d pressed) (press_taken t d done pressed)
 
 -- A step on any table, any state and any presses: refused as the state is, then by 9, or taken.

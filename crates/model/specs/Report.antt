@@ -1,5 +1,5 @@
 -- The report on an answer, byte for byte; the exported calls on a file; the program's output.
-use Rattle.std.specs.Prelude.{List, [], ◌++◌, Bool, true, false, cond, ◌≡◌, ℕ, zero, suc, ◌+◌, ◌*◌, ltb, get_or, length, drop}
+use Rattle.std.specs.Prelude.{List, [], ◌++◌, Bool, true, false, cond, ◌≡◌, ℕ, zero, suc, ◌+◌, ◌*◌, ltb, get_or, length, drop, Ok, Err}
 use Rattle.model.specs.Notation.{text, decimal}
 use Rattle.model.specs.Values.{Table, Refusal, Verdict, Outcome, Answer, QuickAnswer, DistanceAnswer, Admission}
 use Rattle.model.specs.Values.{Contents, refusal}
@@ -68,14 +68,14 @@ written report buffer = record { number = length report; buffer = report ++ drop
 
 -- What an outcome is told as: `refuse` of its refusal, or `tell` of the verdict and of what comes with it.
 abbrev pub outcome_told : {A : Type 0} → (Refusal → A) → (ℕ → Bool → Answer → Verdict → A) → ℕ → Bool → Answer → Outcome → A
-outcome_told refuse tell n quick a (Outcome.Refused r) = refuse r
-outcome_told refuse tell n quick a (Outcome.Tested v) = tell n quick a v
+outcome_told refuse tell n quick a (Err r) = refuse r
+outcome_told refuse tell n quick a (Ok v) = tell n quick a v
 
 -- What a file may be told as: the refusal of its form or table, or of a short buffer,
 -- or the outcome of the permitted answer.
 abbrev pub FileTold : {A : Type 0} → (Refusal → A) → (ℕ → Bool → Answer → Verdict → A) → Contents → A → Admission → Type 0
-FileTold refuse tell l x (Admission.Refused r) = x ≡ refuse r
-FileTold refuse tell l x Admission.Admitted =
+FileTold refuse tell l x (Err r) = x ≡ refuse r
+FileTold refuse tell l x (Ok u) =
     (a : Answer) × Permitted l.table l.budget a
     × (x ≡ outcome_told refuse tell l.table.count (quick_pass l.table) a a.outcome)
 
@@ -84,7 +84,7 @@ FileTold refuse tell l x Admission.Admitted =
 abbrev pub CheckedBy : ℕ → (ℕ → Bool → Answer → Verdict → Exported) → List ℕ → List ℕ → Exported → Type 0
 CheckedBy bytes tell file buffer e =
     let admission =
-    cond (ltb (length buffer) bytes) (Admission.Refused (refusal 30 (length buffer)))
+    cond (ltb (length buffer) bytes) (Err (refusal 30 (length buffer)))
     (file_read file).admission in
     FileTold (λ r. refused r buffer) tell (file_read file) e admission
 
@@ -98,8 +98,8 @@ Checked file buffer = CheckedBy report_bytes (report_written buffer) file buffer
 -- The number that an exported call on any file alone returns: the refusal of its form, or what it says of its table.
 abbrev pub file_number : List ℕ → (Table → ℕ) → ℕ
 file_number file tell = elim (form_of file).admission [
-  | Admission.Refused r ↦ refusal_number r
-  | Admission.Admitted ↦ tell (form_of file).table
+  | Err r ↦ refusal_number r
+  | Ok _ ↦ tell (form_of file).table
 ]
 
 -- Of the quick test: 1 for pass, 0 for no answer, or the refusal of the table.

@@ -1,6 +1,6 @@
 -- The room of a table that may have buttons (ours): the largest cost of one task or button with which the distance test still
 -- passes, and the one permitted number for any table and task number.
-use Rattle.std.specs.Prelude.{List, Bool, cond, ℕ, suc, ◌+◌, min, ltb}
+use Rattle.std.specs.Prelude.{List, Bool, cond, ℕ, suc, ◌+◌, min, ltb, Ok, Err}
 use Rattle.model.specs.Notation.{last}
 use Rattle.model.specs.Values.{Table, Judgement, DistanceAnswer, refusal}
 use Rattle.model.specs.Limits.{slot_limit}
@@ -28,8 +28,8 @@ room_told t i DistanceAnswer.NoAnswer = slot_limit + 3
 -- By what the table is judged to be: its refusal; 12 for a number that is none of its tasks', at that number;
 -- or what is told.
 abbrev pub room_judged : Table → ℕ → Judgement → ℕ
-room_judged t i (Judgement.Refused r) = refusal_number r
-room_judged t i (Judgement.WellFormed m) =
+room_judged t i (Err r) = refusal_number r
+room_judged t i (Ok m) =
     cond (ltb i t.count) (room_told t i (distance_answer t)) (refusal_number (refusal 12 i))
 
 unfoldable pub room_answer : Table → ℕ → ℕ

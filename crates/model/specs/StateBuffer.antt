@@ -1,5 +1,5 @@
 -- The dispatcher's state in a lent buffer, and the exported start and step of a camera's own loop.
-use Rattle.std.specs.Prelude.{List, [], ◌∷◌, ◌++◌, cond, not, ℕ, zero, suc, ◌+◌, ◌*◌, min, eqb, length, replicate}
+use Rattle.std.specs.Prelude.{List, [], ◌∷◌, ◌++◌, cond, not, ℕ, zero, suc, ◌+◌, ◌*◌, min, eqb, length, replicate, Ok, Err}
 use Rattle.model.specs.Notation.{fill}
 use Rattle.model.specs.Values.{Table, Admission, Turn, SlotAnswer, refusal}
 use Rattle.model.specs.Limits.{task_limit}
@@ -50,20 +50,20 @@ quiet = record { owner = task_limit; late = 0; closed = 0; lowest = task_limit }
 
 -- A start returns 0, a step the owner of the slot; each writes the whole buffer. A refusal writes nowhere.
 abbrev pub start_written : List ℕ → State → Admission → Exported
-start_written buffer d (Admission.Refused r) = refused r buffer
-start_written buffer d Admission.Admitted = record { number = 0; buffer = buffer_of d quiet }
+start_written buffer d (Err r) = refused r buffer
+start_written buffer d (Ok u) = record { number = 0; buffer = buffer_of d quiet }
 
 abbrev pub step_written : List ℕ → State → SlotAnswer → Exported
-step_written buffer d (SlotAnswer.Refused r) = refused r buffer
-step_written buffer d (SlotAnswer.Slot u) = record { number = u.owner; buffer = buffer_of d u }
+step_written buffer d (Err r) = refused r buffer
+step_written buffer d (Ok u) = record { number = u.owner; buffer = buffer_of d u }
 
 -- The order of the refusals: 50 for a buffer that is not this long, at its length or the largest place;
 -- the file's form; the table; the state.
 abbrev pub on_file : ℕ → List ℕ → List ℕ → (Table → Exported) → Exported
 on_file bytes file buffer go =
-    let unfit = Admission.Refused (refusal 50 (min (length buffer) 65535)) in
+    let unfit = Err (refusal 50 (min (length buffer) 65535)) in
     let admission = cond (eqb (length buffer) bytes) (form_of file).admission unfit in
-    elim admission [ Admission.Refused r ↦ refused r buffer | Admission.Admitted ↦ go (form_of file).table ]
+    elim admission [ Err r ↦ refused r buffer | Ok _ ↦ go (form_of file).table ]
 
 -- The one permitted result of each on any file and any buffer; a done report is any number but 0.
 abbrev pub start_exported : List ℕ → List ℕ → Exported

@@ -1,6 +1,6 @@
 -- The dispatcher and its histories, by computing: the owners of slots, jobs closed late, the refusals of a state with
 -- their places, and the accounts.
-use Rattle.std.specs.Prelude.{◌≡◌, refl, List, [], ◌∷◌, ◌++◌, map, Bool, true, false, ℕ, ◌+◌, ◌-◌, ◌^◌, eqb, replicate}
+use Rattle.std.specs.Prelude.{◌≡◌, refl, List, [], ◌∷◌, ◌++◌, map, Bool, true, false, ℕ, ◌+◌, ◌-◌, ◌^◌, eqb, replicate, Ok, Err}
 use Rattle.std.proofs.Common.{inl, inr, lit≤, lit<}
 use Rattle.model.specs.Values.{Table, Admission, SlotAnswer, refusal}
 use Rattle.model.specs.Notation.{sum, largest, count, first, bits, fill}
@@ -54,11 +54,11 @@ closings = (refl, refl, refl)
 -- A start on a table: the waits are the offsets; a refused start hands back what it was given; a step taken.
 starts :
     (started table_b (start_of table_g)
-    ≡ record { admission = Admission.Admitted; state = uncounted (padded 0 (8 ∷ [])) (padded 0 []) task_limit })
+    ≡ record { admission = Ok tt; state = uncounted (padded 0 (8 ∷ [])) (padded 0 []) task_limit })
     × (started (table_of []) (uncounted (padded 7 []) (padded 0 []) 9)
     ≡ record { admission = at 1 0; state = uncounted (padded 7 []) (padded 0 []) 9 })
     × ((stepped table_g (start_of table_g) false).answer
-    ≡ SlotAnswer.Slot (record { owner = 0; late = 0; closed = 0; lowest = task_limit }))
+    ≡ Ok (record { owner = 0; late = 0; closed = 0; lowest = task_limit }))
 unfolding started start_of stepped_by admitted slot_count turn_by owner_now_by choose fill bits first_strange judged
     judged_mixed first_button first_faulty task_fault first round load horizon largest sum count
 starts = (refl, refl, refl)
@@ -76,7 +76,7 @@ state w0 w1 l0 l1 last = (stepped two (uncounted (padded 7 (w0 ∷ w1 ∷ [])) (
 handed_back :
     let d : State = record { wait = 1 ∷ 2 ∷ []; left = 3 ∷ 4 ∷ []; last = 5; given = 6 ∷ []; empty = 7 } in
     map (λ t. stepped t d true) (table_of [] ∷ two ∷ [])
-    ≡ map (λ r. record { answer = SlotAnswer.Refused r; state = d }) (refusal 1 0 ∷ refusal 8 0 ∷ [])
+    ≡ map (λ r. record { answer = Err r; state = d }) (refusal 1 0 ∷ refusal 8 0 ∷ [])
 unfolding stepped_by admitted slot_count first_strange judged judged_mixed first_button
     first_faulty task_fault first round load horizon largest sum count
 handed_back = refl
@@ -86,10 +86,10 @@ handed_back = refl
 -- an open job that waits less than T - D, or more than T - 1; a last-run number that is no task.
 strangers :
     (state 4 9 0 0 task_limit
-    ≡ SlotAnswer.Slot (record { owner = task_limit; late = 0; closed = 0; lowest = task_limit }))
+    ≡ Ok (record { owner = task_limit; late = 0; closed = 0; lowest = task_limit }))
     × (state 5 0 0 0 task_limit ∷ state 0 10 0 0 task_limit ∷ state 2 0 3 0 task_limit ∷ state 0 0 1 0 task_limit
     ∷ state 4 0 1 0 task_limit ∷ state 0 4 0 1 task_limit ∷ state 0 0 0 0 2 ∷ state 0 0 0 0 (task_limit + 1) ∷ []
-    ≡ map (λ p. SlotAnswer.Refused (refusal 8 p)) (0 ∷ 1 ∷ 0 ∷ 0 ∷ 0 ∷ 1 ∷ task_limit ∷ task_limit ∷ []))
+    ≡ map (λ p. Err (refusal 8 p)) (0 ∷ 1 ∷ 0 ∷ 0 ∷ 0 ∷ 1 ∷ task_limit ∷ task_limit ∷ []))
 unfolding state stepped_by admitted slot_count turn_by owner_now_by choose bits first_strange judged judged_mixed first_button
     first_faulty task_fault first round load horizon largest sum count
 strangers = (refl, refl)
@@ -105,7 +105,7 @@ at_deadline :
       empty = 5;
     }) false
     ≡ record {
-      answer = SlotAnswer.Slot (record { owner = task_limit; late = 1; closed = 1; lowest = 0 });
+      answer = Ok (record { owner = task_limit; late = 1; closed = 1; lowest = 0 });
       state = record {
         wait = padded 7 (0 ∷ 8 ∷ []);
         left = padded 7 (0 ∷ 0 ∷ []);
@@ -136,8 +136,8 @@ accounts :
     counted task_limit (slot_count_limit - 2) 0 1 ∷ counted task_limit (slot_count_limit - 3) 1 2
     ∷ counted task_limit slot_count_limit 0 1 ∷ counted task_limit 1 slot_count_limit slot_count_limit
     ∷ counted 2 slot_count_limit 0 1 ∷ counted 2 slot_count_limit 0 0 ∷ []
-    ≡ SlotAnswer.Slot (record { owner = 0; late = 0; closed = 0; lowest = task_limit })
-    ∷ map SlotAnswer.Refused (refusal 9 0 ∷ refusal 8 sum_place ∷ refusal 8 sum_place
+    ≡ Ok (record { owner = 0; late = 0; closed = 0; lowest = task_limit })
+    ∷ map Err (refusal 9 0 ∷ refusal 8 sum_place ∷ refusal 8 sum_place
     ∷ refusal 8 task_limit ∷ refusal 8 task_limit ∷ [])
 unfolding counted stepped_by admitted slot_count turn_by owner_now_by choose bits first_strange judged judged_mixed first_button
     first_faulty task_fault first round load horizon largest sum count

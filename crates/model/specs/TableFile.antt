@@ -1,5 +1,5 @@
 -- The table file: for any list of bytes the refusal, or the budget and the tasks; and the file of a budget and tasks.
-use Rattle.std.specs.Prelude.{List, [], ◌∷◌, ◌++◌, cond, ◌||◌, ℕ, zero, suc, ◌+◌, ◌-◌, ◌*◌, ◌/◌, ◌%◌, ltb, leb, eqb, get_or, length, replicate}
+use Rattle.std.specs.Prelude.{List, [], ◌∷◌, ◌++◌, cond, ◌||◌, ℕ, zero, suc, ◌+◌, ◌-◌, ◌*◌, ◌/◌, ◌%◌, ltb, leb, eqb, get_or, length, replicate, Ok, Err}
 use Rattle.model.specs.Values.{Sort, Task, Table, Judgement, Admission, Contents, refusal}
 use Rattle.model.specs.Limits.{task_limit, word_limit, budget_bytes, task_bytes, button_bytes}
 use Rattle.model.specs.Tasks.{no_task, judged_mixed, judged}
@@ -42,10 +42,10 @@ abbrev pub table_of : List Task → Table
 table_of ks = record { count = length ks; tasks = ks ++ replicate (task_limit - length ks) no_task }
 
 abbrev pub refuse_file : ℕ → ℕ → Contents
-refuse_file n p = record { admission = Admission.Refused (refusal n p); budget = 0; table = table_of [] }
+refuse_file n p = record { admission = Err (refusal n p); budget = 0; table = table_of [] }
 
 abbrev pub admit : ℕ → List Task → Contents
-admit b ks = record { admission = Admission.Admitted; budget = b; table = table_of ks }
+admit b ks = record { admission = Ok tt; budget = b; table = table_of ks }
 
 -- The record at this place is whole, or else refused by 20.
 abbrev pub whole : List ℕ → ℕ → ℕ → Contents → Contents
@@ -86,12 +86,12 @@ form_of s =
 
 -- The table of a file is judged only after the file's form is good.
 abbrev pub judged_table : Contents → Judgement → Contents
-judged_table l (Judgement.Refused r) = refuse_file r.number r.place
-judged_table l (Judgement.WellFormed m) = l
+judged_table l (Err r) = refuse_file r.number r.place
+judged_table l (Ok m) = l
 
 abbrev pub judged_form : (Table → Judgement) → Contents → Admission → Contents
-judged_form judge l (Admission.Refused r) = l
-judged_form judge l Admission.Admitted = judged_table l (judge l.table)
+judged_form judge l (Err r) = l
+judged_form judge l (Ok u) = judged_table l (judge l.table)
 
 unfoldable pub file_read : List ℕ → Contents
 file_read s = judged_form judged_mixed (form_of s) (form_of s).admission

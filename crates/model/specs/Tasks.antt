@@ -1,5 +1,5 @@
 -- Tasks, their ranges, and well-formed tables.
-use Rattle.std.specs.Prelude.{Bool, true, false, cond, not, ◌&&◌, ℕ, ◌+◌, ◌*◌, ◌/◌, ◌%◌, ◌^◌, leb, ltb, eqb, get_or}
+use Rattle.std.specs.Prelude.{Bool, true, false, cond, not, ◌&&◌, ℕ, ◌+◌, ◌*◌, ◌/◌, ◌%◌, ◌^◌, leb, ltb, eqb, get_or, Ok, Err}
 use Rattle.model.specs.Notation.{sum, largest, every, first}
 use Rattle.model.specs.Values.{Sort, Task, Table, Measure, Judgement, Admission, refusal}
 use Rattle.model.specs.Limits.{task_limit, slot_limit, round_limit}
@@ -74,11 +74,11 @@ measure t = record { round = round t; load = load t; horizon = horizon t }
 -- By a measure: the first of the refusals 1 to 7, or else well-formed, with this measure.
 abbrev pub judged_by : Measure → Table → Judgement
 judged_by m t =
-    cond (eqb t.count 0) (Judgement.Refused (refusal 1 0))
-    (cond (ltb task_limit t.count) (Judgement.Refused (refusal 2 task_limit))
+    cond (eqb t.count 0) (Err (refusal 1 0))
+    (cond (ltb task_limit t.count) (Err (refusal 2 task_limit))
     (cond (ltb (first_faulty t) t.count)
-    (Judgement.Refused (refusal (task_fault (task t (first_faulty t))) (first_faulty t)))
-    (cond (ltb round_limit m.round) (Judgement.Refused (refusal 7 0)) (Judgement.WellFormed m))))
+    (Err (refusal (task_fault (task t (first_faulty t))) (first_faulty t)))
+    (cond (ltb round_limit m.round) (Err (refusal 7 0)) (Ok m))))
 
 -- Any table, of tasks of both sorts, is judged by its own measure.
 unfoldable pub judged_mixed : Table → Judgement
@@ -90,14 +90,14 @@ first_button t = first (λ i. is_button (task t i)) 0 t.count
 
 -- Where only periodic tasks are allowed, a well-formed table with a button is refused by 11 at its first one.
 abbrev pub periodic_only : Table → Judgement → Judgement
-periodic_only t (Judgement.Refused r) = Judgement.Refused r
-periodic_only t (Judgement.WellFormed m) =
-    cond (ltb (first_button t) t.count) (Judgement.Refused (refusal 11 (first_button t))) (Judgement.WellFormed m)
+periodic_only t (Err r) = Err r
+periodic_only t (Ok m) =
+    cond (ltb (first_button t) t.count) (Err (refusal 11 (first_button t))) (Ok m)
 
 unfoldable pub judged : Table → Judgement
 judged t = periodic_only t (judged_mixed t)
 
 -- Whether a judgement admits its table.
 abbrev pub admission_of : Judgement → Admission
-admission_of (Judgement.Refused r) = Admission.Refused r
-admission_of (Judgement.WellFormed m) = Admission.Admitted
+admission_of (Err r) = Err r
+admission_of (Ok m) = Ok tt

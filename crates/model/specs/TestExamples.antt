@@ -1,7 +1,7 @@
 -- The tests, by computing: demand and the verdict, the run, the quick test, the distance test, easing and the largest
 -- cost. `promises/specs/Tables.antt` proves the answers to tables a to j; here stand the slips that look right
 -- (section 11) and what shows a definition.
-use Rattle.std.specs.Prelude.{◌≡◌, refl, [], ◌∷◌, ◌++◌, map, true, false, ◌+◌, ◌-◌, ◌*◌, replicate, pos, negsuc}
+use Rattle.std.specs.Prelude.{◌≡◌, refl, [], ◌∷◌, ◌++◌, map, true, false, ◌+◌, ◌-◌, ◌*◌, replicate, pos, negsuc, Ok, Err}
 use Rattle.std.proofs.Common.{arith, lit<}
 use Rattle.model.specs.Values.{Table, Verdict, Outcome, Easing, refusal, cost_said}
 use Rattle.model.specs.Notation.{sum, largest, count, first, last, bits, fill}
@@ -78,10 +78,10 @@ largest_start = (refl, refl)
 
 -- The permitted answers: overload, late, undecided and a refusal. (`promises/specs/Tables.antt` has those that pass.)
 permitted :
-    Permitted table_i 5 (brief (Outcome.Tested Verdict.Overload) (measured 5 6 12) 0)
-    × Permitted table_f 1 (brief (Outcome.Tested (Verdict.Late 0 1 2)) (measured 2 2 4) 1)
-    × Permitted table_e 4 (brief (Outcome.Tested Verdict.Undecided) (measured 2 2 5) 4)
-    × Permitted (table_of []) 5 (brief (Outcome.Refused (refusal 1 0)) (measured 0 0 0) 0)
+    Permitted table_i 5 (brief (Ok Verdict.Overload) (measured 5 6 12) 0)
+    × Permitted table_f 1 (brief (Ok (Verdict.Late 0 1 2)) (measured 2 2 4) 1)
+    × Permitted table_e 4 (brief (Ok Verdict.Undecided) (measured 2 2 5) 4)
+    × Permitted (table_of []) 5 (brief (Err (refusal 1 0)) (measured 0 0 0) 0)
 unfolding Permitted judged judged_mixed first_button first_faulty task_fault settled_by verdict needed late_start late_at first
     last round load horizon largest sum count demand arrived_in
 permitted = (refl, refl, refl, refl)

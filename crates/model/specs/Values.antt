@@ -1,14 +1,12 @@
 -- The values of crate `values` by their names, and each case of an answer as a list:
 -- the specification's number first (0 where nothing is refused), then its values.
-use Rattle.std.specs.Prelude.{List, [], ◌∷◌, ℕ}
+use Rattle.std.specs.Prelude.{List, [], ◌∷◌, ℕ, Result, Ok, Err, ⊤}
 pub use Rattle.values.specs.declared.Sort.{Sort}
 pub use Rattle.values.specs.declared.Task.{Task}
 pub use Rattle.values.specs.declared.Table.{Table}
 pub use Rattle.values.specs.declared.Refusal.{Refusal}
 pub use Rattle.values.specs.declared.Measure.{Measure}
-pub use Rattle.values.specs.declared.Judgement.{Judgement}
 pub use Rattle.values.specs.declared.Verdict.{Verdict}
-pub use Rattle.values.specs.declared.Outcome.{Outcome}
 pub use Rattle.values.specs.declared.LargestCost.{LargestCost}
 pub use Rattle.values.specs.declared.Change.{Change}
 pub use Rattle.values.specs.declared.Fit.{Fit}
@@ -17,14 +15,27 @@ pub use Rattle.values.specs.declared.AnswerNumbers.{AnswerNumbers}
 pub use Rattle.values.specs.declared.QuickAnswer.{QuickAnswer}
 pub use Rattle.values.specs.declared.DistanceAnswer.{DistanceAnswer}
 pub use Rattle.values.specs.declared.Easing.{Easing}
-pub use Rattle.values.specs.declared.Admission.{Admission}
 pub use Rattle.values.specs.declared.Contents.{Contents}
-pub use Rattle.values.specs.declared.Writing.{Writing}
 pub use Rattle.values.specs.declared.Line.{Line}
 pub use Rattle.values.specs.declared.State.{State}
 pub use Rattle.values.specs.declared.Turn.{Turn}
-pub use Rattle.values.specs.declared.SlotAnswer.{SlotAnswer}
 pub use Rattle.values.specs.declared.Finding.{Finding}
+
+-- The answers that may be a refusal: of a table's judge, of the exact test, of a file or a start, of a writer, of a step.
+abbrev pub Judgement : Type 0
+Judgement = Result Measure Refusal
+
+abbrev pub Outcome : Type 0
+Outcome = Result Verdict Refusal
+
+abbrev pub Admission : Type 0
+Admission = Result ⊤ Refusal
+
+abbrev pub Writing : Type 0
+Writing = Result ℕ Refusal
+
+abbrev pub SlotAnswer : Type 0
+SlotAnswer = Result Turn Refusal
 
 -- A verdict: its number in the order in which they are said, and the slots that are settled; then the interval and demand
 -- of a late one, or of one that passes the first idle instant and the worst responses.
@@ -43,26 +54,26 @@ refusal_said r = r.number ∷ r.place ∷ []
 
 -- The whole answer of the test: a refusal, or 0 and a verdict.
 abbrev pub outcome_said : Outcome → ℕ → ℕ → List ℕ → List ℕ
-outcome_said (Outcome.Refused r) settled idle worst = refusal_said r
-outcome_said (Outcome.Tested v) settled idle worst = 0 ∷ verdict_said v settled idle worst
+outcome_said (Err r) settled idle worst = refusal_said r
+outcome_said (Ok v) settled idle worst = 0 ∷ verdict_said v settled idle worst
 
 abbrev pub answer_said : Answer → List ℕ
 answer_said a = outcome_said a.outcome a.settled a.idle a.worst
 
 -- Of a table's judge: a refusal, or 0 with H, load and horizon.
 abbrev pub judgement_said : Judgement → List ℕ
-judgement_said (Judgement.Refused r) = refusal_said r
-judgement_said (Judgement.WellFormed m) = 0 ∷ m.round ∷ m.load ∷ m.horizon ∷ []
+judgement_said (Err r) = refusal_said r
+judgement_said (Ok m) = 0 ∷ m.round ∷ m.load ∷ m.horizon ∷ []
 
 -- Of a file or a start: a refusal, or 0. Of a writer: a refusal, or 0 with the bytes written.
 -- Of a step: a refusal, or 0 with the owner, the late set, its count and its lowest task.
 abbrev pub admission_said : Admission → List ℕ
-admission_said (Admission.Refused r) = refusal_said r
-admission_said Admission.Admitted = 0 ∷ []
+admission_said (Err r) = refusal_said r
+admission_said (Ok u) = 0 ∷ []
 
 abbrev pub writing_said : Writing → List ℕ
-writing_said (Writing.Refused r) = refusal_said r
-writing_said (Writing.Bytes n) = 0 ∷ n ∷ []
+writing_said (Err r) = refusal_said r
+writing_said (Ok n) = 0 ∷ n ∷ []
 
 -- Of the quick test: a refusal, or 0 with 1 for pass, 0 with 0 for no answer.
 abbrev pub quick_said : QuickAnswer → List ℕ
@@ -78,8 +89,8 @@ distance_said DistanceAnswer.Pass = 0 ∷ 1 ∷ []
 distance_said DistanceAnswer.NoAnswer = 0 ∷ 0 ∷ []
 
 abbrev pub slot_said : SlotAnswer → List ℕ
-slot_said (SlotAnswer.Refused r) = refusal_said r
-slot_said (SlotAnswer.Slot s) = 0 ∷ s.owner ∷ s.late ∷ s.closed ∷ s.lowest ∷ []
+slot_said (Err r) = refusal_said r
+slot_said (Ok s) = 0 ∷ s.owner ∷ s.late ∷ s.closed ∷ s.lowest ∷ []
 
 -- Of the largest cost: a refusal, of two entries; the verdict's number alone,
 -- where the table does not pass; or 0 with that cost.

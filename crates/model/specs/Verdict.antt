@@ -1,5 +1,5 @@
 -- The verdict, and the one permitted answer to a table and a budget.
-use Rattle.std.specs.Prelude.{◌≡◌, List, cond, ℕ, ◌≤◌, ◌<◌, ltb, get_or, length, replicate}
+use Rattle.std.specs.Prelude.{◌≡◌, List, cond, ℕ, ◌≤◌, ◌<◌, ltb, get_or, length, replicate, Ok, Err}
 use Rattle.model.specs.Notation.{first, last}
 use Rattle.model.specs.Values.{Table, Measure, Judgement, Verdict, Outcome, Answer}
 use Rattle.model.specs.Limits.{task_limit}
@@ -43,22 +43,22 @@ brief o m settled = record { outcome = o; measure = m; settled = settled; worst 
 abbrev pub Answers : Table → ℕ → Measure → Answer → Verdict → Type 0
 Answers t budget m a Verdict.Passes =
     (w : List ℕ) × Worsts t w × (a ≡ record {
-      outcome = Outcome.Tested Verdict.Passes;
+      outcome = Ok Verdict.Passes;
       measure = m;
       settled = settled_by t budget;
       worst = w;
       idle = first_idle t (tie_order t);
     })
-Answers t budget m a Verdict.Overload = a ≡ brief (Outcome.Tested Verdict.Overload) m (settled_by t budget)
+Answers t budget m a Verdict.Overload = a ≡ brief (Ok Verdict.Overload) m (settled_by t budget)
 Answers t budget m a (Verdict.Late from to asked) =
-    a ≡ brief (Outcome.Tested (Verdict.Late from to asked)) m (settled_by t budget)
-Answers t budget m a Verdict.Undecided = a ≡ brief (Outcome.Tested Verdict.Undecided) m (settled_by t budget)
+    a ≡ brief (Ok (Verdict.Late from to asked)) m (settled_by t budget)
+Answers t budget m a Verdict.Undecided = a ≡ brief (Ok Verdict.Undecided) m (settled_by t budget)
 
 -- The permitted answer, by what the table is judged to be.
 abbrev pub PermittedBy : Table → ℕ → Answer → Judgement → Type 0
-PermittedBy t budget a (Judgement.Refused r) =
-    a ≡ brief (Outcome.Refused r) (record { round = 0; load = 0; horizon = 0 }) 0
-PermittedBy t budget a (Judgement.WellFormed m) = Answers t budget m a (verdict t budget)
+PermittedBy t budget a (Err r) =
+    a ≡ brief (Err r) (record { round = 0; load = 0; horizon = 0 }) 0
+PermittedBy t budget a (Ok m) = Answers t budget m a (verdict t budget)
 
 -- The one permitted answer to any table and budget, refusals included.
 unfoldable pub Permitted : Table → ℕ → Answer → Type 0

@@ -1,5 +1,5 @@
 -- The writer: a table and a budget as a table file in a lent buffer, and the exported call.
-use Rattle.std.specs.Prelude.{List, ◌++◌, Bool, cond, not, ◌&&◌, ◌||◌, ℕ, ◌+◌, ◌*◌, ◌/◌, ◌%◌, min, ltb, eqb, get_or, length, replicate, take, drop}
+use Rattle.std.specs.Prelude.{List, ◌++◌, Bool, cond, not, ◌&&◌, ◌||◌, ℕ, ◌+◌, ◌*◌, ◌/◌, ◌%◌, min, ltb, eqb, get_or, length, replicate, take, drop, Ok, Err}
 use Rattle.model.specs.Notation.{first, fill}
 use Rattle.model.specs.Values.{Sort, Task, Table, Judgement, Writing, refusal}
 use Rattle.model.specs.Limits.{task_limit}
@@ -14,14 +14,14 @@ pub record Filled : Type 0 where
 
 -- A refusal writes nowhere.
 abbrev pub unwritten : ℕ → ℕ → List ℕ → Filled
-unwritten n p buffer = record { said = Writing.Refused (refusal n p); buffer = buffer }
+unwritten n p buffer = record { said = Err (refusal n p); buffer = buffer }
 
 -- Bytes are written at the front of the buffer, and their number told; those behind them stay as found.
 -- A shorter buffer is refused by 31 at its length.
 abbrev pub fitted : List ℕ → List ℕ → Filled
 fitted bytes buffer =
     cond (ltb (length buffer) (length bytes)) (unwritten 31 (length buffer) buffer)
-    (record { said = Writing.Bytes (length bytes); buffer = bytes ++ drop (length bytes) buffer })
+    (record { said = Ok (length bytes); buffer = bytes ++ drop (length bytes) buffer })
 
 -- The tasks of a table, in their order.
 abbrev pub tasks_of : Table → List Task
@@ -33,8 +33,8 @@ budgeted budget bytes buffer = cond (eqb budget 0) (unwritten 27 0 buffer) (fitt
 
 -- The bytes of a table and a budget are written after the table's own refusals.
 abbrev pub written_by : ℕ → List ℕ → List ℕ → Judgement → Filled
-written_by budget bytes buffer (Judgement.Refused r) = unwritten r.number r.place buffer
-written_by budget bytes buffer (Judgement.WellFormed m) = budgeted budget bytes buffer
+written_by budget bytes buffer (Err r) = unwritten r.number r.place buffer
+written_by budget bytes buffer (Ok m) = budgeted budget bytes buffer
 
 -- The one permitted result of the writer on any table, budget and buffer.
 unfoldable pub file_written : Table → ℕ → List ℕ → Filled
@@ -78,8 +78,8 @@ table_in words =
 
 -- What C is told of a writer.
 abbrev pub fill_told : List ℕ → Writing → Exported
-fill_told buffer (Writing.Refused r) = refused r buffer
-fill_told buffer (Writing.Bytes n) = record { number = n; buffer = buffer }
+fill_told buffer (Err r) = refused r buffer
+fill_told buffer (Ok n) = record { number = n; buffer = buffer }
 
 -- The one permitted result of the exported call. The form of the words comes before the table: 51 where they do not
 -- make whole rows, at their number, then 52 at the first row that is no task; a place is at most 65,535.

@@ -1,12 +1,11 @@
 -- THE ROOM OF A TABLE (`room_is`): a cost with which the distance test passes, while it does not with the next one, is the largest.
-use Rattle.std.specs.Prelude.{◌≡◌, Bool, cond, ℕ, suc, ◌≤◌, ◌<◌}
+use Rattle.std.specs.Prelude.{◌≡◌, Bool, cond, ℕ, suc, ◌≤◌, ◌<◌, Ok}
 use Rattle.std.proofs.Math.Path.{refl}
 use Rattle.std.proofs.Math.Bool.{true, false}
 use Rattle.std.proofs.Common.{arith}
 use Rattle.std.proofs.Math.Dec.{T}
 use Rattle.values.specs.declared.Table.{Table}
 use Rattle.values.specs.declared.Measure.{Measure}
-use Rattle.values.specs.declared.Judgement.{Judgement}
 use Rattle.values.specs.declared.DistanceAnswer.{DistanceAnswer}
 use Rattle.model.specs.Tasks.{task, judged_mixed}
 use Rattle.model.specs.Patterns.{light, distance_pass, distance_answer}
@@ -21,7 +20,7 @@ use Rattle.patterns.proofs.DistancePass.{distance_light, distance_case}
 use Rattle.patterns.proofs.CostsFall.{lowered_distance}
 use Rattle.patterns.specs.Room.{is_passed}
 
-module _ (t : Table) (m : Measure) (well : judged_mixed t ≡ Judgement.WellFormed m) (i : ℕ) (l : i < t.count) where
+module _ (t : Table) (m : Measure) (well : judged_mixed t ≡ Ok m) (i : ℕ) (l : i < t.count) where
   ranged : Ranged t
   ranged = ((mixed_iff t m).0 well).0
 

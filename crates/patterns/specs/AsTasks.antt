@@ -1,12 +1,11 @@
 -- BUTTONS AS TASKS (`as_good`): a schedule is good for a table with every button pressed at 0 and every spacing after exactly if it is good for the table
 -- in which each button is a periodic task of offset 0.
-use Rattle.std.specs.Prelude.{◌≡◌, refl, ◌↔◌, List, [], ◌∷◌, map, ℕ, zero, suc, ◌+◌, ◌≤◌, ◌<◌, get_or}
+use Rattle.std.specs.Prelude.{◌≡◌, refl, ◌↔◌, List, [], ◌∷◌, map, ℕ, zero, suc, ◌+◌, ◌≤◌, ◌<◌, get_or, Ok}
 use Rattle.std.proofs.Common.{sym, ap}
 use Rattle.std.proofs.Math.Path.{subst}
 use Rattle.values.specs.declared.Task.{Task}
 use Rattle.values.specs.declared.Table.{Table}
 use Rattle.values.specs.declared.Measure.{Measure}
-use Rattle.values.specs.declared.Judgement.{Judgement}
 use Rattle.model.specs.Notation.{count}
 use Rattle.model.specs.Tasks.{no_task, task, round, measure, judged_mixed, judged}
 use Rattle.model.specs.Demand.{releases}
@@ -65,7 +64,7 @@ module _ (t : Table) where
     )
 
   -- It is well-formed exactly where the table of both sorts is.
-  pub as_well : (m : Measure) → judged_mixed t ≡ Judgement.WellFormed m → judged (as_tasks t) ≡ Judgement.WellFormed (measure (as_tasks t))
+  pub as_well : (m : Measure) → judged_mixed t ≡ Ok m → judged (as_tasks t) ≡ Ok (measure (as_tasks t))
   as_well m well =
       let (r, short, same) = (mixed_iff t m).0 well in
       let round_is : round (as_tasks t) ≡ round t = round_same t (as_tasks t) r (as_ranged r) refl (λ i l. ap (λ (k : Task). k.period) (task_as i)) in

@@ -1,13 +1,10 @@
 -- NO STEP IS REFUSED, UNDER PRESSES (`never_refused`): from a start on a well-formed table of both sorts every step that can still be counted is
 -- taken, and gives the next state.
-use Rattle.std.specs.Prelude.{◌≡◌, Bool, ℕ, suc, ◌≤◌, ◌<◌}
+use Rattle.std.specs.Prelude.{◌≡◌, Bool, ℕ, suc, ◌≤◌, ◌<◌, Ok}
 use Rattle.std.proofs.Common.{arith}
 use borrow.Author.Tests.{eq-eqb, ne_eqb}
 use Rattle.values.specs.declared.Table.{Table}
 use Rattle.values.specs.declared.Measure.{Measure}
-use Rattle.values.specs.declared.Judgement.{Judgement}
-use Rattle.values.specs.declared.Admission.{Admission}
-use Rattle.values.specs.declared.SlotAnswer.{SlotAnswer}
 use Rattle.model.specs.Values.{refusal}
 use Rattle.model.specs.Limits.{slot_count_limit}
 use Rattle.model.specs.Tasks.{judged_mixed}
@@ -18,8 +15,8 @@ use Rattle.wellformed.specs.Admitted.{admitted_by_iff}
 use Rattle.patterns.specs.TakenArrivals.{belongs_under}
 use Rattle.patterns.specs.PressAccounts.{slots_are}
 
-module _ (t : Table) (m : Measure) (well : judged_mixed t ≡ Judgement.WellFormed m) (done : ℕ → Bool) (pressed : ℕ → ℕ) (n : ℕ) where
-  pub history_admitted : n ≤ slot_count_limit → admitted_mixed t (state_under t done pressed n) ≡ Admission.Admitted
+module _ (t : Table) (m : Measure) (well : judged_mixed t ≡ Ok m) (done : ℕ → Bool) (pressed : ℕ → ℕ) (n : ℕ) where
+  pub history_admitted : n ≤ slot_count_limit → admitted_mixed t (state_under t done pressed n) ≡ Ok tt
   unfolding admitted_mixed
   history_admitted h =
       let r = (well_mixed t m well).ranged in
@@ -29,7 +26,7 @@ module _ (t : Table) (m : Measure) (well : judged_mixed t ≡ Judgement.WellForm
 
   pub never_refused : n < slot_count_limit → stepped_pressed t (state_under t done pressed n) (done n) (pressed n)
       ≡ record {
-        answer = SlotAnswer.Slot (turn_under t done pressed n);
+        answer = Ok (turn_under t done pressed n);
         untaken = not_taken t (state_under t done pressed n) (pressed n);
         state = state_under t done pressed (suc n);
       }

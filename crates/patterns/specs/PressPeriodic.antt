@@ -1,15 +1,12 @@
 -- WITHOUT BUTTONS (`states_same`): on a table that has none the dispatcher that is told of presses does what document 01's does, step by step.
-use Rattle.std.specs.Prelude.{◌≡◌, Bool, cond}
+use Rattle.std.specs.Prelude.{◌≡◌, Bool, cond, Ok, Err}
 use Rattle.std.proofs.Math.Path.{refl, ap}
 use Rattle.std.proofs.Common.{◌∙◌}
 use Rattle.std.proofs.Math.Bool.{true, false}
 use Prim.Native.Nat.{ℕ, zero, suc, ◌<◌}
 use Rattle.std.proofs.Math.Dec.{eqb}
 use Rattle.values.specs.declared.Table.{Table}
-use Rattle.values.specs.declared.Judgement.{Judgement}
-use Rattle.values.specs.declared.Admission.{Admission}
-use Rattle.values.specs.declared.SlotAnswer.{SlotAnswer}
-use Rattle.model.specs.Values.{refusal}
+use Rattle.model.specs.Values.{refusal, Judgement, Admission}
 use Rattle.model.specs.Limits.{slot_count_limit}
 use Rattle.model.specs.Tasks.{judged_mixed}
 use Rattle.model.specs.Run.{tie_order}
@@ -58,16 +55,16 @@ module _ (t : Table) (none : Buttonless t) where
 
     taken_same : Ranged t → (a : Admission) → Same a
     unfolding turn_by
-    taken_same r (Admission.Refused q) = (refl, refl)
-    taken_same r Admission.Admitted = go (eqb (slot_count t d) slot_count_limit)
+    taken_same r (Err q) = (refl, refl)
+    taken_same r (Ok u) = go (eqb (slot_count t d) slot_count_limit)
       where
         go : (full : Bool)
             → ((cond full (refuse_pressed (refusal 9 0) d pressed) (press_taken t d done pressed)).answer
-            ≡ (cond full (refuse_step (refusal 9 0) d) (record { answer = SlotAnswer.Slot (turn t d done); state = after t d done })).answer)
+            ≡ (cond full (refuse_step (refusal 9 0) d) (record { answer = Ok (turn t d done); state = after t d done })).answer)
             × ((cond full (refuse_pressed (refusal 9 0) d pressed) (press_taken t d done pressed)).state
-            ≡ (cond full (refuse_step (refusal 9 0) d) (record { answer = SlotAnswer.Slot (turn t d done); state = after t d done })).state)
+            ≡ (cond full (refuse_step (refusal 9 0) d) (record { answer = Ok (turn t d done); state = after t d done })).state)
         go true = (refl, refl)
-        go false = (ap (λ (o : ℕ). SlotAnswer.Slot (slot_told t d done o)) (owner_is r d done pressed), after_is r d done pressed)
+        go false = (ap (λ (o : ℕ). Ok (slot_told t d done o)) (owner_is r d done pressed), after_is r d done pressed)
 
     pub step_same : ((stepped_pressed t d done pressed).answer ≡ (stepped t d done).answer) ×
         ((stepped_pressed t d done pressed).state ≡ (stepped t d done).state)
@@ -75,5 +72,5 @@ module _ (t : Table) (none : Buttonless t) where
     step_same = rw (judged_same t none) (judging (judged_mixed t) refl)
       where
         judging : (j : Judgement) → judged_mixed t ≡ j → Same (admitted_by t d j)
-        judging (Judgement.Refused r) w = (refl, refl)
-        judging (Judgement.WellFormed m) w = taken_same (well_mixed t m w).ranged (admitted_by t d (Judgement.WellFormed m))
+        judging (Err r) w = (refl, refl)
+        judging (Ok m) w = taken_same (well_mixed t m w).ranged (admitted_by t d (Ok m))

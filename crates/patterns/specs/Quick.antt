@@ -1,9 +1,9 @@
 -- QUICK PASS (`quick_passes`): it means that the exact test passes the table, with any budget that reaches the horizon.
-use Rattle.std.specs.Prelude.{◌≡◌, refl, ◌↔◌, Bool, true, false, cond, ℕ, ◌≤◌, T}
+use Rattle.model.specs.Values.{Judgement}
+use Rattle.std.specs.Prelude.{◌≡◌, refl, ◌↔◌, Bool, true, false, cond, ℕ, ◌≤◌, T, Ok, Err}
 use Rattle.std.proofs.Common.{le_refl, arith}
 use Rattle.values.specs.declared.Table.{Table}
 use Rattle.values.specs.declared.Measure.{Measure}
-use Rattle.values.specs.declared.Judgement.{Judgement}
 use Rattle.values.specs.declared.Verdict.{Verdict}
 use Rattle.values.specs.declared.QuickAnswer.{QuickAnswer}
 use Rattle.model.specs.Tasks.{task, release, round, load, horizon}
@@ -21,9 +21,9 @@ use Rattle.patterns.specs.Starting.{starting_round, starting_load, starting_rang
 use Rattle.patterns.specs.Calm.{calm_iff, calm_never}
 
 -- By the cases of the table and of the test: an answer of pass is a pass of a well-formed table.
-pub quick_case : (t : Table) (j : Judgement) → quick_judged t j ≡ QuickAnswer.Pass → ((m : Measure) × (j ≡ Judgement.WellFormed m)) × T (quick_pass t)
-quick_case t (Judgement.Refused r) e = let z : ◌≡◌ {A = ℕ} 0 1 = cc in absurd (omega arith)
-quick_case t (Judgement.WellFormed m) e = ((m, refl), go (quick_pass t) e)
+pub quick_case : (t : Table) (j : Judgement) → quick_judged t j ≡ QuickAnswer.Pass → ((m : Measure) × (j ≡ Ok m)) × T (quick_pass t)
+quick_case t (Err r) e = let z : ◌≡◌ {A = ℕ} 0 1 = cc in absurd (omega arith)
+quick_case t (Ok m) e = ((m, refl), go (quick_pass t) e)
   where
     go : (b : Bool) → cond b QuickAnswer.Pass QuickAnswer.NoAnswer ≡ QuickAnswer.Pass → T b
     go true e = tt

@@ -1,6 +1,6 @@
 -- OTHER OFFSETS (`starting_mixed`): a well-formed table with all its tasks periodic, from offsets on that keep their range, is well-formed,
 -- with the same H and load.
-use Rattle.std.specs.Prelude.{◌≡◌, ◌&&◌, ℕ, ◌*◌, ◌/◌, ◌%◌, ◌^◌, ◌≤◌, ◌<◌}
+use Rattle.std.specs.Prelude.{◌≡◌, ◌&&◌, ℕ, ◌*◌, ◌/◌, ◌%◌, ◌^◌, ◌≤◌, ◌<◌, Ok}
 use Rattle.std.proofs.Math.Path.{refl, ap, ap₂}
 use Rattle.std.proofs.Common.{◌∙◌, arith}
 use Rattle.std.proofs.Math.Dec.{ltb, eqb}
@@ -8,7 +8,6 @@ use Rattle.values.specs.declared.Sort.{Sort}
 use Rattle.values.specs.declared.Task.{Task}
 use Rattle.values.specs.declared.Table.{Table}
 use Rattle.values.specs.declared.Measure.{Measure}
-use Rattle.values.specs.declared.Judgement.{Judgement}
 use Rattle.model.specs.Limits.{slot_limit}
 use Rattle.model.specs.Tasks.{no_task, task, round, load, horizon, judged_mixed, common_multiple}
 use Rattle.model.specs.Patterns.{starting_at}
@@ -64,8 +63,8 @@ module _ (t : Table) (r : Ranged t) (start : ℕ → ℕ) where
         }
 
 -- So it is well-formed.
-pub starting_mixed : (t : Table) (m : Measure) (start : ℕ → ℕ) → judged_mixed t ≡ Judgement.WellFormed m → ((i : ℕ) → i < t.count → start i ≤ slot_limit)
-    → judged_mixed (starting_at t start) ≡ Judgement.WellFormed (record { round = m.round; load = m.load; horizon = horizon (starting_at t start) })
+pub starting_mixed : (t : Table) (m : Measure) (start : ℕ → ℕ) → judged_mixed t ≡ Ok m → ((i : ℕ) → i < t.count → start i ≤ slot_limit)
+    → judged_mixed (starting_at t start) ≡ Ok (record { round = m.round; load = m.load; horizon = horizon (starting_at t start) })
 starting_mixed t m start e low =
     let (r, h, same) = (mixed_iff t m).0 e in
     (mixed_iff (starting_at t start) _).1 (

@@ -1,8 +1,7 @@
 // The plain engine of the exact test: a walk slot by slot, and at the first late deadline a search for the largest start.
 #![tactic(auto)]
 
-ghost use Rattle.std.specs.Prelude.{◌≡◌, ◌≤◌, max};
-ghost use Rattle.values.specs.declared.Judgement.{Judgement};
+ghost use Rattle.std.specs.Prelude.{◌≡◌, ◌≤◌, max, Ok};
 ghost use Rattle.model.specs.Limits.{task_limit};
 ghost use Rattle.model.specs.Tasks.{judged};
 ghost use Rattle.walks.specs.Course.{Ends};
@@ -44,7 +43,7 @@ fn first_idle(idle: u64, left: &Numbers, n: usize, at: u64) -> u64
 // Slot by slot to the end, or to the first late deadline: there, downwards, to the largest start that asks too much. At the end
 // one slot more is begun, to see whether a job is late there.
 pub fn walk(t: Table, m: Measure, budget: u64) -> Course
-    requires t_value { judged t ≡ Judgement.WellFormed m }
+    requires t_value { judged t ≡ Ok m }
     requires load_le_round { m.load ≤ m.round }
     ensures { Ends t m budget result }
 {

@@ -1,5 +1,5 @@
 -- The lines of a text: what a line says, and reading on from line to line.
-use Rattle.std.specs.Prelude.{◌≡◌, refl, ◌≢◌, Bool, true, false, cond, ℕ, zero, suc, ◌+◌, min, ◌≤◌, ◌<◌, leb, ltb, eqb, length, get_or, take, drop}
+use Rattle.std.specs.Prelude.{◌≡◌, refl, ◌≢◌, Bool, true, false, cond, ℕ, zero, suc, ◌+◌, min, ◌≤◌, ◌<◌, leb, ltb, eqb, length, get_or, take, drop, Ok}
 use Rattle.std.proofs.Math.Path.{sym, ap}
 use Rattle.std.proofs.Common.{◌∙◌, arith, length-take-le, take-take, take_all}
 use mathlib.Core.List.{List, [], ◌∷◌, ◌++◌}
@@ -9,7 +9,6 @@ use Rattle.values.specs.declared.Sort.{Sort}
 use Rattle.values.specs.declared.Task.{Task}
 use Rattle.values.specs.declared.Table.{Table}
 use Rattle.values.specs.declared.Line.{Line}
-use Rattle.values.specs.declared.Admission.{Admission}
 use Rattle.model.specs.Limits.{task_limit, word_limit, budget_limit}
 use Rattle.model.specs.Notation.{text}
 use Rattle.model.specs.TableFile.{table_of, refuse_file}
@@ -184,6 +183,6 @@ module _ {s : List ℕ} {given : Bool} {b : ℕ} {t : Table} {line : ℕ} (left 
 
 -- The text ends.
 pub text_ends : {s : List ℕ} {given : Bool} {b : ℕ} {t : Table} {line : ℕ} → Reached s given b t line []
-    → record { admission = Admission.Admitted; budget = b; table = t } ≡ text_form s
+    → record { admission = Ok tt; budget = b; table = t } ≡ text_form s
 unfolding read_lines
 text_ends r = rw r.table r.same

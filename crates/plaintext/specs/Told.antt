@@ -1,16 +1,14 @@
 -- What the calls on texts tell: a file or a text that is short enough, or a refusal that C can tell and that changes no byte.
-use Rattle.std.specs.Prelude.{◌≡◌, refl, Bool, true, false, cond, List, [], ◌∷◌, ◌++◌, ℕ, zero, suc, ◌*◌, ◌≤◌, ◌<◌, leb, ltb, eqb, length, get_or}
+use Rattle.std.specs.Prelude.{◌≡◌, refl, Bool, true, false, cond, List, [], ◌∷◌, ◌++◌, ℕ, zero, suc, ◌*◌, ◌≤◌, ◌<◌, leb, ltb, eqb, length, get_or, Ok, Err}
 use Rattle.std.proofs.Common.{sym, ap, ◌∙◌, inr, arith, lit<, length-append, length-take-le, get_or-take}
 use Rattle.values.specs.declared.Task.{Task}
 use Rattle.values.specs.declared.Table.{Table}
 use Rattle.values.specs.declared.Line.{Line}
 use Rattle.values.specs.declared.Refusal.{Refusal}
-use Rattle.values.specs.declared.Judgement.{Judgement}
-use Rattle.values.specs.declared.Admission.{Admission}
 use Rattle.values.specs.declared.Contents.{Contents}
 use Rattle.model.specs.Notation.{text}
 use Rattle.model.specs.Limits.{task_limit, word_limit, budget_limit, longest_file, longest_text}
-use Rattle.model.specs.Values.{refusal_said, writing_said, admission_said}
+use Rattle.model.specs.Values.{refusal_said, writing_said, admission_said, Judgement, Admission}
 use Rattle.model.specs.Tasks.{no_task, judged_mixed}
 use Rattle.model.specs.TableFile.{file_of, judged_table, judged_form, form_of, file_read}
 use Rattle.model.specs.Writer.{Filled, tasks_of, written_by, file_written, fill_told}
@@ -93,10 +91,10 @@ text_short t b limit r =
 
 -- The form comes first; what is written of a good one may use that it is good.
 form_apart : (most : ℕ) (buffer bytes : List ℕ) (go : Filled) (a : Admission) → AdmissionTellable a
-    → (a ≡ Admission.Admitted → Apart most buffer bytes (fill_told go.buffer go.said))
+    → (a ≡ Ok tt → Apart most buffer bytes (fill_told go.buffer go.said))
     → let f = form_written buffer go a in Apart most buffer bytes (fill_told f.buffer f.said)
-form_apart most buffer bytes go (Admission.Refused r) n h = inr (r, refl, n)
-form_apart most buffer bytes go Admission.Admitted n h = h refl
+form_apart most buffer bytes go (Err r) n h = inr (r, refl, n)
+form_apart most buffer bytes go (Ok u) n h = h refl
 
 pub from_text_apart : (s buffer : List ℕ) → let l = text_form s in Apart longest_file buffer (file_of l.budget (tasks_of l.table)) (from_text_exported s buffer)
 from_text_apart s buffer =
@@ -114,17 +112,17 @@ to_text_apart file buffer bytes =
     (text_short l.table l.budget (read_written file bytes good).1))
 
 -- A file that is refused when it is read is refused in the same way when its text is to be written.
-pub refused_to_text : (file buffer : List ℕ) (r : Refusal) → (file_read file).admission ≡ Admission.Refused r
+pub refused_to_text : (file buffer : List ℕ) (r : Refusal) → (file_read file).admission ≡ Err r
     → let f = to_text file buffer in (writing_said f.said ≡ refusal_said r) × (f.buffer ≡ buffer)
 unfolding file_read text_written
 refused_to_text file buffer r = go (form_of file) (form_of file).admission refl
   where
-    go : (l : Contents) (a : Admission) → l.admission ≡ a → (judged_form judged_mixed l a).admission ≡ Admission.Refused r
+    go : (l : Contents) (a : Admission) → l.admission ≡ a → (judged_form judged_mixed l a).admission ≡ Err r
         → let f = form_written buffer (text_written l.table l.budget buffer) a in (writing_said f.said ≡ refusal_said r) × (f.buffer ≡ buffer)
-    go l (Admission.Refused q) e h = (ap admission_said (sym e ∙ h), refl)
-    go l Admission.Admitted e h = by_table (judged_mixed l.table) h
+    go l (Err q) e h = (ap admission_said (sym e ∙ h), refl)
+    go l (Ok u) e h = by_table (judged_mixed l.table) h
       where
-        by_table : (j : Judgement) → (judged_table l j).admission ≡ Admission.Refused r
+        by_table : (j : Judgement) → (judged_table l j).admission ≡ Err r
             → let f = written_by l.budget (text_of l.budget (tasks_of l.table)) buffer j in (writing_said f.said ≡ refusal_said r) × (f.buffer ≡ buffer)
-        by_table (Judgement.Refused q) h = (ap admission_said h, refl)
-        by_table (Judgement.WellFormed m) h = let z : ◌≡◌ {A = ℕ} 0 1 = cc in absurd (omega arith)
+        by_table (Err q) h = (ap admission_said h, refl)
+        by_table (Ok m) h = let z : ◌≡◌ {A = ℕ} 0 1 = cc in absurd (omega arith)

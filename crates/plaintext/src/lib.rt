@@ -327,7 +327,7 @@ pub fn form_of(text: &[u8]) -> Contents
         }
         if end == left.len() {
             return Contents {
-                admission: Admission::Admitted,
+                admission: Ok(()),
                 budget,
                 table,
             };
@@ -341,8 +341,8 @@ pub fn write(table: Table, budget: u64, buffer: &mut [u8]) -> Writing
     ensures { filled result buffer.new ≡ text_written table budget buffer.old }
 {
     match table::judge_mixed(table) {
-        Judgement::Refused(why) => Writing::Refused(why),
-        Judgement::WellFormed(_) => write_text(table, budget, buffer),
+        Err(why) => Err(why),
+        Ok(_) => write_text(table, budget, buffer),
     }
 }
 
@@ -366,7 +366,7 @@ fn copy_text(buffer: &mut [u8], made: &[u8]) -> Writing
     if buffer.len() < made.len() {
         return writer::short_buffer(buffer.len());
     }
-    Writing::Bytes(text::put_text(buffer, 0, made))
+    Ok(text::put_text(buffer, 0, made))
 }
 
 fn put_text(buffer: &mut [u8], budget: u64, table: Table) -> usize
@@ -426,8 +426,8 @@ pub fn file_of(text: &[u8], buffer: &mut [u8]) -> Writing
     let form = form_of(text);
     let admission = form.admission;
     match admission {
-        Admission::Refused(why) => Writing::Refused(why),
-        Admission::Admitted => {
+        Err(why) => Err(why),
+        Ok(()) => {
             let table = form.table;
             writer::write(table, form.budget, buffer)
         }
@@ -441,8 +441,8 @@ pub fn text_of(file: &[u8], buffer: &mut [u8]) -> Writing
     let form = tablefile::form_of(file);
     let admission = form.admission;
     match admission {
-        Admission::Refused(why) => Writing::Refused(why),
-        Admission::Admitted => {
+        Err(why) => Err(why),
+        Ok(()) => {
             let table = form.table;
             write(table, form.budget, buffer)
         }

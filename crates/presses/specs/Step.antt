@@ -1,15 +1,12 @@
 -- A step under presses by what the slot's rules make of the lists.
-use Rattle.std.specs.Prelude.{◌≡◌, ◌⊎◌, List, Bool, cond, ◌&&◌, ℕ, ◌+◌, ◌-◌, ◌<◌, T, ltb, get_or}
+use Rattle.std.specs.Prelude.{◌≡◌, ◌⊎◌, List, Bool, cond, ◌&&◌, ℕ, ◌+◌, ◌-◌, ◌<◌, T, ltb, get_or, Ok}
 use Rattle.std.proofs.Math.Path.{refl}
 use Rattle.std.proofs.Common.{ap, ◌∙◌, eq-zero-or-pos, arith, lt-ltb, ltb→lt}
 use Rattle.std.proofs.Math.Logic.{inl, inr}
 use Rattle.std.proofs.Math.Bool.{true, false, not}
 use Rattle.std.proofs.Math.Dec.{eqb, eqb→eq}
 use Rattle.values.specs.declared.Table.{Table}
-use Rattle.values.specs.declared.Judgement.{Judgement}
-use Rattle.values.specs.declared.Admission.{Admission}
 use Rattle.values.specs.declared.Turn.{Turn}
-use Rattle.values.specs.declared.SlotAnswer.{SlotAnswer}
 use Rattle.model.specs.Limits.{task_limit, slot_count_limit}
 use Rattle.model.specs.Notation.{bit, bits, in_set, fill}
 use Rattle.model.specs.Tasks.{task, is_button, measure}
@@ -37,7 +34,7 @@ use Rattle.presses.specs.declared.Moved.{Moved}
 
 -- A step on a well-formed table: refused by 8 or by 9, or taken.
 abbrev pub press_well_formed : Table → State → Bool → ℕ → Pressed
-press_well_formed t d done pressed = press_admitted t d done pressed (admitted_by t d (Judgement.WellFormed (measure t)))
+press_well_formed t d done pressed = press_admitted t d done pressed (admitted_by t d (Ok (measure t)))
 
 -- What a step that nothing refuses may assume.
 pub record Pressable (t : Table) (d : State) : Type 0 where
@@ -45,7 +42,7 @@ pub record Pressable (t : Table) (d : State) : Type 0 where
   pub fits : Fitting t d
   pub room : slot_count t d < slot_count_limit
 
-pub pressable : (t : Table) (d : State) → Ranged t → admitted_by t d (Judgement.WellFormed (measure t)) ≡ Admission.Admitted
+pub pressable : (t : Table) (d : State) → Ranged t → admitted_by t d (Ok (measure t)) ≡ Ok tt
     → slot_count t d < slot_count_limit → Pressable t d
 pressable t d r e l = record { ranged = r; fits = fitting t d (measure t) e; room = l }
 
@@ -256,6 +253,6 @@ module _ (t : Table) (d : State) (done : Bool) (pressed : ℕ) (p : Pressable t 
 
   pub taken_is : {answer : Turn} {given : List ℕ} {empty : ℕ} → given ≡ counted d.given m.owner → answer ≡ turn_of m.owner m.late
       → empty ≡ d.empty + bit (eqb m.owner task_limit)
-      → record { answer = SlotAnswer.Slot answer; untaken = m.untaken; state = state_with m.wait m.left m.owner given empty }
+      → record { answer = Ok answer; untaken = m.untaken; state = state_with m.wait m.left m.owner given empty }
       ≡ press_taken t d done pressed
   taken_is g w h = rw (w, state_is g h, a.owned, a.lates, a.untakes, ones_bits, trailing_bits)

@@ -38,12 +38,12 @@ impl Presses {
         ensures { started_of result ≡ started_mixed t self.state }
     {
         match table::admit_mixed(t) {
-            Admission::Refused(refusal) => Started {
-                admission: Admission::Refused(refusal),
+            Err(refusal) => Started {
+                admission: Err(refusal),
                 presses: self,
             },
-            Admission::Admitted => Started {
-                admission: Admission::Admitted,
+            Ok(()) => Started {
+                admission: Ok(()),
                 presses: Presses {
                     state: State {
                         wait: slots::offsets(t),
@@ -63,8 +63,8 @@ impl Presses {
     {
         let state = self.state;
         match table::admit_mixed(t) {
-            Admission::Refused(why) => handed_back(state, why, pressed),
-            Admission::Admitted => step_well_formed(state, t, done, pressed),
+            Err(why) => handed_back(state, why, pressed),
+            Ok(()) => step_well_formed(state, t, done, pressed),
         }
     }
 }
@@ -73,7 +73,7 @@ fn handed_back(d: State, why: Refusal, pressed: u32) -> Pressed
     ensures { pressed_of result ≡ refuse_pressed why d pressed }
 {
     Pressed {
-        answer: SlotAnswer::Refused(why),
+        answer: Err(why),
         untaken: pressed,
         next: Presses { state: d },
     }
@@ -120,7 +120,7 @@ fn step_taken(d: State, t: Table, done: bool, pressed: u32) -> Pressed
     let left = moved.left;
     dispatch::count_given(&mut given, owner);
     Pressed {
-        answer: SlotAnswer::Slot(dispatch::turn_of(owner, moved.late)),
+        answer: Ok(dispatch::turn_of(owner, moved.late)),
         untaken: moved.untaken,
         next: Presses {
             state: State {

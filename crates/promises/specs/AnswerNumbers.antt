@@ -1,13 +1,12 @@
 -- THE ANSWER AS NUMBERS: `yolizadwa_answer` has one permitted result, tells the answer that the report tells,
 -- and a host that decodes its buffer has the numbers of that answer.
-use Rattle.std.specs.Prelude.{◌≡◌, ◌↔◌, ◌⊎◌, List, ◌++◌, true, false, ℕ, ◌≤◌, ◌<◌, ltb, length, take, drop}
+use Rattle.std.specs.Prelude.{◌≡◌, ◌↔◌, ◌⊎◌, List, ◌++◌, true, false, ℕ, ◌≤◌, ◌<◌, ltb, length, take, drop, Ok, Err}
 use Rattle.std.proofs.Common.{sym, ap, ◌∙◌, inl, inr, le-ltb}
 use Rattle.std.proofs.Math.Seq.{drop-append_seam}
 use Rattle.values.specs.declared.Table.{Table}
 use Rattle.values.specs.declared.Refusal.{Refusal}
 use Rattle.values.specs.declared.Answer.{Answer}
 use Rattle.values.specs.declared.AnswerNumbers.{AnswerNumbers}
-use Rattle.values.specs.declared.Admission.{Admission}
 use Rattle.model.specs.Limits.{report_bytes}
 use Rattle.model.specs.Values.{refusal}
 use Rattle.model.specs.Tasks.{horizon}
@@ -62,7 +61,7 @@ same_answer = telling.same_answer
 -- A file that is read and has no button, a buffer that is long enough for the numbers,
 -- and what the exported call makes of them.
 module _ (file buffer : List ℕ) (f : Exported) (long : answer_bytes ≤ length buffer)
-    (good : (periodic_from file).admission ≡ Admission.Admitted) (answered : Answered file buffer f) where
+    (good : (periodic_from file).admission ≡ Ok tt) (answered : Answered file buffer f) where
   abbrev table : Table
   table = (file_read file).table
 
@@ -118,7 +117,7 @@ module _ (file buffer : List ℕ) (f : Exported) (long : answer_bytes ≤ length
 
 -- A refused file, or one with a button, leaves the buffer as it was.
 pub refused_numbers : (file buffer : List ℕ) (e : Exported) (r : Refusal) → ltb (length buffer) answer_bytes ≡ false
-    → (periodic_from file).admission ≡ Admission.Refused r → Answered file buffer e → e ≡ refused r buffer
+    → (periodic_from file).admission ≡ Err r → Answered file buffer e → e ≡ refused r buffer
 refused_numbers file buffer e r long q answered = elim (periodic_refused file r q) [
   | inl f ↦ told_refused (λ r. refused r buffer) (numbers_written buffer)
       (file_read file) e r (taken answer_bytes file buffer) (rw long f) answered

@@ -1,10 +1,9 @@
 -- TASKS THAT COME WHEN THEY LIKE (section 3.9 of the specification):
 -- pass is said only of tables that have a good schedule for all arrivals that respect them.
-use Rattle.std.specs.Prelude.{◌≡◌, refl, ◌↔◌, List, true, cond, ◌&&◌, ℕ, ◌+◌, ◌-◌, ◌≤◌, ◌<◌, T}
+use Rattle.std.specs.Prelude.{◌≡◌, refl, ◌↔◌, List, true, cond, ◌&&◌, ℕ, ◌+◌, ◌-◌, ◌≤◌, ◌<◌, T, Ok, Err}
 use Rattle.std.proofs.Common.{sym, ◌∙◌, arith}
 use Rattle.values.specs.declared.Table.{Table}
 use Rattle.values.specs.declared.Measure.{Measure}
-use Rattle.values.specs.declared.Judgement.{Judgement}
 use Rattle.values.specs.declared.Verdict.{Verdict}
 use Rattle.values.specs.declared.DistanceAnswer.{DistanceAnswer}
 use Rattle.model.specs.Notation.{every, Least}
@@ -47,7 +46,7 @@ pub pass_no_overload : (t : Table) → distance_answer t ≡ DistanceAnswer.Pass
 unfolding distance_answer
 pass_no_overload t e = distance_light t (distance_case t (judged_mixed t) e).1
 
-module _ (t : Table) (m : Measure) (well : judged_mixed t ≡ Judgement.WellFormed m) where
+module _ (t : Table) (m : Measure) (well : judged_mixed t ≡ Ok m) where
   -- With buttons alone it is said exactly then.
   pub buttons_exactly : ((i : ℕ) → i < t.count → is_button (task t i) ≡ true)
       → (distance_answer t ≡ DistanceAnswer.Pass) ↔ AlwaysGood t
@@ -74,14 +73,14 @@ module _ (t : Table) (m : Measure) (well : judged_mixed t ≡ Judgement.WellForm
 
   -- Where only periodic tasks are allowed it is refused by 11 at its lowest button.
   pub refused_by_button : (i : ℕ) → Least (λ k. (k < t.count) × (is_button (task t k) ≡ true)) i
-      → judged t ≡ Judgement.Refused (refusal 11 i)
+      → judged t ≡ Err (refusal 11 i)
   refused_by_button i = refused_button t m i well
 
 -- Late where it is certain: with every button pressed at 0 and every spacing after, which respects the table, a schedule is
 -- good exactly if it is good for the table in which each button is a periodic task of offset 0. That table is well-formed too,
 -- so that the exact test judges it.
-module _ (t : Table) (m : Measure) (well : judged_mixed t ≡ Judgement.WellFormed m) where
-  pub as_tasks_exactly : (judged (as_tasks t) ≡ Judgement.WellFormed (measure (as_tasks t)))
+module _ (t : Table) (m : Measure) (well : judged_mixed t ≡ Ok m) where
+  pub as_tasks_exactly : (judged (as_tasks t) ≡ Ok (measure (as_tasks t)))
       × Respects t (releases (as_tasks t))
       × ((σ : Schedule) → GoodFor t (releases (as_tasks t)) σ ↔ Good (as_tasks t) σ)
   as_tasks_exactly = let r = (well_mixed t m well).ranged in (as_well t m well, as_respects t r, as_good t r)
@@ -121,7 +120,7 @@ unfolding demand
 demand_of_releases t from to = refl
 
 -- Without a button the test is that of periodic tasks alone, and nothing but the releases respects the table.
-module _ (t : Table) (m : Measure) (well : judged t ≡ Judgement.WellFormed m) where
+module _ (t : Table) (m : Measure) (well : judged t ≡ Ok m) where
   pub periodic_pass : distance_pass t ≡ (light t && every (λ i. calm (pattern t i)) t.count)
   periodic_pass = no_button t (well_formed t m well).ranged.some ((periodic_iff t m).0 well).1
 

@@ -1,15 +1,12 @@
 -- DEMANDS 1 and 3 at the exported start and step: a refusal changes no byte, and a camera's own loop in a lent buffer is
 -- the dispatcher's history, of which Demand3 speaks.
-use Rattle.std.specs.Prelude.{◌≡◌, ◌⊎◌, List, Bool, false, not, ℕ, suc, ◌+◌, ◌*◌, min, ◌≤◌, ◌<◌, eqb, length, replicate}
+use Rattle.std.specs.Prelude.{◌≡◌, ◌⊎◌, List, Bool, false, not, ℕ, suc, ◌+◌, ◌*◌, min, ◌≤◌, ◌<◌, eqb, length, replicate, Ok, Err}
 use Rattle.std.proofs.Common.{ap, inl, inr, eq-eqb}
 use Rattle.std.proofs.lemmas.List.{length-replicate}
 use Rattle.values.specs.declared.Table.{Table}
 use Rattle.values.specs.declared.Refusal.{Refusal}
 use Rattle.values.specs.declared.Measure.{Measure}
-use Rattle.values.specs.declared.Judgement.{Judgement}
-use Rattle.values.specs.declared.Admission.{Admission}
 use Rattle.values.specs.declared.Turn.{Turn}
-use Rattle.values.specs.declared.SlotAnswer.{SlotAnswer}
 use Rattle.model.specs.Limits.{task_limit, slot_count_limit}
 use Rattle.model.specs.Values.{refusal}
 use Rattle.model.specs.Notation.{count}
@@ -38,7 +35,7 @@ strange_step_buffer file buffer done e = rw (e, on_file)
 -- A file that is refused, by 11 too, is refused by start and step as it is by the check,
 -- and a state as it is by the dispatcher's own step.
 pub refused_camera_start : (file buffer : List ℕ) (r : Refusal) → length buffer ≡ state_bytes
-    → (periodic_from file).admission ≡ Admission.Refused r → start_exported file buffer ≡ refused r buffer
+    → (periodic_from file).admission ≡ Err r → start_exported file buffer ≡ refused r buffer
 unfolding started
 refused_camera_start file buffer r size h = elim (periodic_for file r h) [
   | inl f ↦ rw (eq-eqb (length buffer) state_bytes size, f, on_file)
@@ -46,7 +43,7 @@ refused_camera_start file buffer r size h = elim (periodic_for file r h) [
 ]
 
 pub refused_camera_step : (file buffer : List ℕ) (done : ℕ) (r : Refusal) → length buffer ≡ state_bytes
-    → (periodic_from file).admission ≡ Admission.Refused r → step_exported file buffer done ≡ refused r buffer
+    → (periodic_from file).admission ≡ Err r → step_exported file buffer done ≡ refused r buffer
 unfolding stepped_by admitted
 refused_camera_step file buffer done r size h = elim (periodic_for file r h) [
   | inl f ↦ rw (eq-eqb (length buffer) state_bytes size, f, on_file)
@@ -54,16 +51,16 @@ refused_camera_step file buffer done r size h = elim (periodic_for file r h) [
 ]
 
 pub refused_camera_state : (file buffer : List ℕ) (done : ℕ) (r : Refusal)
-    → length buffer ≡ state_bytes → (form_of file).admission ≡ Admission.Admitted
-    → (stepped (form_of file).table (state_in buffer) (not (eqb done 0))).answer ≡ SlotAnswer.Refused r
+    → length buffer ≡ state_bytes → (form_of file).admission ≡ Ok tt
+    → (stepped (form_of file).table (state_in buffer) (not (eqb done 0))).answer ≡ Err r
     → step_exported file buffer done ≡ refused r buffer
 refused_camera_state file buffer done r size f g = rw (eq-eqb (length buffer) state_bytes size, f, on_file, g)
 
 -- And a state that the dispatcher's own step takes is taken: the owner is returned,
 -- and the buffer holds the next state and what was told.
 pub taken_camera_state : (file buffer : List ℕ) (done : ℕ) (u : Turn)
-    → length buffer ≡ state_bytes → (form_of file).admission ≡ Admission.Admitted
-    → let s = stepped (form_of file).table (state_in buffer) (not (eqb done 0)) in s.answer ≡ SlotAnswer.Slot u
+    → length buffer ≡ state_bytes → (form_of file).admission ≡ Ok tt
+    → let s = stepped (form_of file).table (state_in buffer) (not (eqb done 0)) in s.answer ≡ Ok u
     → step_exported file buffer done ≡ record { number = u.owner; buffer = buffer_of s.state u }
 taken_camera_state file buffer done u size f g = rw (eq-eqb (length buffer) state_bytes size, f, on_file, g)
 
@@ -82,8 +79,8 @@ step_or_refusal = step_apart
 
 -- A camera's loop with the file of a well-formed table of periodic tasks and any done reports: the start returns 0,
 -- and step n returns the owner of slot n and leaves the next state and what it told, for fewer than 2^64 steps.
-module _ (file : List ℕ) (t : Table) (m : Measure) (formed : (form_of file).admission ≡ Admission.Admitted)
-    (held : (form_of file).table ≡ t) (well : judged t ≡ Judgement.WellFormed m)
+module _ (file : List ℕ) (t : Table) (m : Measure) (formed : (form_of file).admission ≡ Ok tt)
+    (held : (form_of file).table ≡ t) (well : judged t ≡ Ok m)
     (lent : List ℕ) (size : length lent ≡ state_bytes) (done : ℕ → ℕ) where
   abbrev reports : ℕ → Bool
   reports n = not (eqb (done n) 0)

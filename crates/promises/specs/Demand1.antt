@@ -2,7 +2,7 @@
 -- That no call traps or runs on is what being proved means, and is not said again. Each contract is an equation with,
 -- or a permission by, the model's own word, for every input; so the theorems here speak of these words (`one_start` and
 -- `one_step` of dispatch's too, `record_read`, `written_is_read` and `read_was_written` of tablefile's).
-use Rattle.std.specs.Prelude.{◌≡◌, ◌↔◌, ◌⊎◌, List, [], ◌∷◌, Bool, true, false, cond, ℕ, suc, ◌+◌, ◌/◌, ◌%◌, ◌≤◌, ◌<◌, ltb, length, get_or, take}
+use Rattle.std.specs.Prelude.{◌≡◌, ◌↔◌, ◌⊎◌, List, [], ◌∷◌, Bool, true, false, cond, ℕ, suc, ◌+◌, ◌/◌, ◌%◌, ◌≤◌, ◌<◌, ltb, length, get_or, take, Ok, Err}
 use Rattle.std.proofs.Math.Path.{refl}
 use Rattle.std.proofs.Common.{sym, ap, subst, ◌∙◌, inl, inr, arith}
 use Rattle.std.specs.Int.{◌∣◌}
@@ -11,10 +11,6 @@ use Rattle.values.specs.declared.Task.{Task}
 use Rattle.values.specs.declared.Table.{Table}
 use Rattle.values.specs.declared.Refusal.{Refusal}
 use Rattle.values.specs.declared.Measure.{Measure}
-use Rattle.values.specs.declared.Judgement.{Judgement}
-use Rattle.values.specs.declared.Outcome.{Outcome}
-use Rattle.values.specs.declared.Admission.{Admission}
-use Rattle.values.specs.declared.SlotAnswer.{SlotAnswer}
 use Rattle.values.specs.declared.Answer.{Answer}
 use Rattle.values.specs.declared.Contents.{Contents}
 use Rattle.model.specs.Limits.{task_limit, slot_count_limit, sum_place, round_limit, report_bytes, budget_limit, budget_bytes}
@@ -67,7 +63,7 @@ one_step t d done a b e f = one_stepped a b (e ∙ sym f)
 -- A table is well-formed exactly if it keeps its ranges (it has 1 to `task_limit` tasks,
 -- each `InRanges`), and H its limit.
 pub well_formed_exactly : (t : Table) (m : Measure)
-    → (judged_mixed t ≡ Judgement.WellFormed m) ↔ (KeepsRanges t × (round t ≤ round_limit) × (m ≡ measure t))
+    → (judged_mixed t ≡ Ok m) ↔ (KeepsRanges t × (round t ≤ round_limit) × (m ≡ measure t))
 well_formed_exactly t m = (
   λ e. let (r, h, same) = (mixed_iff t m).0 e in ((ranges_iff t).1 r, h, same),
   λ (keeps, h, same). (mixed_iff t m).1 ((ranges_iff t).0 keeps, h, same),
@@ -75,16 +71,16 @@ well_formed_exactly t m = (
 
 -- Where only periodic tasks are allowed, it must also have no button.
 pub periodic_exactly : (t : Table) (m : Measure)
-    → (judged t ≡ Judgement.WellFormed m)
-    ↔ ((judged_mixed t ≡ Judgement.WellFormed m) × ((i : ℕ) → i < t.count → is_button (task t i) ≡ false))
+    → (judged t ≡ Ok m)
+    ↔ ((judged_mixed t ≡ Ok m) × ((i : ℕ) → i < t.count → is_button (task t i) ≡ false))
 periodic_exactly = periodic_iff
 
 -- Either judge then says 0 with H, load and horizon.
-pub well_formed_said : (t : Table) (m : Measure) → judged t ≡ Judgement.WellFormed m
+pub well_formed_said : (t : Table) (m : Measure) → judged t ≡ Ok m
     → judgement_said (judged t) ≡ 0 ∷ round t ∷ load t ∷ horizon t ∷ []
 well_formed_said t m e = let (r, h, same, none) = (judged_iff t m).0 e in rw (e, same) refl
 
-pub well_mixed_said : (t : Table) (m : Measure) → judged_mixed t ≡ Judgement.WellFormed m
+pub well_mixed_said : (t : Table) (m : Measure) → judged_mixed t ≡ Ok m
     → judgement_said (judged_mixed t) ≡ 0 ∷ round t ∷ load t ∷ horizon t ∷ []
 well_mixed_said t m e = let (r, h, same) = (mixed_iff t m).0 e in rw (e, same) refl
 
@@ -118,7 +114,7 @@ report_or_refusal = reported_or_refused
 
 -- It reports on every file that is read and has no button, if the buffer is not short.
 pub reported_export : (file buffer : List ℕ) (e : Exported) → ltb (length buffer) report_bytes ≡ false
-    → (periodic_from file).admission ≡ Admission.Admitted → Checked file buffer e → Reported (file_read file) buffer e
+    → (periodic_from file).admission ≡ Ok tt → Checked file buffer e → Reported (file_read file) buffer e
 reported_export = reported
 
 -- What an exported call returns of such a refusal tells its number and its place.
@@ -144,24 +140,24 @@ whole_file file = (first_form file, first_bytes file)
 
 -- A file is read exactly if its form is good and its table well-formed, and is then as its form has it.
 pub read_exactly : (file : List ℕ)
-    → ((file_read file).admission ≡ Admission.Admitted)
-    ↔ (((form_of file).admission ≡ Admission.Admitted)
-    × ((m : Measure) × (judged_mixed (form_of file).table ≡ Judgement.WellFormed m)))
+    → ((file_read file).admission ≡ Ok tt)
+    ↔ (((form_of file).admission ≡ Ok tt)
+    × ((m : Measure) × (judged_mixed (form_of file).table ≡ Ok m)))
 unfolding file_read
 read_exactly file = (
   λ h. let (same, well) = admitted file h in (ap (λ (l : Contents). l.admission) (sym same) ∙ h, well),
   λ (good, (m, well)). rw (good, well) refl,
 )
 
-pub read_as_formed : (file : List ℕ) → (file_read file).admission ≡ Admission.Admitted → file_read file ≡ form_of file
+pub read_as_formed : (file : List ℕ) → (file_read file).admission ≡ Ok tt → file_read file ≡ form_of file
 read_as_formed file h = (admitted file h).0
 
 -- A file that is read, and a start on a well-formed table, say 0.
-pub read_said : (file : List ℕ) (m : Measure) → (form_of file).admission ≡ Admission.Admitted
-    → judged_mixed (form_of file).table ≡ Judgement.WellFormed m → admission_said (file_read file).admission ≡ 0 ∷ []
+pub read_said : (file : List ℕ) (m : Measure) → (form_of file).admission ≡ Ok tt
+    → judged_mixed (form_of file).table ≡ Ok m → admission_said (file_read file).admission ≡ 0 ∷ []
 read_said file m good well = ap admission_said ((read_exactly file).1 (good, (m, well)))
 
-pub started_said : (t : Table) (d : State) (m : Measure) → judged t ≡ Judgement.WellFormed m
+pub started_said : (t : Table) (d : State) (m : Measure) → judged t ≡ Ok m
     → admission_said (started t d).admission ≡ 0 ∷ []
 unfolding started
 started_said t d m well = rw well refl
@@ -174,7 +170,7 @@ written_is_read = written_read
 
 -- A list of bytes whose form is good is the file of its budget and of the tasks of its table:
 -- there is no other good form.
-pub read_was_written : (file : List ℕ) → ((i : ℕ) → get_or file i 0 < 256) → (form_of file).admission ≡ Admission.Admitted
+pub read_was_written : (file : List ℕ) → ((i : ℕ) → get_or file i 0 < 256) → (form_of file).admission ≡ Ok tt
     → (0 < (form_of file).budget)
     × ((form_of file).budget < budget_limit)
     × ((ks : List Task) × (length ks ≤ task_limit) × AllFit ks
@@ -189,7 +185,7 @@ nothing_read file kind long none = rw (tablefile.nothing_read file kind long non
 
 -- A file whose form is good has the bytes of a budget, of each task, by its sort, and of the end,
 -- and so no more than the longest legal file.
-pub legal_length : (file : List ℕ) → (form_of file).admission ≡ Admission.Admitted
+pub legal_length : (file : List ℕ) → (form_of file).admission ≡ Ok tt
     → (ks : List Task) × (length ks ≤ task_limit) × (form_of file ≡ admit (form_of file).budget ks)
     × (length file ≡ budget_bytes + length (task_records ks) + 1) × (length file ≤ longest_file)
 legal_length file h =
@@ -202,7 +198,7 @@ record_bytes_lem = tablefile.record_length
 
 -- A refused file, or one with a button, leaves the report buffer as it was.
 pub refused_export : (file buffer : List ℕ) (e : Exported) (r : Refusal) → ltb (length buffer) report_bytes ≡ false
-    → (periodic_from file).admission ≡ Admission.Refused r → Checked file buffer e → e ≡ refused r buffer
+    → (periodic_from file).admission ≡ Err r → Checked file buffer e → e ≡ refused r buffer
 refused_export file buffer e r long q checked = elim (periodic_refused file r q) [
   | inl f ↦ told_refused (λ r. refused r buffer) (report_written buffer)
       (file_read file) e r (taken report_bytes file buffer) (rw long f) checked
@@ -218,31 +214,31 @@ short_buffer_lem file buffer e short =
     (file_read file) e (refusal 30 (length buffer)) (taken report_bytes file buffer) (rw short)
 
 -- The refusal of a table is handed on as it is: by its judge, of a file whose form is good, by a start and by a step.
-pub refused_table : (t : Table) (r : Refusal) → judged t ≡ Judgement.Refused r
+pub refused_table : (t : Table) (r : Refusal) → judged t ≡ Err r
     → judgement_said (judged t) ≡ refusal_said r
 refused_table t r e = rw e refl
 
-pub refused_mixed_table : (t : Table) (r : Refusal) → judged_mixed t ≡ Judgement.Refused r
+pub refused_mixed_table : (t : Table) (r : Refusal) → judged_mixed t ≡ Err r
     → (judgement_said (judged_mixed t) ≡ refusal_said r) × (judgement_said (judged t) ≡ refusal_said r)
 refused_mixed_table t r e = (rw e refl, rw (refused_both t r e) refl)
 
-pub refused_read : (file : List ℕ) (r : Refusal) → (form_of file).admission ≡ Admission.Admitted
-    → judged_mixed (form_of file).table ≡ Judgement.Refused r → admission_said (file_read file).admission ≡ refusal_said r
+pub refused_read : (file : List ℕ) (r : Refusal) → (form_of file).admission ≡ Ok tt
+    → judged_mixed (form_of file).table ≡ Err r → admission_said (file_read file).admission ≡ refusal_said r
 unfolding file_read
 refused_read file r good e = rw (good, e) refl
 
-pub refused_start : (t : Table) (d : State) (r : Refusal) → judged t ≡ Judgement.Refused r
+pub refused_start : (t : Table) (d : State) (r : Refusal) → judged t ≡ Err r
     → (admission_said (started t d).admission ≡ refusal_said r) × ((started t d).state ≡ d)
 unfolding started
 refused_start t d r e = rw e (refl, refl)
 
 pub refused_table_step : (t : Table) (d : State) (done : Bool) (r : Refusal)
-    → judged t ≡ Judgement.Refused r → slot_said (stepped t d done).answer ≡ refusal_said r
+    → judged t ≡ Err r → slot_said (stepped t d done).answer ≡ refusal_said r
 unfolding stepped_by stateAdmitted
 refused_table_step t d done r e = rw e refl
 
 -- A file whose form is bad is refused for it, whatever its table.
-pub refused_form : (file : List ℕ) (r : Refusal) → (form_of file).admission ≡ Admission.Refused r
+pub refused_form : (file : List ℕ) (r : Refusal) → (form_of file).admission ≡ Err r
     → admission_said (file_read file).admission ≡ refusal_said r
 unfolding file_read
 refused_form file r e = rw e refl
@@ -253,19 +249,19 @@ pub record_read : (s : List ℕ) (at n : ℕ) (k : Record)
 record_read s at n k e = subst (Has (numbers_at s at)) e (record_said_lem s at n)
 
 -- A table that is refused is refused by the test with the same number and place, and nothing else is told.
-pub refused_answer : (t : Table) (budget : ℕ) (r : Refusal) (a : Answer) → judged t ≡ Judgement.Refused r
-    → Permitted t budget a → a ≡ brief (Outcome.Refused r) (record { round = 0; load = 0; horizon = 0 }) 0
+pub refused_answer : (t : Table) (budget : ℕ) (r : Refusal) (a : Answer) → judged t ≡ Err r
+    → Permitted t budget a → a ≡ brief (Err r) (record { round = 0; load = 0; horizon = 0 }) 0
 unfolding Permitted
 refused_answer t budget r a e p = rw e at p
 
 pub refused_answer_said : (t : Table) (budget : ℕ) (r : Refusal) (a : Answer)
-    → judged t ≡ Judgement.Refused r → Permitted t budget a → answer_said a ≡ refusal_said r
+    → judged t ≡ Err r → Permitted t budget a → answer_said a ≡ refusal_said r
 refused_answer_said t budget r a e p = ap answer_said (refused_answer t budget r a e p)
 
 -- A state that does not belong to a well-formed table is refused by 8 with the first such task,
 -- with `task_limit` for the last-run number, or with `sum_place` for more slots than can be counted;
 -- one that can count no slot more is refused by 9.
-module _ (t : Table) (m : Measure) (d : State) (done : Bool) (well : judged t ≡ Judgement.WellFormed m) where
+module _ (t : Table) (m : Measure) (d : State) (done : Bool) (well : judged t ≡ Ok m) where
   pub strange_state_lem : first_strange t d < t.count → slot_said (stepped t d done).answer ≡ 8 ∷ first_strange t d ∷ []
   unfolding stepped_by stateAdmitted
   strange_state_lem h = rw (well, lt-ltb (first_strange t d) t.count h) refl
@@ -289,7 +285,7 @@ module _ (t : Table) (m : Measure) (d : State) (done : Bool) (well : judged t �
 
     -- Every other state is taken.
     pub taken_state : last_strange t d ≡ false → slot_count t d < slot_count_limit
-        → stepped t d done ≡ record { answer = SlotAnswer.Slot (turn t d done); state = after t d done }
+        → stepped t d done ≡ record { answer = Ok (turn t d done); state = after t d done }
     unfolding stepped_by
     taken_state last room =
         let more = ne_eqb (slot_count t d) slot_count_limit (λ e. absurd (omega arith)) in
@@ -305,7 +301,7 @@ module _ (t : Table) (m : Measure) (d : State) (done : Bool) (well : judged t �
 
 -- A state that is taken leads to one that counts one slot more and that 8 does not refuse, whoever made it: once a step
 -- is not refused, none after it is until no slot more can be counted. A state has `task_limit` entries in each list.
-pub taken_next : (t : Table) (m : Measure) (d : State) (done : Bool) → judged t ≡ Judgement.WellFormed m
+pub taken_next : (t : Table) (m : Measure) (d : State) (done : Bool) → judged t ≡ Ok m
     → length d.wait ≡ task_limit → length d.left ≡ task_limit
     → length d.given ≡ task_limit → t.count ≤ first_strange t d → last_strange t d ≡ false
     → let next = after t d done in
@@ -319,5 +315,5 @@ taken_next t m d done well waits lefts gives each ran =
 
 -- A refused step hands the state back as it came.
 pub refused_step : (t : Table) (d : State) (done : Bool) (r : Refusal)
-    → (stepped t d done).answer ≡ SlotAnswer.Refused r → (stepped t d done).state ≡ d
+    → (stepped t d done).answer ≡ Err r → (stepped t d done).state ≡ d
 refused_step = refused_stays

@@ -1,14 +1,12 @@
 -- DEMAND 2: the test passes a table exactly when some schedule is good for all time; else overload,
 -- or the first late deadline with its shortest interval; with exact worst responses; a short budget gives undecided and
--- a longer one alters no other verdict. What asks for a well-formed table says so: `judged t ≡ Judgement.WellFormed m`.
-use Rattle.std.specs.Prelude.{◌≡◌, refl, ◌∷◌, ◌↔◌, ◌⊎◌, ◌≢◌, ℕ, ◌≤◌, ◌<◌, T, get_or}
+-- a longer one alters no other verdict. What asks for a well-formed table says so: `judged t ≡ Ok m`.
+use Rattle.std.specs.Prelude.{◌≡◌, refl, ◌∷◌, ◌↔◌, ◌⊎◌, ◌≢◌, ℕ, ◌≤◌, ◌<◌, T, get_or, Ok}
 use Rattle.std.proofs.Common.{ap, ◌∙◌, arith, inl, inr}
 use Rattle.std.proofs.Math.Decide.{dec_le}
 use Rattle.values.specs.declared.Table.{Table}
 use Rattle.values.specs.declared.Measure.{Measure}
-use Rattle.values.specs.declared.Judgement.{Judgement}
 use Rattle.values.specs.declared.Verdict.{Verdict}
-use Rattle.values.specs.declared.Outcome.{Outcome}
 use Rattle.values.specs.declared.Answer.{Answer}
 use Rattle.model.specs.Notation.{Least}
 use Rattle.model.specs.Values.{verdict_said, answer_said}
@@ -37,7 +35,7 @@ use Rattle.telling.specs.Late.{late_named}
 use Rattle.telling.specs.Passed.{passing}
 use Rattle.telling.specs.Longer.{still_permitted}
 
-module _ (t : Table) (m : Measure) (well : judged t ≡ Judgement.WellFormed m) where
+module _ (t : Table) (m : Measure) (well : judged t ≡ Ok m) where
   -- With a budget that reaches the horizon it passes exactly if some schedule is good.
   pub passes_exactly : (budget : ℕ) → horizon t ≤ budget
       → (verdict t budget ≡ Verdict.Passes) ↔ ((σ : Schedule) × Good t σ)
@@ -113,7 +111,7 @@ late_said t budget to light (l, before) h b =
 
 -- With a budget that reaches the horizon one of three ways is said, and rightly: some schedule is good, and it passes; or
 -- none is, and it is overload, for a load above 1, or late, with the first late deadline.
-pub three_ways : (t : Table) (m : Measure) → judged t ≡ Judgement.WellFormed m → (budget : ℕ) → horizon t ≤ budget
+pub three_ways : (t : Table) (m : Measure) → judged t ≡ Ok m → (budget : ℕ) → horizon t ≤ budget
     → ((verdict t budget ≡ Verdict.Passes) × ((σ : Schedule) × Good t σ))
     ⊎ ((((σ : Schedule) × Good t σ) → ⊥)
     × (((verdict t budget ≡ Verdict.Overload) × (round t < load t))
@@ -138,21 +136,21 @@ three_ways t m well budget reach = by (verdict t budget) refl
 
 -- The answer says the verdict, the settled count and the measures, in the specification's numbers too.
 pub record Says (t : Table) (budget : ℕ) (m : Measure) (a : Answer) : Type 0 where
-  pub outcome : a.outcome ≡ Outcome.Tested (verdict t budget)
+  pub outcome : a.outcome ≡ Ok (verdict t budget)
   pub said : answer_said a ≡ 0 ∷ verdict_said (verdict t budget) (settled_by t budget) a.idle a.worst
   pub values : verdict t budget ≡ Verdict.Passes → Worsts t a.worst × (a.idle ≡ first_idle t (tie_order t))
   pub settled : a.settled ≡ settled_by t budget
   pub measures : a.measure ≡ m
 
 pub answer_exactly : (t : Table) (m : Measure)
-    → judged t ≡ Judgement.WellFormed m → (budget : ℕ) (a : Answer) → Permitted t budget a → Says t budget m a
+    → judged t ≡ Ok m → (budget : ℕ) (a : Answer) → Permitted t budget a → Says t budget m a
 unfolding Permitted
 answer_exactly t m well budget a h =
     let (o, s, k) = answers_say t budget m a (verdict t budget) (rw well at h) in
     record {
       outcome = o;
       said = rw (o, s);
-      values = λ e. let (_, worst, idle) = passing t budget a (o ∙ ap Outcome.Tested e) h in (worst, idle);
+      values = λ e. let (_, worst, idle) = passing t budget a (o ∙ ap Ok e) h in (worst, idle);
       settled = s;
       measures = k;
     }
@@ -160,7 +158,7 @@ answer_exactly t m well budget a h =
 -- The worst responses of a passing answer are exact, for all jobs for ever,
 -- and its idle instant is the run's first after 0.
 pub passed_exactly : (t : Table) (budget : ℕ) (a : Answer)
-    → Permitted t budget a → a.outcome ≡ Outcome.Tested Verdict.Passes
+    → Permitted t budget a → a.outcome ≡ Ok Verdict.Passes
     → (verdict t budget ≡ Verdict.Passes) × Worsts t a.worst × (a.idle ≡ first_idle t (tie_order t))
 passed_exactly t budget a p o = passing t budget a o p
 
@@ -171,8 +169,8 @@ AllFinished t u =
 
 -- The first idle instant is the least after 0 by which every job released before is finished;
 -- there always is one, and it is at most H.
-pub idle_exactly : (t : Table) (m : Measure) → judged t ≡ Judgement.WellFormed m
-    → (budget : ℕ) (a : Answer) → Permitted t budget a → a.outcome ≡ Outcome.Tested Verdict.Passes
+pub idle_exactly : (t : Table) (m : Measure) → judged t ≡ Ok m
+    → (budget : ℕ) (a : Answer) → Permitted t budget a → a.outcome ≡ Ok Verdict.Passes
     → Least (λ u. (0 < u) × AllFinished t u) a.idle × (a.idle ≤ round t)
 idle_exactly t m well budget a p o =
     let r = (well_formed t m well).ranged in
@@ -184,8 +182,8 @@ idle_exactly t m well budget a p o =
     )
 
 -- A worst response is at least 1 and at most the deadline.
-pub worst_by_deadline : (t : Table) (m : Measure) → judged t ≡ Judgement.WellFormed m → (budget : ℕ) (a : Answer)
-    → Permitted t budget a → a.outcome ≡ Outcome.Tested Verdict.Passes → (i : ℕ) → i < t.count
+pub worst_by_deadline : (t : Table) (m : Measure) → judged t ≡ Ok m → (budget : ℕ) (a : Answer)
+    → Permitted t budget a → a.outcome ≡ Ok Verdict.Passes → (i : ℕ) → i < t.count
     → (0 < get_or a.worst i 0) × (get_or a.worst i 0 ≤ (task t i).deadline)
 worst_by_deadline t m well budget a p o i l =
     let r = (well_formed t m well).ranged in
@@ -194,7 +192,7 @@ worst_by_deadline t m well budget a p o i l =
 
 -- A longer budget alters no answer but undecided.
 pub longer_same_answer : (t : Table) (budget more : ℕ) (a b : Answer)
-    → budget ≤ more → a.outcome ≢ Outcome.Tested Verdict.Undecided → Permitted t budget a → Permitted t more b → a ≡ b
+    → budget ≤ more → a.outcome ≢ Ok Verdict.Undecided → Permitted t budget a → Permitted t more b → a ≡ b
 longer_same_answer t budget more a b l u p = permitted_unique t more a b (still_permitted t budget more a l u p)
 
 -- The run that the responses are taken from is that of section 3.3 of the specification:
@@ -203,7 +201,7 @@ longer_same_answer t budget more a b l u p = permitted_unique t more a b (still_
 abbrev Waits : Table → ℕ → ℕ → ℕ → Type 0
 Waits t u i j = (i < t.count) × (release (task t i) j ≤ u) × (given (run t (tie_order t)) i j 0 u < (task t i).cost)
 
-pub run_is_the_rule : (t : Table) (m : Measure) → judged t ≡ Judgement.WellFormed m → (u : ℕ)
+pub run_is_the_rule : (t : Table) (m : Measure) → judged t ≡ Ok m → (u : ℕ)
     → ((run t (tie_order t) u ≡ none) × ((i j : ℕ) → Waits t u i j → ⊥))
     ⊎ ((i : ℕ) × (j : ℕ) × (run t (tie_order t) u ≡ job i j) × Waits t u i j
     × ((k n : ℕ) → Waits t u k n → (due (task t i) j < due (task t k) n)

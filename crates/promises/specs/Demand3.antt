@@ -1,17 +1,13 @@
 -- DEMAND 3: the dispatcher on a passed table, under any pattern of early done reports, finishes every job within its
 -- reported worst response, cuts none off, gives none too much, leaves no slot empty while a job waits.
 -- So does a dispatcher whose ties go by any other fixed order of the tasks, with the worst responses of that order.
-use Rattle.std.specs.Prelude.{◌≡◌, ◌⊎◌, List, Bool, ◌&&◌, ℕ, suc, ◌+◌, ◌≤◌, ◌<◌, min, T, leb, eqb, get_or}
+use Rattle.std.specs.Prelude.{◌≡◌, ◌⊎◌, List, Bool, ◌&&◌, ℕ, suc, ◌+◌, ◌≤◌, ◌<◌, min, T, leb, eqb, get_or, Ok}
 use Rattle.std.proofs.Math.Path.{refl}
 use Rattle.std.proofs.Math.Logic.{inl, inr}
 use native.Mathlib.Omega.{arith}
 use Rattle.values.specs.declared.Table.{Table}
 use Rattle.values.specs.declared.Measure.{Measure}
-use Rattle.values.specs.declared.Judgement.{Judgement}
 use Rattle.values.specs.declared.Verdict.{Verdict}
-use Rattle.values.specs.declared.Outcome.{Outcome}
-use Rattle.values.specs.declared.Admission.{Admission}
-use Rattle.values.specs.declared.SlotAnswer.{SlotAnswer}
 use Rattle.values.specs.declared.Answer.{Answer}
 use Rattle.model.specs.Limits.{task_limit, slot_count_limit}
 use Rattle.model.specs.Notation.{count}
@@ -39,20 +35,20 @@ use Rattle.backlog.proofs.NoneWaits.{none_waits}
 use Rattle.promises.specs.Demand2.{passed_exactly}
 
 -- In any fixed order of the tasks: a start on any well-formed table, and steps with any done reports.
-module _ (t : Table) (m : Measure) (well : judged t ≡ Judgement.WellFormed m) (rank : Order) (done : ℕ → Bool) where
+module _ (t : Table) (m : Measure) (well : judged t ≡ Ok m) (rank : Order) (done : ℕ → Bool) where
   abbrev ranged : Ranged t
   ranged = (well_formed t m well).ranged
 
   -- A start takes no order, and what stood in the state before does not matter.
   pub starts_by : (d : State)
-      → ◌≡◌ {A = Started} (started t d) (record { admission = Admission.Admitted; state = state_at_by t rank done 0 })
+      → ◌≡◌ {A = Started} (started t d) (record { admission = Ok tt; state = state_at_by t rank done 0 })
   unfolding started state_at_by
   starts_by d = rw well refl
 
   -- No step refuses a state that the dispatcher itself produced, for fewer than 2^64 steps; the next is refused by 9.
   pub never_refused_by : (n : ℕ) → n < slot_count_limit
       → ◌≡◌ {A = Stepped} (stepped_by t rank (state_at_by t rank done n) (done n)) (record {
-        answer = SlotAnswer.Slot (turn_by t rank (state_at_by t rank done n) (done n));
+        answer = Ok (turn_by t rank (state_at_by t rank done n) (done n));
         state = state_at_by t rank done (suc n);
       })
   never_refused_by = refused.never_refused t m well rank done
@@ -113,16 +109,16 @@ module _ (t : Table) (m : Measure) (well : judged t ≡ Judgement.WellFormed m) 
 
 -- The same in our order. A history: a start on a well-formed table, and steps with any done reports.
 -- `state_at t done n` is the state after n steps, as many as can be counted; beyond, what the rules would give.
-module _ (t : Table) (m : Measure) (well : judged t ≡ Judgement.WellFormed m) (done : ℕ → Bool) where
+module _ (t : Table) (m : Measure) (well : judged t ≡ Ok m) (done : ℕ → Bool) where
   pub starts : (d : State)
-      → ◌≡◌ {A = Started} (started t d) (record { admission = Admission.Admitted; state = state_at t done 0 })
+      → ◌≡◌ {A = Started} (started t d) (record { admission = Ok tt; state = state_at t done 0 })
   starts = starts_by t m well (tie_order t) done
 
   -- No step refuses a state that the dispatcher itself produced, and each hands out the next one,
   -- for fewer than 2^64 steps. Of any well-formed table.
   pub never_refused : (n : ℕ) → n < slot_count_limit
       → ◌≡◌ {A = Stepped} (stepped t (state_at t done n) (done n))
-      (record { answer = SlotAnswer.Slot (turn t (state_at t done n) (done n)); state = state_at t done (suc n) })
+      (record { answer = Ok (turn t (state_at t done n) (done n)); state = state_at t done (suc n) })
   never_refused = never_refused_by t m well (tie_order t) done
 
   -- The step after them is refused by 9.
@@ -159,7 +155,7 @@ module _ (t : Table) (m : Measure) (well : judged t ≡ Judgement.WellFormed m) 
 
   -- On a table that the test passed, with the worst responses that it reported:
   module _ (budget : ℕ) (a : Answer) (answer : Permitted t budget a)
-      (pass : a.outcome ≡ Outcome.Tested Verdict.Passes) where
+      (pass : a.outcome ≡ Ok Verdict.Passes) where
     -- every job is finished within its reported worst response: it had its whole cost, or was reported done;
     pub all_in_time : (i j : ℕ) → i < t.count → Finished t done i j (release (task t i) j + get_or a.worst i 0)
     all_in_time i j l =
@@ -192,9 +188,9 @@ module _ (t : Table) (owner : ℕ → ℕ) (done : ℕ → Bool) where
   abbrev pub KeepsWorst : List ℕ → Type 0
   KeepsWorst worst = (i j : ℕ) → i < t.count → FinishedIn i j (release (task t i) j + get_or worst i 0)
 
-module _ (t : Table) (m : Measure) (well : judged t ≡ Judgement.WellFormed m) (done : ℕ → Bool) where
+module _ (t : Table) (m : Measure) (well : judged t ≡ Ok m) (done : ℕ → Bool) where
   -- The dispatcher's history keeps it on a table that the test passed: this is `all_in_time`.
-  pub history_in_time : (budget : ℕ) (a : Answer) → Permitted t budget a → a.outcome ≡ Outcome.Tested Verdict.Passes
+  pub history_in_time : (budget : ℕ) (a : Answer) → Permitted t budget a → a.outcome ≡ Ok Verdict.Passes
       → KeepsWorst t (owner_at t done) done a.worst
   unfolding had_by state_at_by after_by
   history_in_time budget a answer pass i j l = elim (all_in_time t m well done budget a answer pass i j l) [

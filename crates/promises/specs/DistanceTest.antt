@@ -1,16 +1,14 @@
 -- THE DISTANCE TEST (section 3.8 of the specification): quick pass is distance pass, and that is said of a table
 -- without buttons only if the exact test passes it. What it means of tables with buttons stands in `Buttons`.
-use Rattle.std.specs.Prelude.{◌≡◌, refl, ◌↔◌, List, [], ◌∷◌, true, false, cond, ℕ, ◌+◌, ◌≤◌, ◌<◌}
+use Rattle.std.specs.Prelude.{◌≡◌, refl, ◌↔◌, List, [], ◌∷◌, true, false, cond, ℕ, ◌+◌, ◌≤◌, ◌<◌, Ok, Err}
 use Rattle.std.proofs.Common.{sym, ◌∙◌, inl, inr, arith}
 use Rattle.values.specs.declared.Task.{Task}
 use Rattle.values.specs.declared.Table.{Table}
 use Rattle.values.specs.declared.Refusal.{Refusal}
 use Rattle.values.specs.declared.Measure.{Measure}
-use Rattle.values.specs.declared.Judgement.{Judgement}
 use Rattle.values.specs.declared.Verdict.{Verdict}
 use Rattle.values.specs.declared.QuickAnswer.{QuickAnswer}
 use Rattle.values.specs.declared.DistanceAnswer.{DistanceAnswer}
-use Rattle.values.specs.declared.Admission.{Admission}
 use Rattle.model.specs.Values.{refusal_said, distance_said}
 use Rattle.model.specs.Tasks.{task, is_button, release, round, load, horizon, judged_mixed, judged}
 use Rattle.model.specs.Verdict.{verdict}
@@ -32,12 +30,12 @@ use Rattle.promises.specs.FileNumbers.{Apart, refused_file_lem, read_file, file_
 
 -- A refused table is refused by its number and place; of any other 0 is said, with 2 for overload,
 -- 1 for pass and 0 for no answer.
-pub refused_distance : (t : Table) (r : Refusal) → judged_mixed t ≡ Judgement.Refused r
+pub refused_distance : (t : Table) (r : Refusal) → judged_mixed t ≡ Err r
     → distance_said (distance_answer t) ≡ refusal_said r
 unfolding distance_answer
 refused_distance t r e = rw e refl
 
-pub distance_said_lem : (t : Table) (m : Measure) → judged_mixed t ≡ Judgement.WellFormed m
+pub distance_said_lem : (t : Table) (m : Measure) → judged_mixed t ≡ Ok m
     → distance_said (distance_answer t) ≡ cond (light t) (cond (distance_pass t) (0 ∷ 1 ∷ []) (0 ∷ 0 ∷ [])) (0 ∷ 2 ∷ [])
 distance_said_lem = distance_words
 
@@ -47,7 +45,7 @@ pub record Smallest (one other : Task) (d : ℕ) : Type 0 where
   pub least : (j m : ℕ) → release one j ≤ release other m → release one j + d ≤ release other m
   pub attained : (j : ℕ) × (m : ℕ) × (release other m ≡ release one j + d)
 
-pub distance_is_smallest : (t : Table) (m : Measure) → judged_mixed t ≡ Judgement.WellFormed m
+pub distance_is_smallest : (t : Table) (m : Measure) → judged_mixed t ≡ Ok m
     → (i k : ℕ) → i < t.count → k < t.count → is_button (task t i) ≡ false → is_button (task t k) ≡ false
     → Smallest (task t i) (task t k) (distance (task t i) (task t k))
 distance_is_smallest t m well i k l n first periodic =
@@ -73,14 +71,14 @@ quick_means_distance t e =
 -- and distance pass means that the exact test passes the table, if it has no button,
 -- with every budget that reaches the horizon.
 pub distance_means_passes : (t : Table) (m : Measure)
-    → judged t ≡ Judgement.WellFormed m → distance_answer t ≡ DistanceAnswer.Pass
+    → judged t ≡ Ok m → distance_answer t ≡ DistanceAnswer.Pass
     → (budget : ℕ) → horizon t ≤ budget → verdict t budget ≡ Verdict.Passes
 unfolding distance_answer
 distance_means_passes t m periodic e =
     let (well, p) = distance_case t (judged_mixed t) e in distance_passes t (well_formed t m periodic).ranged p
 
 -- Overload is said exactly if the load is above 1, as by the exact test.
-pub distance_overload : (t : Table) (m : Measure) → judged_mixed t ≡ Judgement.WellFormed m
+pub distance_overload : (t : Table) (m : Measure) → judged_mixed t ≡ Ok m
     → (distance_answer t ≡ DistanceAnswer.Overload) ↔ (round t < load t)
 unfolding distance_answer
 distance_overload t m well =
@@ -89,10 +87,10 @@ distance_overload t m well =
 -- A file that is refused is refused as it is by the check, and one that is read gives its table's answer:
 -- 2 for overload, 1 for pass, 0 for none.
 pub refused_distance_file : (file : List ℕ) (r : Refusal)
-    → (file_read file).admission ≡ Admission.Refused r → distance_exported file ≡ refusal_number r
+    → (file_read file).admission ≡ Err r → distance_exported file ≡ refusal_number r
 refused_distance_file file = refused_file_lem file (λ t. distance_number (distance_answer t)) distance_refuses
 
-pub read_distance_file : (file : List ℕ) → (file_read file).admission ≡ Admission.Admitted
+pub read_distance_file : (file : List ℕ) → (file_read file).admission ≡ Ok tt
     → distance_exported file ≡ distance_number (distance_answer (file_read file).table)
 read_distance_file file = read_file file (λ t. distance_number (distance_answer t))
 
@@ -110,7 +108,7 @@ distance_file_pass file e = elim (distance_file_apart file) [
 ]
 
 pub distance_file_means : (file : List ℕ) → distance_exported file ≡ 1
-    → (periodic_from file).admission ≡ Admission.Admitted
+    → (periodic_from file).admission ≡ Ok tt
     → (budget : ℕ) → horizon (file_read file).table ≤ budget → verdict (file_read file).table budget ≡ Verdict.Passes
 distance_file_means file e h =
     let (read, same, (m, well)) = periodic_read file h in

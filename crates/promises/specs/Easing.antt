@@ -1,13 +1,11 @@
 -- WHAT MAY BE EASED SAFELY (section 3.10 of the specification): a table that passes still passes with lower costs,
 -- longer deadlines up to the period and fewer tasks, all of that together too,
 -- given a budget that reaches the new horizon; with costs alone lowered no worst response grows.
-use Rattle.std.specs.Prelude.{◌≡◌, refl, ◌↔◌, List, [], ◌∷◌, ℕ, suc, ◌/◌, ◌%◌, ◌^◌, ◌≤◌, ◌<◌, eqb, get_or}
+use Rattle.std.specs.Prelude.{◌≡◌, refl, ◌↔◌, List, [], ◌∷◌, ℕ, suc, ◌/◌, ◌%◌, ◌^◌, ◌≤◌, ◌<◌, eqb, get_or, Ok}
 use Rattle.std.proofs.Common.{ap, subst, arith}
 use Rattle.values.specs.declared.Table.{Table}
 use Rattle.values.specs.declared.Measure.{Measure}
-use Rattle.values.specs.declared.Judgement.{Judgement}
 use Rattle.values.specs.declared.Verdict.{Verdict}
-use Rattle.values.specs.declared.Outcome.{Outcome}
 use Rattle.values.specs.declared.Answer.{Answer}
 use Rattle.values.specs.declared.Easing.{Easing}
 use Rattle.model.specs.Notation.{bit, sum, largest, count, some, first, last, fill}
@@ -41,8 +39,8 @@ easing_again = eased_again
 pub lowering_eases : (before after : Table) → Lowered before after → Eased before after
 lowering_eases = eased_of_lowered
 
-module _ (before after : Table) (m n : Measure) (well : judged before ≡ Judgement.WellFormed m)
-    (well-after : judged after ≡ Judgement.WellFormed n) where
+module _ (before after : Table) (m n : Measure) (well : judged before ≡ Ok m)
+    (well-after : judged after ≡ Ok n) where
   -- If a table passes, with whatever budget, so does every well-formed table eased from it,
   -- with every budget that reaches its horizon.
   pub easing_is_safe : Eased before after → (budget budget' : ℕ)
@@ -63,8 +61,8 @@ module _ (before after : Table) (m n : Measure) (well : judged before ≡ Judgem
 
   -- So none that is reported grows.
   pub lowering_reports_less : Lowered before after → (budget budget' : ℕ) (a a' : Answer)
-      → Permitted before budget a → a.outcome ≡ Outcome.Tested Verdict.Passes → Permitted after budget' a'
-      → a'.outcome ≡ Outcome.Tested Verdict.Passes
+      → Permitted before budget a → a.outcome ≡ Ok Verdict.Passes → Permitted after budget' a'
+      → a'.outcome ≡ Ok Verdict.Passes
       → (i : ℕ) → i < before.count → get_or a'.worst i 0 ≤ get_or a.worst i 0
   lowering_reports_less e budget budget' a a' p o p' o' i l =
       let (v, w, u) = passed_exactly before budget a p o in

@@ -1,16 +1,13 @@
 -- THE HEADLINES: the report of the exported check says `verdict passes` exactly if some schedule is good for all time;
 -- where it says so, a camera's loop over the same file finishes every job within the worst response that the report
 -- tells, whatever is reported done; and so did a camera whose log is found good.
-use Rattle.std.specs.Prelude.{◌≡◌, refl, ◌↔◌, Bool, not, ℕ, suc, ◌+◌, ◌*◌, ◌≤◌, ◌<◌, eqb, length, get_or, take}
+use Rattle.std.specs.Prelude.{◌≡◌, refl, ◌↔◌, Bool, not, ℕ, suc, ◌+◌, ◌*◌, ◌≤◌, ◌<◌, eqb, length, get_or, take, Ok}
 use Rattle.std.proofs.Common.{sym, ap, ◌∙◌, le-ltb}
 use mathlib.Core.List.{List, [], ◌∷◌, flatten}
 use Rattle.values.specs.declared.Table.{Table}
 use Rattle.values.specs.declared.Measure.{Measure}
-use Rattle.values.specs.declared.Judgement.{Judgement}
 use Rattle.values.specs.declared.Verdict.{Verdict}
-use Rattle.values.specs.declared.Outcome.{Outcome}
 use Rattle.values.specs.declared.Answer.{Answer}
-use Rattle.values.specs.declared.Admission.{Admission}
 use Rattle.values.specs.declared.Contents.{Contents}
 use Rattle.model.specs.Limits.{task_limit, word_limit, report_bytes, slot_count_limit}
 use Rattle.model.specs.Tasks.{task, release, horizon, judged}
@@ -68,7 +65,7 @@ pub record InTime (t : Table) (worst : List ℕ) (done : ℕ → Bool) : Type 0 
 -- A file that is read and has no button, a buffer that is long enough for a report,
 -- and what the exported check makes of them.
 module _ (file buffer : List ℕ) (e : Exported) (long : report_bytes ≤ length buffer)
-    (good : (periodic_from file).admission ≡ Admission.Admitted) (checked : Checked file buffer e) where
+    (good : (periodic_from file).admission ≡ Ok tt) (checked : Checked file buffer e) where
   abbrev table : Table
   table = (file_read file).table
 
@@ -96,13 +93,13 @@ module _ (file buffer : List ℕ) (e : Exported) (long : report_bytes ≤ length
   -- Where the report says so, it is that of an answer that passes.
   passed : passes_exported report ≡ 1
       → (a : Answer) × (report ≡ report_of table.count (quick_pass table) a Verdict.Passes)
-      × Permitted table (file_read file).budget a × (a.outcome ≡ Outcome.Tested Verdict.Passes)
+      × Permitted table (file_read file).budget a × (a.outcome ≡ Ok Verdict.Passes)
   passed one =
       let (a, v, p, o, w, fit) = reported in
       let text = read_off (report_of table.count (quick_pass table) a v) buffer w in
       let says = passes_told table.count (quick_pass table) a v fit in
       let passes : v ≡ Verdict.Passes = says.0 (sym (ap passes_exported text) ∙ one) in
-      (a, text ∙ ap (report_of table.count (quick_pass table) a) passes, p, o ∙ ap Outcome.Tested passes)
+      (a, text ∙ ap (report_of table.count (quick_pass table) a) passes, p, o ∙ ap Ok passes)
 
   -- Its worst responses are kept: on the same file, in any state buffer and under any done reports, a camera's loop is the
   -- dispatcher's history, that is in time, and the host reads of every step that no task was closed late.
@@ -116,13 +113,13 @@ module _ (file buffer : List ℕ) (e : Exported) (long : report_bytes ≤ length
       let (read, same, (m, well)) = periodic_read file good in
       (a, text, λ lent size done. (follows m well lent size done, in_time m well a p pass (heard done), none_late m well a p pass lent size done))
     where
-      formed : (form_of file).admission ≡ Admission.Admitted
+      formed : (form_of file).admission ≡ Ok tt
       formed = rw (← (admitted file (periodic_read file good).0).0) (periodic_read file good).0
 
       held : (form_of file).table ≡ table
       held = ap (λ (x : Contents). x.table) (sym (admitted file (periodic_read file good).0).0)
 
-      follows : (m : Measure) → judged table ≡ Judgement.WellFormed m
+      follows : (m : Measure) → judged table ≡ Ok m
           → (lent : List ℕ) → length lent ≡ state_bytes → (done : ℕ → ℕ) → Follows table file lent done
       follows m well lent size done =
           record {
@@ -130,16 +127,16 @@ module _ (file buffer : List ℕ) (e : Exported) (long : report_bytes ≤ length
             stepped = camera_steps file table m formed held well lent size done;
           }
 
-      none_late : (m : Measure) → judged table ≡ Judgement.WellFormed m
-          → (a : Answer) → Permitted table (file_read file).budget a → a.outcome ≡ Outcome.Tested Verdict.Passes
+      none_late : (m : Measure) → judged table ≡ Ok m
+          → (a : Answer) → Permitted table (file_read file).budget a → a.outcome ≡ Ok Verdict.Passes
           → (lent : List ℕ) → length lent ≡ state_bytes → (done : ℕ → ℕ) (n : ℕ) → n < slot_count_limit → NoneLate (handed file lent done (suc n))
       none_late m well a p pass lent size done n h =
           let (late, closed, lowest) = none_cut_off table m well (heard done) (file_read file).budget a p pass n in
           let (x, y, z) = camera_said file table m formed held well lent size done n h in
           (x ∙ late, y ∙ closed, z ∙ lowest)
 
-      in_time : (m : Measure) → judged table ≡ Judgement.WellFormed m
-          → (a : Answer) → Permitted table (file_read file).budget a → a.outcome ≡ Outcome.Tested Verdict.Passes
+      in_time : (m : Measure) → judged table ≡ Ok m
+          → (a : Answer) → Permitted table (file_read file).budget a → a.outcome ≡ Ok Verdict.Passes
           → (done : ℕ → Bool) → InTime table a.worst done
       in_time m well a p pass done =
           record {
@@ -161,7 +158,7 @@ module _ (file buffer : List ℕ) (e : Exported) (long : report_bytes ≤ length
       let (a, text, p, pass) = passed one in
       let (read, same, (m, well)) = periodic_read file good in
       let whole = (admitted file read).0 in
-      let formed : (form_of file).admission ≡ Admission.Admitted = rw (← whole) read in
+      let formed : (form_of file).admission ≡ (Ok tt) = rw (← whole) read in
       let held : (form_of file).table ≡ table = ap (λ (x : Contents). x.table) (sym whole) in (
         a,
         text,

@@ -1,17 +1,14 @@
 -- HOW MUCH COST A TASK CAN TAKE (section 3.11 of the specification): the number told passes,
 -- and no larger one within the deadline does; where there is none to tell, why.
-use Rattle.std.specs.Prelude.{◌≡◌, refl, ◌⊎◌, List, [], ◌∷◌, ℕ, ◌+◌, min, ◌≤◌, ◌<◌}
+use Rattle.std.specs.Prelude.{◌≡◌, refl, ◌⊎◌, List, [], ◌∷◌, ℕ, ◌+◌, min, ◌≤◌, ◌<◌, Ok, Err}
 use Rattle.std.proofs.Common.{sym, ap, subst, ◌∙◌, inl, inr, arith}
 use Rattle.std.proofs.Math.Decide.{dec_lt}
 use borrow.Author.Tests.{le-ltb, lt-ltb}
 use Rattle.values.specs.declared.Table.{Table}
 use Rattle.values.specs.declared.Refusal.{Refusal}
 use Rattle.values.specs.declared.Measure.{Measure}
-use Rattle.values.specs.declared.Judgement.{Judgement}
 use Rattle.values.specs.declared.Verdict.{Verdict}
-use Rattle.values.specs.declared.Outcome.{Outcome}
 use Rattle.values.specs.declared.Answer.{Answer}
-use Rattle.values.specs.declared.Admission.{Admission}
 use Rattle.values.specs.declared.LargestCost.{LargestCost}
 use Rattle.model.specs.Values.{refusal, cost_said}
 use Rattle.model.specs.Limits.{slot_limit}
@@ -32,11 +29,11 @@ use Rattle.promises.specs.FileNumbers.{read_file, refused_periodic}
 
 -- The table's refusal comes first, and then 12 for a number that is none of its tasks', at that number.
 pub cost_refused : (t : Table) (i budget : ℕ) (r : Refusal)
-    → judged t ≡ Judgement.Refused r → cost_answer t i budget ≡ LargestCost.Refused r
+    → judged t ≡ Err r → cost_answer t i budget ≡ LargestCost.Refused r
 unfolding cost_answer
 cost_refused t i budget r e = rw e
 
-module _ (t : Table) (m : Measure) (well : judged t ≡ Judgement.WellFormed m) (i budget : ℕ) where
+module _ (t : Table) (m : Measure) (well : judged t ≡ Ok m) (i budget : ℕ) where
   pub no_such_task : t.count ≤ i → cost_answer t i budget ≡ LargestCost.Refused (refusal 12 i)
   unfolding cost_answer
   no_such_task l = rw (well, le-ltb i t.count l)
@@ -51,10 +48,10 @@ module _ (t : Table) (m : Measure) (well : judged t ≡ Judgement.WellFormed m) 
 pub record LargestRight (t : Table) (i budget c : ℕ) : Type 0 where
   pub at_least : (task t i).cost ≤ c
   pub at_most : c ≤ (task t i).deadline
-  pub well_formed : (m : Measure) × (judged (with_cost t i c) ≡ Judgement.WellFormed m)
-  pub passes : (a : Answer) → Permitted (with_cost t i c) budget a → a.outcome ≡ Outcome.Tested Verdict.Passes
+  pub well_formed : (m : Measure) × (judged (with_cost t i c) ≡ Ok m)
+  pub passes : (a : Answer) → Permitted (with_cost t i c) budget a → a.outcome ≡ Ok Verdict.Passes
   pub none_larger : (larger : ℕ) → c < larger → larger ≤ (task t i).deadline
-      → (any : ℕ) (a : Answer) → Permitted (with_cost t i larger) any a → a.outcome ≡ Outcome.Tested Verdict.Passes → ⊥
+      → (any : ℕ) (a : Answer) → Permitted (with_cost t i larger) any a → a.outcome ≡ Ok Verdict.Passes → ⊥
 
 -- A number is told only of a task of a table that passes, and it is right.
 pub cost_exactly : (t : Table) (i budget c : ℕ) → cost_answer t i budget ≡ LargestCost.Cost c
@@ -63,27 +60,27 @@ cost_exactly t i budget c e =
     let (l, pass, (m, well), same) = cost_case t i budget c e in
     (l, pass, subst (LargestRight t i budget) same (right l pass m well))
   where
-    tested_same : {v w : Verdict} → Outcome.Tested v ≡ Outcome.Tested w → v ≡ w
+    tested_same : {v w : Verdict} → Ok v ≡ Ok w → v ≡ w
     tested_same e = cc
 
-    right : i < t.count → verdict t budget ≡ Verdict.Passes → (m : Measure) → judged t ≡ Judgement.WellFormed m
+    right : i < t.count → verdict t budget ≡ Verdict.Passes → (m : Measure) → judged t ≡ Ok m
         → LargestRight t i budget (largest_cost t i budget)
     right l pass m well =
         let r = (wellformed.well_formed t m well).ranged in
         let (low, high, p, none) = largest_cost_lem t r i l budget pass in
-        let changed : (n : ℕ) → (task t i).cost ≤ n → n ≤ (task t i).deadline → (k : Measure) × (judged (with_cost t i n) ≡ Judgement.WellFormed k) =
+        let changed : (n : ℕ) → (task t i).cost ≤ n → n ≤ (task t i).deadline → (k : Measure) × (judged (with_cost t i n) ≡ Ok k) =
         λ n x y. (_, well_with t r i l m well n x y) in
         record {
           at_least = low;
           at_most = high;
           well_formed = changed _ low high;
-          passes = λ a h. let (k, w) = changed _ low high in (answer_exactly _ k w budget a h).outcome ∙ ap Outcome.Tested p;
+          passes = λ a h. let (k, w) = changed _ low high in (answer_exactly _ k w budget a h).outcome ∙ ap Ok p;
           none_larger = λ n x y any a h o. let (k, w) = changed n (omega arith) y in
               none n x y any (tested_same (sym (answer_exactly _ k w any a h).outcome ∙ o));
         }
 
 -- It is told wherever there is one, and only one number is right.
-pub cost_told_lem : (t : Table) (m : Measure) → judged t ≡ Judgement.WellFormed m → (i budget : ℕ) → i < t.count
+pub cost_told_lem : (t : Table) (m : Measure) → judged t ≡ Ok m → (i budget : ℕ) → i < t.count
     → verdict t budget ≡ Verdict.Passes → cost_answer t i budget ≡ LargestCost.Cost (largest_cost t i budget)
 cost_told_lem t m well i budget l pass = cost_by_verdict t m well i budget l ∙ rw pass
 
@@ -103,7 +100,7 @@ Said t i budget Verdict.Overload = 1 ∷ []
 Said t i budget Verdict.Undecided = 2 ∷ []
 Said t i budget (Verdict.Late from to asked) = 3 ∷ []
 
-pub cost_said_lem : (t : Table) (m : Measure) → judged t ≡ Judgement.WellFormed m → (i budget : ℕ) → i < t.count
+pub cost_said_lem : (t : Table) (m : Measure) → judged t ≡ Ok m → (i budget : ℕ) → i < t.count
     → cost_said (cost_answer t i budget) ≡ Said t i budget (verdict t budget)
 cost_said_lem t m well i budget l = ap cost_said (cost_by_verdict t m well i budget l) ∙ by (verdict t budget)
   where
@@ -128,11 +125,11 @@ abbrev tell : List ℕ → ℕ → Table → ℕ
 tell file i t = cost_number (cost_answer t (min i 65535) (form_of file).budget)
 
 pub largest_refused_file : (file : List ℕ) (i : ℕ) (r : Refusal)
-    → (periodic_from file).admission ≡ Admission.Refused r → largest_exported file i ≡ refusal_number r
+    → (periodic_from file).admission ≡ Err r → largest_exported file i ≡ refusal_number r
 largest_refused_file file i =
     refused_periodic file (tell file i) (λ t r e. rw (cost_refused t (min i 65535) (form_of file).budget r e))
 
-pub largest_exported_lem : (file : List ℕ) (i : ℕ) → (file_read file).admission ≡ Admission.Admitted
+pub largest_exported_lem : (file : List ℕ) (i : ℕ) → (file_read file).admission ≡ Ok tt
     → largest_exported file i ≡ cost_number (cost_answer (file_read file).table (min i 65535) (file_read file).budget)
 largest_exported_lem file i h = let (same, well) = admitted file h in read_file file (tell file i) h ∙ rw same refl
 

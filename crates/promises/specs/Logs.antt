@@ -1,16 +1,13 @@
 -- LOGS: every call of the judge has one permitted result and a refusal changes nothing,
 -- all cuts of a log give one answer, what is found stays, each answer is given exactly where it is meant,
 -- and a good log on a passed table means that every job whose worst response ends within it was in time.
-use Rattle.std.specs.Prelude.{◌≡◌, refl, false, cond, ◌⊎◌, ◌↔◌, ℕ, ◌+◌, min, ◌≤◌, ◌<◌, eqb, length, get_or}
+use Rattle.std.specs.Prelude.{◌≡◌, refl, false, cond, ◌⊎◌, ◌↔◌, ℕ, ◌+◌, min, ◌≤◌, ◌<◌, eqb, length, get_or, Ok, Err}
 use Rattle.std.proofs.Common.{sym, ap, ◌∙◌, inl, inr, eq-eqb}
 use mathlib.Core.List.{List, [], ◌∷◌, ◌++◌, flatten}
 use Rattle.values.specs.declared.Table.{Table}
 use Rattle.values.specs.declared.Refusal.{Refusal}
 use Rattle.values.specs.declared.Measure.{Measure}
-use Rattle.values.specs.declared.Judgement.{Judgement}
 use Rattle.values.specs.declared.Verdict.{Verdict}
-use Rattle.values.specs.declared.Outcome.{Outcome}
-use Rattle.values.specs.declared.Admission.{Admission}
 use Rattle.values.specs.declared.Answer.{Answer}
 use Rattle.values.specs.declared.Finding.{Finding}
 use Rattle.model.specs.Limits.{word_limit, count_place}
@@ -54,27 +51,27 @@ one_finish t l a b e f = one_fed a b (e ∙ sym f)
 -- A log is refused as its dispatcher's state is, which is the table first and then 8;
 -- then by 8 at 34, if its counts are wrong; and by nothing else. A refusal hands the log back as it came.
 pub log_refused : (t : Table) (l : model.Log) (r : Refusal)
-    → admitted t l.state ≡ Admission.Refused r → log_admitted t l ≡ Admission.Refused r
+    → admitted t l.state ≡ Err r → log_admitted t l ≡ Err r
 unfolding log_admitted
 log_refused t l r e = rw e
 
-pub log_miscounted : (t : Table) (l : model.Log) → admitted t l.state ≡ Admission.Admitted
-    → log_admitted t l ≡ cond (miscounted t l) (Admission.Refused (refusal 8 count_place)) Admission.Admitted
+pub log_miscounted : (t : Table) (l : model.Log) → admitted t l.state ≡ Ok tt
+    → log_admitted t l ≡ cond (miscounted t l) (Err (refusal 8 count_place)) (Ok tt)
 unfolding log_admitted
 log_miscounted t l e = rw e
 
 pub refused_log_start : (t : Table) (l : model.Log) (r : Refusal)
-    → judged t ≡ Judgement.Refused r → log_started t l ≡ record { admission = Admission.Refused r; log = l }
+    → judged t ≡ Err r → log_started t l ≡ record { admission = Err r; log = l }
 unfolding log_started started
 refused_log_start t l r e = rw e
 
 pub refused_feed : (t : Table) (l : model.Log) (piece : List ℕ) (r : Refusal)
-    → log_admitted t l ≡ Admission.Refused r → fed t l piece ≡ record { admission = Admission.Refused r; log = l }
+    → log_admitted t l ≡ Err r → fed t l piece ≡ record { admission = Err r; log = l }
 unfolding fed
 refused_feed t l piece r e = rw e
 
-pub refused_finish : (t : Table) (l : model.Log) (r : Refusal) → log_admitted t l ≡ Admission.Refused r
-    → log_finished t l ≡ record { admission = Admission.Refused r; log = l }
+pub refused_finish : (t : Table) (l : model.Log) (r : Refusal) → log_admitted t l ≡ Err r
+    → log_finished t l ≡ record { admission = Err r; log = l }
 unfolding log_finished
 refused_finish t l r e = rw e
 
@@ -104,9 +101,9 @@ found_at_end bytes (Finding.Fault n p) h = refl
 found_at_end bytes Finding.Nothing h = elim h [ ]
 found_at_end bytes Finding.Good h = elim h [ ]
 
-module _ (t : Table) (m : Measure) (well : judged t ≡ Judgement.WellFormed m) where
+module _ (t : Table) (m : Measure) (well : judged t ≡ Ok m) where
   -- From a start on a well-formed table no call is refused.
-  pub log_admitted_lem : (l : model.Log) (pieces : List (List ℕ)) → (log_judged t l pieces).admission ≡ Admission.Admitted
+  pub log_admitted_lem : (l : model.Log) (pieces : List (List ℕ)) → (log_judged t l pieces).admission ≡ Ok tt
   log_admitted_lem l pieces = ap (λ (f : model.Fed). f.admission) (cuts.judged_bytes t m well l pieces)
 
   -- Each answer is given exactly where it is meant:
@@ -129,7 +126,7 @@ module _ (t : Table) (m : Measure) (well : judged t ≡ Judgement.WellFormed m) 
   -- A good log on a table that the test passed: it is what a camera writes of n slots under some done reports,
   -- and every job whose reported worst response ends within these slots was finished by then.
   -- The report after the last slot, which step n would be given, counts.
-  pub good_in_time : (budget : ℕ) (a : Answer) → Permitted t budget a → a.outcome ≡ Outcome.Tested Verdict.Passes
+  pub good_in_time : (budget : ℕ) (a : Answer) → Permitted t budget a → a.outcome ≡ Ok Verdict.Passes
       → (l : model.Log) (pieces : List (List ℕ)) → (log_judged t l pieces).log.found ≡ Finding.Good
       → (n : ℕ) × (b : Begins t (flatten pieces) n (19 ∷ []))
       × ((i j : ℕ) → i < t.count → release (task t i) j + get_or a.worst i 0 ≤ n
@@ -146,7 +143,7 @@ pub strange_log_buffer : (file buffer piece : List ℕ) → eqb (length buffer) 
 strange_log_buffer file buffer piece e = (rw (e, on_file), rw (e, on_file), rw (e, on_file))
 
 pub refused_log_file : (file buffer piece : List ℕ) (r : Refusal)
-    → length buffer ≡ log_bytes → (periodic_from file).admission ≡ Admission.Refused r
+    → length buffer ≡ log_bytes → (periodic_from file).admission ≡ Err r
     → (log_start_exported file buffer ≡ refused r buffer) × (log_feed_exported file buffer piece ≡ refused r buffer)
     × (log_finish_exported file buffer ≡ refused r buffer)
 unfolding log_started started fed log_finished log_admitted admitted
@@ -158,8 +155,8 @@ refused_log_file file buffer piece r size h =
     ]
 
 pub refused_log_state : (file buffer piece : List ℕ) (r : Refusal)
-    → length buffer ≡ log_bytes → (form_of file).admission ≡ Admission.Admitted
-    → log_admitted (form_of file).table (log_in buffer) ≡ Admission.Refused r
+    → length buffer ≡ log_bytes → (form_of file).admission ≡ Ok tt
+    → log_admitted (form_of file).table (log_in buffer) ≡ Err r
     → (log_feed_exported file buffer piece ≡ refused r buffer) × (log_finish_exported file buffer ≡ refused r buffer)
 unfolding fed log_finished
 refused_log_state file buffer piece r size f h =
@@ -187,8 +184,8 @@ finish_or_refusal = judging.finish_apart
 
 -- With a well-formed table's file and one buffer the exported calls are the judge, however the log is cut:
 -- the finish returns its answer, of which all the above speaks, and leaves it.
-module _ (file : List ℕ) (t : Table) (m : Measure) (formed : (form_of file).admission ≡ Admission.Admitted)
-    (held : (form_of file).table ≡ t) (well : judged t ≡ Judgement.WellFormed m)
+module _ (file : List ℕ) (t : Table) (m : Measure) (formed : (form_of file).admission ≡ Ok tt)
+    (held : (form_of file).table ≡ t) (well : judged t ≡ Ok m)
     (lent : List ℕ) (size : length lent ≡ log_bytes) where
   pub log_starts : log_start_exported file lent ≡ record { number = 0; buffer = log_buffer_of (model.unread (start_of t)) }
   log_starts = judging.starts file t m formed held well lent size

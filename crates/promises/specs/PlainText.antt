@@ -1,15 +1,12 @@
 -- DEMAND 1 at tables in plain text: a refusal changes no byte;
 -- the text of a budget and tasks is read as these; from a file to its text and back the bytes are the same.
-use Rattle.std.specs.Prelude.{◌≡◌, refl, ◌⊎◌, List, [], ◌∷◌, ◌++◌, ℕ, ◌≤◌, ◌<◌, length, get_or, take, drop}
+use Rattle.std.specs.Prelude.{◌≡◌, refl, ◌⊎◌, List, [], ◌∷◌, ◌++◌, ℕ, ◌≤◌, ◌<◌, length, get_or, take, drop, Ok, Err}
 use Rattle.std.proofs.Common.{ap, ◌∙◌}
 use Rattle.values.specs.declared.Task.{Task}
 use Rattle.values.specs.declared.Table.{Table}
 use Rattle.values.specs.declared.Refusal.{Refusal}
 use Rattle.values.specs.declared.Measure.{Measure}
-use Rattle.values.specs.declared.Judgement.{Judgement}
-use Rattle.values.specs.declared.Admission.{Admission}
 use Rattle.values.specs.declared.Contents.{Contents}
-use Rattle.values.specs.declared.Writing.{Writing}
 use Rattle.model.specs.Limits.{task_limit, budget_limit, longest_file, longest_text}
 use Rattle.model.specs.Values.{refusal_said, writing_said, admission_said}
 use Rattle.model.specs.Tasks.{judged_mixed}
@@ -39,16 +36,16 @@ pub text_of_nothing : (ks : List Task) → admission_said (text_form (text_of 0 
 text_of_nothing ks = rw (text_nothing ks) refl
 
 -- Nor is it written: of a well-formed table it is refused by 27 at 0, whatever the buffer, which stays as it was.
-pub nothing_text_writing : (t : Table) (m : Measure) (buffer : List ℕ) → judged_mixed t ≡ Judgement.WellFormed m
+pub nothing_text_writing : (t : Table) (m : Measure) (buffer : List ℕ) → judged_mixed t ≡ Ok m
     → let f = text_written t 0 buffer in (writing_said f.said ≡ 27 ∷ 0 ∷ []) × (f.buffer ≡ buffer)
 unfolding text_written
 nothing_text_writing t m buffer well = rw well (refl, refl)
 
 -- What was written as a text is read: it is not refused, and has the same budget and the same tasks in their order.
 pub written_text_reads : (t : Table) (budget : ℕ) (buffer : List ℕ) (n : ℕ)
-    → budget < budget_limit → (text_written t budget buffer).said ≡ Writing.Bytes n
+    → budget < budget_limit → (text_written t budget buffer).said ≡ Ok n
     → let l = text_read (take n (text_written t budget buffer).buffer) in
-    (l.admission ≡ Admission.Admitted) × (l.budget ≡ budget) × (tasks_of l.table ≡ tasks_of t)
+    (l.admission ≡ Ok tt) × (l.budget ≡ budget) × (tasks_of l.table ≡ tasks_of t)
 written_text_reads t budget buffer n limit e =
     let same = round.written_text_reads t budget buffer n limit e in (
       ap (λ (l : Contents). l.admission) same,
@@ -58,24 +55,24 @@ written_text_reads t budget buffer n limit e =
 
 -- The text of a well-formed table and a budget above 0 is made its file, and its file its text.
 pub text_to_file : (t : Table) (m : Measure) (budget : ℕ) (buffer : List ℕ) → 0 < budget → budget < budget_limit
-    → judged_mixed t ≡ Judgement.WellFormed m
+    → judged_mixed t ≡ Ok m
     → from_text (text_of budget (tasks_of t)) buffer ≡ fitted (file_of budget (tasks_of t)) buffer
 text_to_file = round.text_to_file
 
 pub file_to_text : (t : Table) (m : Measure) (budget : ℕ) (buffer : List ℕ) → 0 < budget → budget < budget_limit
-    → judged_mixed t ≡ Judgement.WellFormed m
+    → judged_mixed t ≡ Ok m
     → to_text (file_of budget (tasks_of t)) buffer ≡ fitted (text_of budget (tasks_of t)) buffer
 file_to_text = round.file_to_text
 
 -- Of a file that is not refused, the file of the text that was written of it is that file, byte for byte.
 pub back_to_file : (file lent buffer : List ℕ) (n : ℕ) → ((i : ℕ) → get_or file i 0 < 256)
-    → (file_read file).admission ≡ Admission.Admitted → (to_text file lent).said ≡ Writing.Bytes n
+    → (file_read file).admission ≡ Ok tt → (to_text file lent).said ≡ Ok n
     → from_text (take n (to_text file lent).buffer) buffer ≡ fitted file buffer
 back_to_file = round.back_to_file
 
 -- A text of bad form is refused for it, when it is read and when its file is to be written,
 -- and the buffer stays as it was.
-pub refused_text : (s buffer : List ℕ) (r : Refusal) → (text_form s).admission ≡ Admission.Refused r
+pub refused_text : (s buffer : List ℕ) (r : Refusal) → (text_form s).admission ≡ Err r
     → let f = from_text s buffer in
     (admission_said (text_read s).admission ≡ refusal_said r)
     × (writing_said f.said ≡ refusal_said r) × (f.buffer ≡ buffer)
@@ -83,8 +80,8 @@ unfolding text_read
 refused_text s buffer r e = rw e (refl, refl, refl)
 
 -- So is a table for itself that a text of good form holds.
-pub refused_text_table : (s buffer : List ℕ) (r : Refusal) → (text_form s).admission ≡ Admission.Admitted
-    → judged_mixed (text_form s).table ≡ Judgement.Refused r
+pub refused_text_table : (s buffer : List ℕ) (r : Refusal) → (text_form s).admission ≡ Ok tt
+    → judged_mixed (text_form s).table ≡ Err r
     → let f = from_text s buffer in
     (admission_said (text_read s).admission ≡ refusal_said r)
     × (writing_said f.said ≡ refusal_said r) × (f.buffer ≡ buffer)
@@ -92,7 +89,7 @@ unfolding text_read file_written
 refused_text_table s buffer r e f = rw (e, f) (refl, refl, refl)
 
 -- To write the text of a file: what the file is refused by when it is read, and the buffer stays as it was.
-pub refused_to_text : (file buffer : List ℕ) (r : Refusal) → (file_read file).admission ≡ Admission.Refused r
+pub refused_to_text : (file buffer : List ℕ) (r : Refusal) → (file_read file).admission ≡ Err r
     → let f = to_text file buffer in (writing_said f.said ≡ refusal_said r) × (f.buffer ≡ buffer)
 refused_to_text = told.refused_to_text
 

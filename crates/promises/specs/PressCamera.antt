@@ -1,14 +1,11 @@
 -- THE EXPORTED CALLS THAT TAKE PRESSES (section 5.6 of the specification): a refusal changes no byte and takes no press, and a
 -- camera's loop in a lent buffer is the history of which `Presses` speaks. On a file without buttons they are start and step.
-use Rattle.std.specs.Prelude.{◌≡◌, ◌⊎◌, List, Bool, false, not, ℕ, suc, ◌+◌, ◌*◌, ◌/◌, ◌%◌, min, ◌≤◌, ◌<◌, eqb, length}
+use Rattle.std.specs.Prelude.{◌≡◌, ◌⊎◌, List, Bool, false, not, ℕ, suc, ◌+◌, ◌*◌, ◌/◌, ◌%◌, min, ◌≤◌, ◌<◌, eqb, length, Ok, Err}
 use Rattle.std.proofs.Common.{inl, inr, eq-eqb}
 use Rattle.values.specs.declared.Table.{Table}
 use Rattle.values.specs.declared.Refusal.{Refusal}
 use Rattle.values.specs.declared.Measure.{Measure}
-use Rattle.values.specs.declared.Judgement.{Judgement}
-use Rattle.values.specs.declared.Admission.{Admission}
 use Rattle.values.specs.declared.Turn.{Turn}
-use Rattle.values.specs.declared.SlotAnswer.{SlotAnswer}
 use Rattle.model.specs.Limits.{task_limit, word_limit, slot_count_limit}
 use Rattle.model.specs.Values.{refusal}
 use Rattle.model.specs.Notation.{count, in_set}
@@ -34,7 +31,7 @@ strange_press_step_buffer file buffer done pressed e = rw (e, on_file)
 
 -- A file that is refused is refused as it is by the distance test, and a state as it is by the dispatcher's own step.
 pub refused_press_start : (file buffer : List ℕ) (r : Refusal) → length buffer ≡ state_bytes
-    → (file_read file).admission ≡ Admission.Refused r → press_start_exported file buffer ≡ refused r buffer
+    → (file_read file).admission ≡ Err r → press_start_exported file buffer ≡ refused r buffer
 unfolding started_mixed
 refused_press_start file buffer r size h = elim (refused_for file r h) [
   | inl f ↦ rw (eq-eqb (length buffer) state_bytes size, f, on_file)
@@ -42,7 +39,7 @@ refused_press_start file buffer r size h = elim (refused_for file r h) [
 ]
 
 pub refused_press_step : (file buffer : List ℕ) (done pressed : ℕ) (r : Refusal) → length buffer ≡ state_bytes
-    → (file_read file).admission ≡ Admission.Refused r → press_step_exported file buffer done pressed ≡ refused r buffer
+    → (file_read file).admission ≡ Err r → press_step_exported file buffer done pressed ≡ refused r buffer
 unfolding stepped_pressed admitted_mixed
 refused_press_step file buffer done pressed r size h = elim (refused_for file r h) [
   | inl f ↦ rw (eq-eqb (length buffer) state_bytes size, f, on_file)
@@ -50,16 +47,16 @@ refused_press_step file buffer done pressed r size h = elim (refused_for file r 
 ]
 
 pub refused_press_state : (file buffer : List ℕ) (done pressed : ℕ) (r : Refusal)
-    → length buffer ≡ state_bytes → (form_of file).admission ≡ Admission.Admitted
-    → (stepped_pressed (form_of file).table (state_in buffer) (not (eqb done 0)) pressed).answer ≡ SlotAnswer.Refused r
+    → length buffer ≡ state_bytes → (form_of file).admission ≡ Ok tt
+    → (stepped_pressed (form_of file).table (state_in buffer) (not (eqb done 0)) pressed).answer ≡ Err r
     → press_step_exported file buffer done pressed ≡ refused r buffer
 refused_press_state file buffer done pressed r size f g = rw (eq-eqb (length buffer) state_bytes size, f, on_file, g)
 
 -- And a state that the dispatcher's own step takes is taken: the presses that were not taken are returned above the owner,
 -- and the buffer holds the next state and what was told.
 pub taken_press_state : (file buffer : List ℕ) (done pressed : ℕ) (u : Turn)
-    → length buffer ≡ state_bytes → (form_of file).admission ≡ Admission.Admitted
-    → let s = stepped_pressed (form_of file).table (state_in buffer) (not (eqb done 0)) pressed in s.answer ≡ SlotAnswer.Slot u
+    → length buffer ≡ state_bytes → (form_of file).admission ≡ Ok tt
+    → let s = stepped_pressed (form_of file).table (state_in buffer) (not (eqb done 0)) pressed in s.answer ≡ Ok u
     → press_step_exported file buffer done pressed
     ≡ record { number = word_limit * s.untaken + u.owner; buffer = buffer_of s.state u }
 taken_press_state file buffer done pressed u size f g = rw (eq-eqb (length buffer) state_bytes size, f, on_file, g)
@@ -82,8 +79,8 @@ press_step_or_refusal = apart.press_step_apart
 -- A camera's loop with the file of a well-formed table of both sorts, any done reports and any presses: the start returns 0,
 -- and step n returns the presses that it did not take and the owner of slot n, and leaves the next state and what it told,
 -- for fewer than 2^64 steps.
-module _ (file : List ℕ) (t : Table) (m : Measure) (formed : (form_of file).admission ≡ Admission.Admitted)
-    (held : (form_of file).table ≡ t) (well : judged_mixed t ≡ Judgement.WellFormed m)
+module _ (file : List ℕ) (t : Table) (m : Measure) (formed : (form_of file).admission ≡ Ok tt)
+    (held : (form_of file).table ≡ t) (well : judged_mixed t ≡ Ok m)
     (lent : List ℕ) (size : length lent ≡ state_bytes) (done pressed : ℕ → ℕ) where
   abbrev reports : ℕ → Bool
   reports n = not (eqb (done n) 0)

@@ -1,15 +1,12 @@
 -- THE DISPATCHER OF TABLES WITH BUTTONS (ours, for T-13's tables): on a table that passes the distance test, under any presses and any done
 -- reports, every job that arrived is finished by its deadline; none is cut off, given too much or left waiting.
-use Rattle.std.specs.Prelude.{◌≡◌, ◌↔◌, Bool, true, false, not, ◌&&◌, ℕ, suc, ◌+◌, ◌≤◌, ◌<◌, T, ltb, eqb, length}
+use Rattle.std.specs.Prelude.{◌≡◌, ◌↔◌, Bool, true, false, not, ◌&&◌, ℕ, suc, ◌+◌, ◌≤◌, ◌<◌, T, ltb, eqb, length, Ok, Err}
 use Rattle.std.proofs.Math.Path.{refl}
 use Rattle.std.proofs.Common.{sym, ◌∙◌, arith}
 use borrow.Author.Tests.{eq-eqb, ne_eqb}
 use Rattle.values.specs.declared.Table.{Table}
 use Rattle.values.specs.declared.Refusal.{Refusal}
 use Rattle.values.specs.declared.Measure.{Measure}
-use Rattle.values.specs.declared.Judgement.{Judgement}
-use Rattle.values.specs.declared.Admission.{Admission}
-use Rattle.values.specs.declared.SlotAnswer.{SlotAnswer}
 use Rattle.values.specs.declared.DistanceAnswer.{DistanceAnswer}
 use Rattle.model.specs.Limits.{task_limit, slot_count_limit}
 use Rattle.model.specs.Notation.{count, in_set}
@@ -56,36 +53,36 @@ pub one_press_step : (t : Table) (d : Presses) (done : Bool) (pressed : ℕ) (a 
 one_press_step t d done pressed a b e f = one_pressed a b (e ∙ sym f)
 
 -- A start is refused as its table is. A refusal hands the state back as it came, and takes no press.
-pub press_refused_start : (t : Table) (d : State) (r : Refusal) → judged_mixed t ≡ Judgement.Refused r
-    → started_mixed t d ≡ record { admission = Admission.Refused r; state = d }
+pub press_refused_start : (t : Table) (d : State) (r : Refusal) → judged_mixed t ≡ Err r
+    → started_mixed t d ≡ record { admission = Err r; state = d }
 unfolding started_mixed
 press_refused_start t d r e = rw e refl
 
 pub press_refused_step : (t : Table) (d : State) (done : Bool) (pressed : ℕ) (r : Refusal)
-    → (stepped_pressed t d done pressed).answer ≡ SlotAnswer.Refused r
+    → (stepped_pressed t d done pressed).answer ≡ Err r
     → stepped_pressed t d done pressed ≡ refuse_pressed r d pressed
 press_refused_step = refused_keeps
 
 -- A state is admitted exactly if its table, of both sorts, is well-formed and no place of 8 fits it.
 pub press_admitted_exactly : (t : Table) (d : State)
-    → (admitted_mixed t d ≡ Admission.Admitted)
-    ↔ (((m : Measure) × (judged_mixed t ≡ Judgement.WellFormed m)) × Fitting t d)
+    → (admitted_mixed t d ≡ Ok tt)
+    ↔ (((m : Measure) × (judged_mixed t ≡ Ok m)) × Fitting t d)
 unfolding admitted_mixed
 press_admitted_exactly t d = admitted_by_iff t d (judged_mixed t)
 
 -- A step on any state: refused as the state is, refused by 9 if it can count no slot more, or taken.
 module _ (t : Table) (d : State) (done : Bool) (pressed : ℕ) where
-  pub press_strange : (r : Refusal) → admitted_mixed t d ≡ Admission.Refused r
+  pub press_strange : (r : Refusal) → admitted_mixed t d ≡ Err r
       → stepped_pressed t d done pressed ≡ refuse_pressed r d pressed
   unfolding stepped_pressed
   press_strange r e = rw e refl
 
-  pub press_full : admitted_mixed t d ≡ Admission.Admitted → slot_count t d ≡ slot_count_limit
+  pub press_full : admitted_mixed t d ≡ Ok tt → slot_count t d ≡ slot_count_limit
       → stepped_pressed t d done pressed ≡ refuse_pressed (refusal 9 0) d pressed
   unfolding stepped_pressed
   press_full e full = rw (e, eq-eqb (slot_count t d) slot_count_limit full) refl
 
-  pub press_taken_lem : admitted_mixed t d ≡ Admission.Admitted → slot_count t d < slot_count_limit
+  pub press_taken_lem : admitted_mixed t d ≡ Ok tt → slot_count t d < slot_count_limit
       → stepped_pressed t d done pressed ≡ press_taken t d done pressed
   unfolding stepped_pressed
   press_taken_lem e room = rw (e, ne_eqb (slot_count t d) slot_count_limit (λ f. absurd (omega arith))) refl
@@ -98,7 +95,7 @@ press_told = told_iff
 
 -- A state that 8 does not refuse leads to one that 8 does not refuse and that counts one slot more, whoever made it.
 pub press_taken_next : (t : Table) (m : Measure) (d : State) (done : Bool) (pressed : ℕ)
-    → judged_mixed t ≡ Judgement.WellFormed m → length d.wait ≡ task_limit → length d.left ≡ task_limit
+    → judged_mixed t ≡ Ok m → length d.wait ≡ task_limit → length d.left ≡ task_limit
     → length d.given ≡ task_limit → t.count ≤ first_strange t d → last_strange t d ≡ false
     → let next = after_come t d done (comes t d pressed) in
     (length next.wait ≡ task_limit) × (length next.left ≡ task_limit) × (length next.given ≡ task_limit)
@@ -111,13 +108,13 @@ press_taken_next t m d done pressed well waits lefts gives each ran =
 
 -- A history: a start on a well-formed table of both sorts, and steps with any done reports and any presses.
 -- `state_under t done pressed n` is the state after n steps, as many as can be counted; beyond, what the rules would give.
-module _ (t : Table) (m : Measure) (well : judged_mixed t ≡ Judgement.WellFormed m) (done : ℕ → Bool) (pressed : ℕ → ℕ)
+module _ (t : Table) (m : Measure) (well : judged_mixed t ≡ Ok m) (done : ℕ → Bool) (pressed : ℕ → ℕ)
   where
     abbrev ranged : Ranged t
     ranged = (well_mixed t m well).ranged
 
     pub press_starts : (d : State) → ◌≡◌ {A = Started} (started_mixed t d)
-        (record { admission = Admission.Admitted; state = state_under t done pressed 0 })
+        (record { admission = Ok tt; state = state_under t done pressed 0 })
     unfolding started_mixed state_under
     press_starts d = rw well refl
 
@@ -125,7 +122,7 @@ module _ (t : Table) (m : Measure) (well : judged_mixed t ≡ Judgement.WellForm
     -- for fewer than 2^64 steps; the next is refused by 9.
     pub press_never_refused : (n : ℕ) → n < slot_count_limit
         → ◌≡◌ {A = Pressed} (stepped_pressed t (state_under t done pressed n) (done n) (pressed n)) (record {
-          answer = SlotAnswer.Slot (turn_under t done pressed n);
+          answer = Ok (turn_under t done pressed n);
           untaken = not_taken t (state_under t done pressed n) (pressed n);
           state = state_under t done pressed (suc n);
         })
@@ -196,7 +193,7 @@ module _ (t : Table) (m : Measure) (well : judged_mixed t ≡ Judgement.WellForm
       press_none_idle = none_waits t ranged done pressed passes
 
 -- On a table without buttons it is document 01's dispatcher: its start, every step, and so its history.
-module _ (t : Table) (m : Measure) (well : judged t ≡ Judgement.WellFormed m) where
+module _ (t : Table) (m : Measure) (well : judged t ≡ Ok m) where
   pub press_starts_same : (d : State) → started_mixed t d ≡ started t d
   press_starts_same = periodic.start_same t ((periodic_iff t m).0 well).1
 

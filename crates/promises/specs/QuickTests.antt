@@ -1,13 +1,11 @@
 -- THE QUICK TEST (section 3.7 of the specification): pass is said only of tables that the exact test passes.
-use Rattle.std.specs.Prelude.{◌≡◌, refl, ◌⊎◌, ◌↔◌, List, [], ◌∷◌, cond, ℕ, ◌≤◌, ◌<◌, T}
+use Rattle.std.specs.Prelude.{◌≡◌, refl, ◌⊎◌, ◌↔◌, List, [], ◌∷◌, cond, ℕ, ◌≤◌, ◌<◌, T, Ok, Err}
 use Rattle.std.proofs.Common.{sym, ◌∙◌, inl, inr, arith}
 use Rattle.values.specs.declared.Table.{Table}
 use Rattle.values.specs.declared.Refusal.{Refusal}
 use Rattle.values.specs.declared.Measure.{Measure}
-use Rattle.values.specs.declared.Judgement.{Judgement}
 use Rattle.values.specs.declared.Verdict.{Verdict}
 use Rattle.values.specs.declared.QuickAnswer.{QuickAnswer}
-use Rattle.values.specs.declared.Admission.{Admission}
 use Rattle.model.specs.Limits.{slot_limit}
 use Rattle.model.specs.Values.{refusal_said, quick_said}
 use Rattle.model.specs.Tasks.{round, load, horizon, judged}
@@ -25,12 +23,12 @@ use Rattle.telling.specs.Quick.{quick_refuses, quick_either, quick_words, quick_
 use Rattle.promises.specs.FileNumbers.{Apart, read_file, refused_periodic, periodic_apart}
 
 -- A refused table is refused by its number and place; of any other 0 is said, with 1 for pass and with 0 for no answer.
-pub refused_quick : (t : Table) (r : Refusal) → judged t ≡ Judgement.Refused r
+pub refused_quick : (t : Table) (r : Refusal) → judged t ≡ Err r
     → quick_said (quick_answer t) ≡ refusal_said r
 unfolding quick_answer
 refused_quick t r e = rw e refl
 
-pub quick_said_lem : (t : Table) (m : Measure) → judged t ≡ Judgement.WellFormed m
+pub quick_said_lem : (t : Table) (m : Measure) → judged t ≡ Ok m
     → quick_said (quick_answer t) ≡ cond (quick_pass t) (0 ∷ 1 ∷ []) (0 ∷ 0 ∷ [])
 quick_said_lem = quick_words
 
@@ -42,7 +40,7 @@ quick_means_passes t e =
     let ((m, well), p) = quick_case t (judged t) e in quick_passes t (well_formed t m well).ranged p
 
 -- So does `quick_pass`, by which the line of a report is told (`quick_word`).
-pub quick_word_means : (t : Table) (m : Measure) → judged t ≡ Judgement.WellFormed m
+pub quick_word_means : (t : Table) (m : Measure) → judged t ≡ Ok m
     → T (quick_pass t) → (budget : ℕ) → horizon t ≤ budget → verdict t budget ≡ Verdict.Passes
 quick_word_means t m well = quick_passes t (well_formed t m well).ranged
 
@@ -58,13 +56,13 @@ quick_any_offsets t e start low =
 
 -- On overload there is no answer.
 pub quick_overload : (t : Table) (m : Measure)
-    → judged t ≡ Judgement.WellFormed m → round t < load t → quick_answer t ≡ QuickAnswer.NoAnswer
+    → judged t ≡ Ok m → round t < load t → quick_answer t ≡ QuickAnswer.NoAnswer
 unfolding quick_answer
 quick_overload t m well h = rw (well, is_false (quick_pass t) (λ p. absurd (omega (arith, quick_light t p)))) refl
 
 -- Exactly: it is said if the table with all offsets 0 has a good schedule, and then only.
 -- Else there is no answer: late is never said.
-pub quick_exactly : (t : Table) (m : Measure) → judged t ≡ Judgement.WellFormed m
+pub quick_exactly : (t : Table) (m : Measure) → judged t ≡ Ok m
     → ((quick_answer t ≡ QuickAnswer.Pass) ↔ ((σ : Schedule) × Good (simultaneous t) σ))
     × ((quick_answer t ≡ QuickAnswer.Pass) ⊎ (quick_answer t ≡ QuickAnswer.NoAnswer))
 unfolding quick_answer
@@ -77,10 +75,10 @@ quick_exactly t m well =
 -- A file that is refused, as it is by reading it or by 11 for a button, is refused so,
 -- and any other gives its table's answer: 1 for pass, 0 for none.
 pub refused_quick_file : (file : List ℕ) (r : Refusal)
-    → (periodic_from file).admission ≡ Admission.Refused r → quick_exported file ≡ refusal_number r
+    → (periodic_from file).admission ≡ Err r → quick_exported file ≡ refusal_number r
 refused_quick_file file = refused_periodic file (λ t. quick_number (quick_answer t)) quick_refuses
 
-pub read_quick_file : (file : List ℕ) → (file_read file).admission ≡ Admission.Admitted
+pub read_quick_file : (file : List ℕ) → (file_read file).admission ≡ Ok tt
     → quick_exported file ≡ quick_number (quick_answer (file_read file).table)
 read_quick_file file = read_file file (λ t. quick_number (quick_answer t))
 

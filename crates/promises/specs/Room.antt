@@ -1,14 +1,12 @@
 -- THE ROOM OF A TABLE WITH BUTTONS (section 3.12 of the specification): the number told passes the distance test, and no larger
 -- one within the deadline does; with lower costs the test still passes.
-use Rattle.std.specs.Prelude.{◌≡◌, ◌⊎◌, List, ℕ, ◌+◌, min, ◌≤◌, ◌<◌}
+use Rattle.std.specs.Prelude.{◌≡◌, ◌⊎◌, List, ℕ, ◌+◌, min, ◌≤◌, ◌<◌, Ok, Err}
 use Rattle.std.proofs.Common.{◌∙◌, inl, inr, arith}
 use Rattle.std.proofs.Math.Decide.{dec_lt}
 use borrow.Author.Tests.{le-ltb, lt-ltb}
 use Rattle.values.specs.declared.Table.{Table}
 use Rattle.values.specs.declared.Refusal.{Refusal}
 use Rattle.values.specs.declared.Measure.{Measure}
-use Rattle.values.specs.declared.Judgement.{Judgement}
-use Rattle.values.specs.declared.Admission.{Admission}
 use Rattle.values.specs.declared.DistanceAnswer.{DistanceAnswer}
 use Rattle.model.specs.Limits.{slot_limit}
 use Rattle.model.specs.Values.{refusal}
@@ -29,7 +27,7 @@ use Rattle.promises.specs.FileNumbers.{refused_file_lem, read_file}
 
 -- What the distance test passes it passes with costs alone lowered.
 pub lower_costs_pass : (t t' : Table) (m m' : Measure)
-    → judged_mixed t ≡ Judgement.WellFormed m → judged_mixed t' ≡ Judgement.WellFormed m' → Lowered t t'
+    → judged_mixed t ≡ Ok m → judged_mixed t' ≡ Ok m' → Lowered t t'
     → distance_answer t ≡ DistanceAnswer.Pass → distance_answer t' ≡ DistanceAnswer.Pass
 unfolding distance_answer
 lower_costs_pass t t' m m' well well' e pass =
@@ -37,7 +35,7 @@ lower_costs_pass t t' m m' well well' e pass =
     rw well' (distance_told t' m' (lowered_distance t t' (well_mixed t m well).ranged (well_mixed t' m' well').ranged e p))
 
 -- The table's refusal comes first, and then 12 for a number that is none of its tasks', at that number.
-pub room_refused : (t : Table) (i : ℕ) (r : Refusal) → judged_mixed t ≡ Judgement.Refused r → room_answer t i ≡ refusal_number r
+pub room_refused : (t : Table) (i : ℕ) (r : Refusal) → judged_mixed t ≡ Err r → room_answer t i ≡ refusal_number r
 unfolding room_answer
 room_refused t i r e = rw e
 
@@ -50,7 +48,7 @@ pub record RoomRight (t : Table) (i c : ℕ) : Type 0 where
   pub none_larger : (larger : ℕ) → c < larger → larger ≤ (task t i).deadline
       → distance_answer (with_cost t i larger) ≡ DistanceAnswer.Pass → ⊥
 
-module _ (t : Table) (m : Measure) (well : judged_mixed t ≡ Judgement.WellFormed m) (i : ℕ) where
+module _ (t : Table) (m : Measure) (well : judged_mixed t ≡ Ok m) (i : ℕ) where
   pub room_no_such_task : t.count ≤ i → room_answer t i ≡ refusal_number (refusal 12 i)
   unfolding room_answer
   room_no_such_task l = rw (well, le-ltb i t.count l)
@@ -75,10 +73,10 @@ one_room t i c d a b = elim (dec_lt c d) [
 
 -- A refused file is refused as by reading it; of any other its table is answered for.
 pub room_refused_file : (file : List ℕ) (i : ℕ) (r : Refusal)
-    → (file_read file).admission ≡ Admission.Refused r → room_exported file i ≡ refusal_number r
+    → (file_read file).admission ≡ Err r → room_exported file i ≡ refusal_number r
 room_refused_file file i = refused_file_lem file (λ t. room_answer t (min i 65535)) (λ t r e. room_refused t (min i 65535) r e)
 
-pub room_exported_lem : (file : List ℕ) (i : ℕ) → (file_read file).admission ≡ Admission.Admitted
+pub room_exported_lem : (file : List ℕ) (i : ℕ) → (file_read file).admission ≡ Ok tt
     → room_exported file i ≡ room_answer (file_read file).table (min i 65535)
 room_exported_lem file i = read_file file (λ t. room_answer t (min i 65535))
 

@@ -1,12 +1,10 @@
 -- THE HEADLINE OF TABLES WITH BUTTONS: where the exported distance test returns 1, a camera's loop over the same file finishes
 -- every job by its deadline, whenever its buttons are pressed and whatever is reported done, and tells the presses that it
 -- did not take.
-use Rattle.std.specs.Prelude.{◌≡◌, refl, ◌↔◌, List, [], ◌∷◌, ◌++◌, Bool, true, ℕ, suc, ◌+◌, ◌*◌, ◌/◌, ◌≤◌, ◌<◌, T, length}
+use Rattle.std.specs.Prelude.{◌≡◌, refl, ◌↔◌, List, [], ◌∷◌, ◌++◌, Bool, true, ℕ, suc, ◌+◌, ◌*◌, ◌/◌, ◌≤◌, ◌<◌, T, length, Ok}
 use Rattle.std.proofs.Common.{sym, ap, ◌∙◌, inl, inr, arith}
 use Rattle.values.specs.declared.Table.{Table}
 use Rattle.values.specs.declared.Measure.{Measure}
-use Rattle.values.specs.declared.Judgement.{Judgement}
-use Rattle.values.specs.declared.Admission.{Admission}
 use Rattle.values.specs.declared.Contents.{Contents}
 use Rattle.values.specs.declared.DistanceAnswer.{DistanceAnswer}
 use Rattle.model.specs.Limits.{task_limit, word_limit, slot_count_limit}
@@ -82,16 +80,16 @@ module _ (file : List ℕ) (one : distance_exported file ≡ 1)
   abbrev table : Table
   table = (file_read file).table
 
-  read : (file_read file).admission ≡ Admission.Admitted
+  read : (file_read file).admission ≡ Ok tt
   read = elim (distance_file_apart file) [ inl (h, l) ↦ h | inr (r, h, q, (a, b)) ↦ absurd (omega arith) ]
 
-  well : (m : Measure) × (judged_mixed table ≡ Judgement.WellFormed m)
+  well : (m : Measure) × (judged_mixed table ≡ Ok m)
   well = well_table file {l = file_read file} refl read
 
   pass : distance_answer table ≡ DistanceAnswer.Pass
   pass = distance_file_pass file one
 
-  formed : (form_of file).admission ≡ Admission.Admitted
+  formed : (form_of file).admission ≡ Ok tt
   formed = rw (← (admitted file read).0) read
 
   held : (form_of file).table ≡ table

@@ -1,11 +1,10 @@
 -- The specification's tables a to j, the budgets that it names, and the lamp (section 10):
 -- one statement over a list of them, by one computed test and a law.
-use Rattle.std.specs.Prelude.{◌≡◌, refl, List, [], ◌∷◌, map, ℕ}
+use Rattle.std.specs.Prelude.{◌≡◌, refl, List, [], ◌∷◌, map, ℕ, Ok}
 use Rattle.std.proofs.Common.{lit<}
 use Rattle.values.specs.declared.Table.{Table}
 use Rattle.values.specs.declared.Measure.{Measure}
 use Rattle.values.specs.declared.Verdict.{Verdict}
-use Rattle.values.specs.declared.Outcome.{Outcome}
 use Rattle.values.specs.declared.Answer.{Answer}
 use Rattle.model.specs.Values.{answer_said}
 use Rattle.model.specs.Notation.{sum, largest, count, first, last, fill}
@@ -31,10 +30,10 @@ measured round load horizon = record { round = round; load = load; horizon = hor
 
 abbrev passes : Measure → List ℕ → ℕ → Answer
 passes m worst idle =
-    record { outcome = Outcome.Tested Verdict.Passes; measure = m; settled = m.horizon; worst = worst; idle = idle }
+    record { outcome = Ok Verdict.Passes; measure = m; settled = m.horizon; worst = worst; idle = idle }
 
 abbrev told : Verdict → Measure → ℕ → Answer
-told v m settled = brief (Outcome.Tested v) m settled
+told v m settled = brief (Ok v) m settled
 
 abbrev row : Table → ℕ → Answer → Row
 row t budget a = record { table = t; budget = budget; answer = a }

@@ -1,11 +1,10 @@
 -- TIES (section 3.3 of the specification): how they go alters the run, the worst responses and the dispatcher,
 -- and nothing else. `verdict` with its interval, `settled_by` and the measures take no order of the tasks at all;
 -- of what else is told of a run, any two orders say the same.
-use Rattle.std.specs.Prelude.{◌≡◌, ◌↔◌, Bool, cond, not, ◌&&◌, ◌||◌, ℕ}
+use Rattle.std.specs.Prelude.{◌≡◌, ◌↔◌, Bool, cond, not, ◌&&◌, ◌||◌, ℕ, Ok}
 use Rattle.std.proofs.Math.Path.{ap}
 use Rattle.values.specs.declared.Table.{Table}
 use Rattle.values.specs.declared.Measure.{Measure}
-use Rattle.values.specs.declared.Judgement.{Judgement}
 use Rattle.model.specs.Notation.{some, every}
 use Rattle.model.specs.Tasks.{task, is_button, judged_mixed, judged}
 use Rattle.model.specs.Schedule.{Good}
@@ -29,7 +28,7 @@ pub record Alike (t : Table) (rank other : Order) : Type 0 where
   pub idle : (u : ℕ) → idle_at t rank u ≡ idle_at t other u
   pub first_idle_lem : first_idle t rank ≡ first_idle t other
 
-module _ (t : Table) (m : Measure) (well : judged t ≡ Judgement.WellFormed m) where
+module _ (t : Table) (m : Measure) (well : judged t ≡ Ok m) where
   pub ties_alter_nothing_else : (rank other : Order) → Alike t rank other
   ties_alter_nothing_else rank other =
       let r = (well_formed t m well).ranged in
@@ -54,7 +53,7 @@ calm_patterns_by rank t =
     (every (λ i. is_button (task t i) || calm_by rank (pattern t i)) t.count)
     (calm_by rank (simultaneous t))
 
-pub distance_any_order : (t : Table) (m : Measure) → judged_mixed t ≡ Judgement.WellFormed m → (rank : Order)
+pub distance_any_order : (t : Table) (m : Measure) → judged_mixed t ≡ Ok m → (rank : Order)
     → distance_pass t ≡ (light t && calm_patterns_by rank t)
 unfolding distance_pass
 distance_any_order t m well rank =

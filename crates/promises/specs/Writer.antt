@@ -1,14 +1,11 @@
 -- DEMAND 1 at the writer: a refusal changes no byte; what was written is read as the same budget and tasks,
 -- and what was read is written as the same bytes.
-use Rattle.std.specs.Prelude.{◌≡◌, refl, ◌⊎◌, List, [], ◌∷◌, ◌++◌, true, false, ℕ, min, ◌%◌, ◌≤◌, ◌<◌, eqb, length, get_or, take, drop}
+use Rattle.std.specs.Prelude.{◌≡◌, refl, ◌⊎◌, List, [], ◌∷◌, ◌++◌, true, false, ℕ, min, ◌%◌, ◌≤◌, ◌<◌, eqb, length, get_or, take, drop, Ok, Err}
 use Rattle.std.proofs.Common.{ap, ◌∙◌}
 use Rattle.values.specs.declared.Table.{Table}
 use Rattle.values.specs.declared.Refusal.{Refusal}
 use Rattle.values.specs.declared.Measure.{Measure}
-use Rattle.values.specs.declared.Judgement.{Judgement}
-use Rattle.values.specs.declared.Admission.{Admission}
 use Rattle.values.specs.declared.Contents.{Contents}
-use Rattle.values.specs.declared.Writing.{Writing}
 use Rattle.model.specs.Limits.{task_limit, budget_limit, longest_file}
 use Rattle.model.specs.Values.{refusal, refusal_said, writing_said}
 use Rattle.model.specs.Tasks.{task, judged_mixed}
@@ -20,20 +17,20 @@ use Rattle.writer.specs.RoundTrip as round
 use Rattle.writer.specs.Told as told
 
 -- A refused table is refused by its number and place, whatever the buffer, and the buffer stays as it was.
-pub refused_writing : (t : Table) (budget : ℕ) (buffer : List ℕ) (r : Refusal) → judged_mixed t ≡ Judgement.Refused r
+pub refused_writing : (t : Table) (budget : ℕ) (buffer : List ℕ) (r : Refusal) → judged_mixed t ≡ Err r
     → let f = file_written t budget buffer in (writing_said f.said ≡ refusal_said r) × (f.buffer ≡ buffer)
 unfolding file_written
 refused_writing t budget buffer r e = rw e (refl, refl)
 
 -- Then a budget of 0 is refused by 27 at 0, whatever the buffer, and the buffer stays as it was.
-pub nothing_writing : (t : Table) (m : Measure) (buffer : List ℕ) → judged_mixed t ≡ Judgement.WellFormed m
+pub nothing_writing : (t : Table) (m : Measure) (buffer : List ℕ) → judged_mixed t ≡ Ok m
     → let f = file_written t 0 buffer in (writing_said f.said ≡ 27 ∷ 0 ∷ []) × (f.buffer ≡ buffer)
 unfolding file_written
 nothing_writing t m buffer well = rw well (refl, refl)
 
 -- Then a buffer that is shorter than the file is refused by 31 at its length, and stays as it was.
 pub short_writing : (t : Table) (m : Measure) (budget : ℕ) (buffer : List ℕ)
-    → judged_mixed t ≡ Judgement.WellFormed m → 0 < budget
+    → judged_mixed t ≡ Ok m → 0 < budget
     → length buffer < length (file_of budget (tasks_of t))
     → let f = file_written t budget buffer in (writing_said f.said ≡ 31 ∷ length buffer ∷ []) × (f.buffer ≡ buffer)
 short_writing t m budget buffer well some h = rw (told.short_writing t m budget buffer well some h) (refl, refl)
@@ -41,7 +38,7 @@ short_writing t m budget buffer well some h = rw (told.short_writing t m budget 
 -- Any other gets the file at its front, of at most `longest_file` bytes, and its length is told;
 -- the bytes behind it stay as they were.
 pub long_writing : (t : Table) (m : Measure) (budget : ℕ) (buffer : List ℕ)
-    → judged_mixed t ≡ Judgement.WellFormed m → 0 < budget
+    → judged_mixed t ≡ Ok m → 0 < budget
     → length (file_of budget (tasks_of t)) ≤ length buffer
     → let f = file_written t budget buffer in
     let file = file_of budget (tasks_of t) in
@@ -52,9 +49,9 @@ long_writing t m budget buffer well some h =
 
 -- What was written is read: it is not refused, and has the same budget and the same tasks in their order.
 pub written_reads : (t : Table) (budget : ℕ) (buffer : List ℕ) (n : ℕ)
-    → budget < budget_limit → (file_written t budget buffer).said ≡ Writing.Bytes n
+    → budget < budget_limit → (file_written t budget buffer).said ≡ Ok n
     → let l = file_read (take n (file_written t budget buffer).buffer) in
-    (l.admission ≡ Admission.Admitted) × (l.budget ≡ budget) × (tasks_of l.table ≡ tasks_of t)
+    (l.admission ≡ Ok tt) × (l.budget ≡ budget) × (tasks_of l.table ≡ tasks_of t)
 written_reads t budget buffer n limit e =
     let same = round.written_reads t budget buffer n limit e in (
       ap (λ (l : Contents). l.admission) same,
@@ -64,9 +61,9 @@ written_reads t budget buffer n limit e =
 
 -- What was read from a file that is not refused is written as the same bytes, if the buffer is not shorter.
 pub read_writes : (file buffer : List ℕ)
-    → ((i : ℕ) → get_or file i 0 < 256) → (file_read file).admission ≡ Admission.Admitted → length file ≤ length buffer
+    → ((i : ℕ) → get_or file i 0 < 256) → (file_read file).admission ≡ Ok tt → length file ≤ length buffer
     → file_written (file_read file).table (file_read file).budget buffer
-    ≡ record { said = Writing.Bytes (length file); buffer = file ++ drop (length file) buffer }
+    ≡ record { said = Ok (length file); buffer = file ++ drop (length file) buffer }
 read_writes = told.read_writes
 
 -- From C: words that do not make whole rows are refused by 51 at their number, at most 65,535, whatever the rest.

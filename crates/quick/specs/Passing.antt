@@ -1,10 +1,9 @@
 -- Quick pass by its parts: the load, the bound, and the way down from it.
-use Rattle.std.specs.Prelude.{◌≡◌, Bool, true, false, ℕ, suc, ◌-◌, ◌*◌, ◌/◌, ◌≤◌, ◌<◌, min}
+use Rattle.std.specs.Prelude.{◌≡◌, Bool, true, false, ℕ, suc, ◌-◌, ◌*◌, ◌/◌, ◌≤◌, ◌<◌, min, Ok}
 use Rattle.std.proofs.Common.{sym, div-lt_iff_lt-mul, arith}
 use Rattle.std.proofs.Math.Decide.{dec_le}
 use Rattle.values.specs.declared.Table.{Table}
 use Rattle.values.specs.declared.Measure.{Measure}
-use Rattle.values.specs.declared.Judgement.{Judgement}
 use Rattle.model.specs.Notation.{every}
 use Rattle.model.specs.Tasks.{round, load, judged_mixed}
 use Rattle.model.specs.Patterns.{quick_pass}
@@ -39,7 +38,7 @@ module _ (t : Table) (r : Ranged t) (bound : ℕ) where
   pub too_much : (u : ℕ) → u ≤ bound → u < asked t u → false ≡ every (enough t) (suc bound)
   too_much u l h = one_fails (enough t) (suc bound) u (omega arith) (λ fits. absurd (omega (tests, fits)))
 
-module _ (t : Table) {m : Measure} (well : judged_mixed t ≡ Judgement.WellFormed m) where
+module _ (t : Table) {m : Measure} (well : judged_mixed t ≡ Ok m) where
   abbrev facts : WellFormed t m
   facts = well_mixed t m well
 

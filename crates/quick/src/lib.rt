@@ -1,8 +1,7 @@
 // The quick test: no overload, and with all tasks started at 0 no instant by which the jobs due ask for more slots than there are.
 #![tactic(auto)]
 
-ghost use Rattle.std.specs.Prelude.{◌≡◌, suc, ◌≤◌, ◌<◌};
-ghost use Rattle.values.specs.declared.Judgement.{Judgement};
+ghost use Rattle.std.specs.Prelude.{◌≡◌, suc, ◌≤◌, ◌<◌, Ok};
 ghost use Rattle.model.specs.Limits.{round_limit};
 ghost use Rattle.model.specs.Notation.{every};
 ghost use Rattle.model.specs.Tasks.{judged_mixed};
@@ -105,7 +104,7 @@ fn slack(t: Table, round: u64) -> u64
 
 // No instant beyond it, up to H, asks for too much: what the load leaves over has outgrown the slack.
 fn bound(t: Table, m: Measure) -> u64
-    requires t_value { judged_mixed t ≡ Judgement.WellFormed m }
+    requires t_value { judged_mixed t ≡ Ok m }
     requires load_le_round { m.load ≤ m.round }
     ensures { (result ≤ m.round) × EnoughBeyond t result }
 {
@@ -122,7 +121,7 @@ fn bound(t: Table, m: Measure) -> u64
 
 // No overload, and enough up to the bound. Of buttons too: what comes as it likes is worst if all comes at once.
 pub fn passes(t: Table, m: Measure) -> bool
-    requires { judged_mixed t ≡ Judgement.WellFormed m }
+    requires { judged_mixed t ≡ Ok m }
     ensures { result ≡ quick_pass t }
 {
     if m.round < m.load {
@@ -136,8 +135,8 @@ pub fn test(t: Table) -> QuickAnswer
     ensures { result ≡ quick_answer t }
 {
     match table::judge(t) {
-        Judgement::Refused(why) => QuickAnswer::Refused(why),
-        Judgement::WellFormed(m) => {
+        Err(why) => QuickAnswer::Refused(why),
+        Ok(m) => {
             if passes(t, m) {
                 QuickAnswer::Pass
             } else {

@@ -1,8 +1,8 @@
 -- The report of a permitted verdict fits a report buffer.
-use Rattle.std.specs.Prelude.{◌≡◌, refl, Bool, ℕ}
+use Rattle.model.specs.Values.{Judgement}
+use Rattle.std.specs.Prelude.{◌≡◌, refl, Bool, ℕ, Ok, Err}
 use Rattle.std.proofs.Common.{sym, subst}
 use Rattle.values.specs.declared.Table.{Table}
-use Rattle.values.specs.declared.Judgement.{Judgement}
 use Rattle.values.specs.declared.Answer.{Answer}
 use Rattle.model.specs.Tasks.{judged}
 use Rattle.model.specs.Verdict.{verdict, PermittedBy, Permitted}
@@ -17,7 +17,7 @@ unfolding Permitted
 permitted_fits t budget quick a p = go (judged t) refl p (judged_tellable t)
   where
     go : (j : Judgement) → judged t ≡ j → PermittedBy t budget a j → JudgementTellable j → Fitting t.count quick a a.outcome
-    go (Judgement.Refused r) q f h = rw f h
-    go (Judgement.WellFormed m) q f h =
+    go (Err r) q f h = rw f h
+    go (Ok m) q f h =
         subst (Fitting t.count quick a) (sym (answers_say t budget m a (verdict t budget) f).0)
         (fits t.count quick a (verdict t budget) (printable t m (well_formed t m q) budget a (verdict t budget) refl f))

@@ -1,12 +1,11 @@
 -- What a permitted answer tells: a refusal of which number and place can be told, or a verdict whose report fits a report buffer.
-use Rattle.std.specs.Prelude.{◌≡◌, refl, Bool, List, ℕ, ◌^◌, ◌≤◌, ◌<◌, length, get_or, T}
+use Rattle.model.specs.Values.{Judgement, Outcome}
+use Rattle.std.specs.Prelude.{◌≡◌, refl, Bool, List, ℕ, ◌^◌, ◌≤◌, ◌<◌, length, get_or, T, Ok, Err}
 use Rattle.std.proofs.Common.{ap, subst, arith}
 use Rattle.std.proofs.lemmas.List.{get_or-replicate}
 use Rattle.values.specs.declared.Table.{Table}
 use Rattle.values.specs.declared.Measure.{Measure}
-use Rattle.values.specs.declared.Judgement.{Judgement}
 use Rattle.values.specs.declared.Verdict.{Verdict}
-use Rattle.values.specs.declared.Outcome.{Outcome}
 use Rattle.values.specs.declared.Answer.{Answer}
 use Rattle.model.specs.Limits.{task_limit, report_bytes}
 use Rattle.model.specs.Tasks.{round, load, horizon, judged}
@@ -69,7 +68,7 @@ module _ (t : Table) (m : Measure) (well : WellFormed t m) where
     settled_wide = omega (arith, well.horizon_le, (verdict_wide (verdict t budget) (settled_by t budget) (the_case t budget)).1)
 
     -- Each number of a permitted answer is as wide as the type that holds it.
-    brief_printable : (v : Verdict) → VerdictWide v → Printable t.count (brief (Outcome.Tested v) m (settled_by t budget)) v
+    brief_printable : (v : Verdict) → VerdictWide v → Printable t.count (brief (Ok v) m (settled_by t budget)) v
     brief_printable v w = record {
       tasks = well.ranged.few;
       load = rw well.load_is load_wide;
@@ -100,18 +99,18 @@ module _ (t : Table) (m : Measure) (well : WellFormed t m) where
         go Verdict.Undecided e f x = rw f (brief_printable Verdict.Undecided x)
 
 -- So is each number of a permitted answer with a verdict.
-pub permitted_printable : (t : Table) (budget : ℕ) (a : Answer) (v : Verdict) → a.outcome ≡ Outcome.Tested v → Permitted t budget a → Printable t.count a v
+pub permitted_printable : (t : Table) (budget : ℕ) (a : Answer) (v : Verdict) → a.outcome ≡ Ok v → Permitted t budget a → Printable t.count a v
 unfolding Permitted
 permitted_printable t budget a v o p = go (judged t) refl p
   where
     go : (j : Judgement) → judged t ≡ j → PermittedBy t budget a j → Printable t.count a v
-    go (Judgement.Refused r) q f = let z : ◌≡◌ {A = ℕ} 0 1 = cc (ap (λ (x : Answer). x.outcome) f) in absurd (omega arith)
-    go (Judgement.WellFormed m) q f =
+    go (Err r) q f = let z : ◌≡◌ {A = ℕ} 0 1 = cc (ap (λ (x : Answer). x.outcome) f) in absurd (omega arith)
+    go (Ok m) q f =
         let says = (answers_say t budget m a (verdict t budget) f).0 in
         let same : verdict t budget ≡ v = cc in
         subst (Printable t.count a) same (printable t m (well_formed t m q) budget a (verdict t budget) refl f)
 
 -- A refusal is tellable, and the report of a verdict fits.
 abbrev pub Fitting : ℕ → Bool → Answer → Outcome → Type 0
-Fitting n quick a (Outcome.Refused r) = Tellable r
-Fitting n quick a (Outcome.Tested v) = length (report_of n quick a v) ≤ report_bytes
+Fitting n quick a (Err r) = Tellable r
+Fitting n quick a (Ok v) = length (report_of n quick a v) ≤ report_bytes

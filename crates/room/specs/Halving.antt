@@ -1,9 +1,8 @@
 -- What holds of the range of costs before each trial.
-use Rattle.std.specs.Prelude.{◌≡◌, true, false, ℕ, suc, ◌+◌, ◌≤◌, ◌<◌, T}
+use Rattle.std.specs.Prelude.{◌≡◌, true, false, ℕ, suc, ◌+◌, ◌≤◌, ◌<◌, T, Ok}
 use Rattle.std.proofs.Common.{sym, arith}
 use Rattle.values.specs.declared.Table.{Table}
 use Rattle.values.specs.declared.Measure.{Measure}
-use Rattle.values.specs.declared.Judgement.{Judgement}
 use Rattle.values.specs.declared.DistanceAnswer.{DistanceAnswer}
 use Rattle.model.specs.Tasks.{task, judged_mixed}
 use Rattle.model.specs.Patterns.{distance_answer}
@@ -14,7 +13,7 @@ use Rattle.patterns.proofs.Room.{own_room, room_is}
 
 -- A table that is not refused, with its measure.
 abbrev pub Well : Table → Type 0
-Well t = (m : Measure) × (judged_mixed t ≡ Judgement.WellFormed m)
+Well t = (m : Measure) × (judged_mixed t ≡ Ok m)
 
 pub ranged_of : (t : Table) → Well t → Ranged t
 ranged_of t (m, well) = (well_mixed t m well).ranged

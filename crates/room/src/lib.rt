@@ -72,8 +72,8 @@ pub fn room_number(t: Table, task: u32) -> u64
     ensures { result ≡ room_answer t task }
 {
     match table::admit_mixed(t) {
-        Admission::Refused(why) => numbers::refusal_number(why),
-        Admission::Admitted => {
+        Err(why) => numbers::refusal_number(why),
+        Ok(()) => {
             let i = task as usize;
             if i < t.count {
                 told(t, i)

@@ -1,5 +1,5 @@
 -- Each answer is given exactly where it is meant: what a camera writes is read as such, and there is one answer to a log.
-use Rattle.std.specs.Prelude.{◌≡◌, ◌⊎◌, ◌↔◌, Bool, ◌&&◌, ◌||◌, ltb}
+use Rattle.std.specs.Prelude.{◌≡◌, ◌⊎◌, ◌↔◌, Bool, ◌&&◌, ◌||◌, ltb, Ok}
 use Rattle.std.proofs.Math.Path.{refl, ap}
 use Rattle.std.proofs.Common.{sym, subst, ◌∙◌, inl, inr}
 use mathlib.Core.List.{List, [], ◌∷◌, ◌++◌, flatten}
@@ -12,7 +12,6 @@ use Rattle.std.proofs.Math.Dec.{eqb}
 use Rattle.std.proofs.Math.ListN.{length, length-append}
 use Rattle.values.specs.declared.Table.{Table}
 use Rattle.values.specs.declared.Measure.{Measure}
-use Rattle.values.specs.declared.Judgement.{Judgement}
 use Rattle.values.specs.declared.Finding.{Finding}
 use Rattle.model.specs.Limits.{task_limit, log_limit}
 use Rattle.model.specs.Tasks.{judged}
@@ -286,7 +285,7 @@ module _ (t : Table) (few : t.count ≤ task_limit) (log : List ℕ) where
   found_iff f = (λ e. subst (Found t log) e (end_means t few log (read_all t (unread (start_of t)) log) (reads t few log)), found_only)
 
 -- The whole judge, on any pieces of a log and a well-formed table, gives an answer exactly where it is meant.
-pub judged_iff : (t : Table) (m : Measure) → judged t ≡ Judgement.WellFormed m → (l : Log) (pieces : List (List ℕ)) (f : Finding)
+pub judged_iff : (t : Table) (m : Measure) → judged t ≡ Ok m → (l : Log) (pieces : List (List ℕ)) (f : Finding)
     → ((log_judged t l pieces).log.found ≡ f) ↔ Found t (flatten pieces) f
 judged_iff t m well l pieces f =
     (λ e. (found_iff t few (flatten pieces) f).0 (sym same ∙ e), λ h. same ∙ found_only t few (flatten pieces) h)

@@ -1,9 +1,8 @@
 -- One byte, by what the code makes of it: a slot's record is whole, or it is not.
-use Rattle.std.specs.Prelude.{◌≡◌, refl, ◌≢◌, Bool, true, false, cond, ◌&&◌, ◌||◌, List, ℕ, ◌+◌, ◌≤◌, ◌<◌, eqb, ltb, length, get_or, take, drop}
+use Rattle.std.specs.Prelude.{◌≡◌, refl, ◌≢◌, Bool, true, false, cond, ◌&&◌, ◌||◌, List, ℕ, ◌+◌, ◌≤◌, ◌<◌, eqb, ltb, length, get_or, take, drop, Ok}
 use Rattle.std.proofs.Common.{sym, ◌∙◌, add-one, arith, ne_eqb, eqb-true, take-append-drop, take-suc, take_all}
 use Rattle.std.proofs.Math.Path.{ap}
 use Rattle.values.specs.declared.Table.{Table}
-use Rattle.values.specs.declared.Admission.{Admission}
 use Rattle.values.specs.declared.Finding.{Finding}
 use Rattle.model.specs.Limits.{task_limit, log_limit}
 use Rattle.model.specs.Dispatcher.{State, after}
@@ -168,7 +167,7 @@ pub still : (t : Table) (l : Log) (b : ℕ) {next : Log} → Readable t l → ne
 still t l b r e = rw e (record { ranged = r.ranged; fits = fits_byte t r.ranged l r.fits b })
 
 -- One that is admitted is such a log.
-pub readable : (t : Table) (l : Log) → Sized l.state → log_admitted t l ≡ Admission.Admitted → Readable t l
+pub readable : (t : Table) (l : Log) → Sized l.state → log_admitted t l ≡ Ok tt → Readable t l
 readable t l size e = let ((m, well), f) = (log_admitted_iff t l size).0 e in record { ranged = (well_formed t m well).ranged; fits = f }
 
 -- The bytes of a piece below `at` are read, and another may be.

@@ -1,11 +1,10 @@
 -- A log that is admitted stays admitted, byte by byte, whoever made it.
-use Rattle.std.specs.Prelude.{◌≡◌, refl, ◌↔◌, List, [], ◌∷◌, Bool, true, false, cond, not, ◌&&◌, ◌||◌, ℕ, ◌≤◌, ◌<◌, eqb, ltb, length}
+use Rattle.model.specs.Values.{Admission}
+use Rattle.std.specs.Prelude.{◌≡◌, refl, ◌↔◌, List, [], ◌∷◌, Bool, true, false, cond, not, ◌&&◌, ◌||◌, ℕ, ◌≤◌, ◌<◌, eqb, ltb, length, Ok, Err}
 use Rattle.std.proofs.Math.Decide.{ℕ_discrete}
 use Rattle.std.proofs.Common.{arith, eq-eqb, ne_eqb, eqb-true, le-ltb, ltb-false, lit≤}
 use Rattle.values.specs.declared.Table.{Table}
 use Rattle.values.specs.declared.Measure.{Measure}
-use Rattle.values.specs.declared.Judgement.{Judgement}
-use Rattle.values.specs.declared.Admission.{Admission}
 use Rattle.values.specs.declared.Finding.{Finding}
 use Rattle.model.specs.Limits.{task_limit, log_limit}
 use Rattle.model.specs.Tasks.{judged}
@@ -44,15 +43,15 @@ miscounted_iff t l = (
     fwd true true c p q s e = let z : ◌≡◌ {A = ℕ} 0 1 = cc in absurd (omega arith)
     fwd true false true p q s e = let z : ◌≡◌ {A = ℕ} 0 1 = cc in absurd (omega arith)
 
-pub log_admitted_iff : (t : Table) (l : Log) → Sized l.state → (log_admitted t l ≡ Admission.Admitted)
-    ↔ (((m : Measure) × (judged t ≡ Judgement.WellFormed m)) × Fits t l)
+pub log_admitted_iff : (t : Table) (l : Log) → Sized l.state → (log_admitted t l ≡ Ok tt)
+    ↔ (((m : Measure) × (judged t ≡ Ok m)) × Fits t l)
 unfolding log_admitted
 log_admitted_iff t l size = (fwd (admitted t l.state) refl, bwd)
   where
-    fwd : (a : Admission) → admitted t l.state ≡ a → log_admitted_by t l a ≡ Admission.Admitted
-        → ((m : Measure) × (judged t ≡ Judgement.WellFormed m)) × Fits t l
-    fwd (Admission.Refused r) e h = let z : ◌≡◌ {A = ℕ} 0 1 = cc in absurd (omega arith)
-    fwd Admission.Admitted e h =
+    fwd : (a : Admission) → admitted t l.state ≡ a → log_admitted_by t l a ≡ Ok tt
+        → ((m : Measure) × (judged t ≡ Ok m)) × Fits t l
+    fwd (Err r) e h = let z : ◌≡◌ {A = ℕ} 0 1 = cc in absurd (omega arith)
+    fwd (Ok u) e h =
         let s = (admitted_iff t l.state).0 e in
         let (a, b, c) = (miscounted_iff t l).0 (unrefused (miscounted t l) _ h).0 in (
           (s.measure, s.well),
@@ -70,7 +69,7 @@ log_admitted_iff t l size = (fwd (admitted t l.state) refl, bwd)
           },
         )
 
-    bwd : ((m : Measure) × (judged t ≡ Judgement.WellFormed m)) × Fits t l → log_admitted_by t l (admitted t l.state) ≡ Admission.Admitted
+    bwd : ((m : Measure) × (judged t ≡ Ok m)) × Fits t l → log_admitted_by t l (admitted t l.state) ≡ Ok tt
     bwd ((m, well), f) =
         let room : slot_count t l.state ≤ log_limit = omega (arith, f.counted, f.slots_le, f.bytes_le) in
         rw (

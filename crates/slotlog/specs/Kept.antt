@@ -1,5 +1,5 @@
 -- What a log keeps from a start on: the state of some history of as many slots, and nothing found but what can be told in two words.
-use Rattle.std.specs.Prelude.{◌≡◌, refl, false, eqb}
+use Rattle.std.specs.Prelude.{◌≡◌, refl, false, eqb, Ok}
 use Rattle.std.proofs.Math.Path.{ap}
 use Rattle.std.proofs.Common.{◌∙◌, add-one, arith}
 use mathlib.Core.List.{List, [], ◌∷◌}
@@ -8,7 +8,6 @@ use Prim.Native.Nat.{ℕ, ◌+◌, ◌≤◌}
 use borrow.Author.Tests.{eq-eqb, ne_eqb}
 use Rattle.values.specs.declared.Table.{Table}
 use Rattle.values.specs.declared.Measure.{Measure}
-use Rattle.values.specs.declared.Judgement.{Judgement}
 use Rattle.values.specs.declared.Finding.{Finding}
 use Rattle.model.specs.Limits.{log_limit}
 use Rattle.model.specs.Tasks.{judged}
@@ -65,7 +64,7 @@ module _ (t : Table) (r : Ranged t) where
   kept_all l [] k = k
   kept_all l (b ∷ s) k = kept_all (read_byte t l b) s (kept_byte l b k)
 
-pub kept : (t : Table) (m : Measure) → judged t ≡ Judgement.WellFormed m → (s : List ℕ) → Kept t (read_all t (unread (start_of t)) s)
+pub kept : (t : Table) (m : Measure) → judged t ≡ Ok m → (s : List ℕ) → Kept t (read_all t (unread (start_of t)) s)
 unfolding state_at_by
 kept t m well s =
     kept_all t (well_formed t m well).ranged (unread (start_of t)) s (record { done = λ k. false; state = refl; told = tt; fits = start_fits t m well })

@@ -1,9 +1,8 @@
 // The judge of a camera's log, in pieces cut anywhere: any table, any state and any bytes.
 #![tactic(auto)]
 
-ghost use Rattle.std.specs.Prelude.{◌≡◌, false, true, cond, not, ◌&&◌, ◌||◌, ◌-◌, ◌≤◌, ◌<◌, ltb, eqb, length};
+ghost use Rattle.std.specs.Prelude.{◌≡◌, false, true, cond, not, ◌&&◌, ◌||◌, ◌-◌, ◌≤◌, ◌<◌, ltb, eqb, length, Ok};
 ghost use Rattle.values.specs.declared.Table.{Table};
-ghost use Rattle.values.specs.declared.Admission.{Admission};
 ghost use Rattle.values.specs.declared.Finding.{Finding};
 ghost use Rattle.model.specs.Limits.{log_limit};
 ghost use Rattle.model.specs.Log.{Log as LogState, unread, log_started, fed, log_finished, log_admitted, at_end, read_all};
@@ -59,14 +58,14 @@ impl Log {
         let started = dispatcher.start(t);
         let admission = started.admission;
         match admission {
-            Admission::Refused(why) => Fed {
-                admission: Admission::Refused(why),
+            Err(why) => Fed {
+                admission: Err(why),
                 log: self,
             },
-            Admission::Admitted => {
+            Ok(()) => {
                 let first = started.dispatcher;
                 Fed {
-                    admission: Admission::Admitted,
+                    admission: Ok(()),
                     log: unread(first.state),
                 }
             }
@@ -77,12 +76,12 @@ impl Log {
         ensures { fed_of result ≡ fed t (log_state_of self) piece.now }
     {
         match admission(self, t) {
-            Admission::Refused(why) => Fed {
-                admission: Admission::Refused(why),
+            Err(why) => Fed {
+                admission: Err(why),
                 log: self,
             },
-            Admission::Admitted => Fed {
-                admission: Admission::Admitted,
+            Ok(()) => Fed {
+                admission: Ok(()),
                 log: read_all(self, t, piece),
             },
         }
@@ -93,12 +92,12 @@ impl Log {
         ensures { fed_of result ≡ log_finished t (log_state_of self) }
     {
         match admission(self, t) {
-            Admission::Refused(why) => Fed {
-                admission: Admission::Refused(why),
+            Err(why) => Fed {
+                admission: Err(why),
                 log: self,
             },
-            Admission::Admitted => Fed {
-                admission: Admission::Admitted,
+            Ok(()) => Fed {
+                admission: Ok(()),
                 log: close(self),
             },
         }
@@ -126,23 +125,23 @@ fn admission(log: Log, t: Table) -> Admission
     ensures { result ≡ log_admitted t (log_state_of log) }
 {
     match table::admit(t) {
-        Admission::Refused(why) => Admission::Refused(why),
-        Admission::Admitted => {
+        Err(why) => Err(why),
+        Ok(()) => {
             let state = log.state;
             match belonging::belonging(state, t) {
-                Room::Refused(why) => Admission::Refused(why),
+                Room::Refused(why) => Err(why),
                 Room::Slots(room) => {
                     if miscounted(
                         log.reading.slots,
                         log.reading.bytes,
                         SLOT_COUNT_LIMIT - room,
                     ) {
-                        return Admission::Refused(Refusal {
+                        return Err(Refusal {
                             number: STRANGE_STATE,
                             place: COUNT_PLACE,
                         });
                     }
-                    Admission::Admitted
+                    Ok(())
                 }
             }
         }
@@ -192,7 +191,7 @@ fn at_end(bytes: u64, found: Finding) -> Finding
 
 // The table is unpacked once for all bytes of the piece.
 fn read_all(log: Log, t: Table, piece: &[u8]) -> Log
-    requires { log_admitted t (log_state_of log) ≡ Admission.Admitted }
+    requires { log_admitted t (log_state_of log) ≡ Ok tt }
     ensures { log_state_of result ≡ read_all t (log_state_of log) piece.now }
 {
     let columns = slots::unpack(t);

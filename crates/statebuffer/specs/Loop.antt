@@ -1,5 +1,5 @@
 -- A camera's own loop: a start and steps in one buffer are the dispatcher's history, for as long as its slots can be counted.
-use Rattle.std.specs.Prelude.{◌≡◌, List, Bool, not, eqb, length, get_or, replicate}
+use Rattle.std.specs.Prelude.{◌≡◌, List, Bool, not, eqb, length, get_or, replicate, Ok}
 use Rattle.std.proofs.Math.Path.{refl, ap}
 use Rattle.std.proofs.Common.{sym, ◌∙◌, eq-eqb}
 use Rattle.std.proofs.Math.Logic.{inl, inr}
@@ -9,8 +9,6 @@ use native.Mathlib.Omega.{arith}
 use Rattle.std.proofs.lemmas.List.{length-replicate}
 use Rattle.values.specs.declared.Table.{Table}
 use Rattle.values.specs.declared.Measure.{Measure}
-use Rattle.values.specs.declared.Judgement.{Judgement}
-use Rattle.values.specs.declared.Admission.{Admission}
 use Rattle.values.specs.declared.Turn.{Turn}
 use Rattle.model.specs.Limits.{task_limit, word_limit, budget_limit, slot_count_limit}
 use Rattle.model.specs.Notation.{count}
@@ -89,12 +87,12 @@ told_small t d done owner = (
 )
 
 -- A file whose form is good and a buffer of the right length lead to the table.
-pub on_table : (bytes : ℕ) (file buffer : List ℕ) (t : Table) (go : Table → Exported) → (form_of file).admission ≡ Admission.Admitted
+pub on_table : (bytes : ℕ) (file buffer : List ℕ) (t : Table) (go : Table → Exported) → (form_of file).admission ≡ Ok tt
     → (form_of file).table ≡ t → length buffer ≡ bytes → on_file bytes file buffer go ≡ go t
 on_table bytes file buffer t go formed held size = rw (eq-eqb (length buffer) bytes size, formed, held, on_file)
 
-module _ (file : List ℕ) (t : Table) (m : Measure) (formed : (form_of file).admission ≡ Admission.Admitted) (held : (form_of file).table ≡ t)
-    (well : judged t ≡ Judgement.WellFormed m) (lent : List ℕ) (size : length lent ≡ state_bytes) (done : ℕ → ℕ) where
+module _ (file : List ℕ) (t : Table) (m : Measure) (formed : (form_of file).admission ≡ Ok tt) (held : (form_of file).table ≡ t)
+    (well : judged t ≡ Ok m) (lent : List ℕ) (size : length lent ≡ state_bytes) (done : ℕ → ℕ) where
   r : Ranged t
   r = (well_formed t m well).ranged
 

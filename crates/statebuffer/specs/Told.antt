@@ -1,16 +1,13 @@
 -- What an exported call returns tells whether it refused, and why; a refusal changes no byte of the buffer.
-use Rattle.std.specs.Prelude.{◌≡◌, refl, ◌⊎◌, List, Bool, true, false, cond, not, ℕ, min, ◌≤◌, ◌<◌, eqb, ltb, length}
+use Rattle.std.specs.Prelude.{◌≡◌, refl, ◌⊎◌, List, Bool, true, false, cond, not, ℕ, min, ◌≤◌, ◌<◌, eqb, ltb, length, Ok, Err}
 use Rattle.std.proofs.Common.{inl, inr, arith, ltb-true}
 use Rattle.values.specs.declared.Table.{Table}
 use Rattle.values.specs.declared.Refusal.{Refusal}
 use Rattle.values.specs.declared.Measure.{Measure}
-use Rattle.values.specs.declared.Judgement.{Judgement}
-use Rattle.values.specs.declared.Admission.{Admission}
-use Rattle.values.specs.declared.SlotAnswer.{SlotAnswer}
 use Rattle.model.specs.Limits.{task_limit, slot_count_limit, sum_place}
 use Rattle.model.specs.Tasks.{judged}
 use Rattle.model.specs.TableFile.{form_of}
-use Rattle.model.specs.Values.{refusal}
+use Rattle.model.specs.Values.{refusal, Judgement, Admission}
 use Rattle.model.specs.Run.{tie_order}
 use Rattle.model.specs.Dispatcher.{State, slot_count, first_strange, last_strange, admitted_by, admitted, after, turn, turn_by, start_judged, started}
 use Rattle.model.specs.Dispatcher.{refuse_step, step_admitted_by, stepped, stepped_by}
@@ -37,15 +34,15 @@ TakenStep t e = (e.number ≤ task_limit) × ((e.number ≡ task_limit) ⊎ (e.n
 -- The buffer and the form are looked at first.
 module _ (Taken : Exported → Type 0) (bytes : ℕ) (file buffer : List ℕ) (go : Table → Exported) (h : Apart Taken buffer (go (form_of file).table)) where
   admission_apart : (a : Admission) → AdmissionTellable a → Apart Taken buffer
-      (elim a [ Admission.Refused r ↦ refused r buffer | Admission.Admitted ↦ go (form_of file).table ])
-  admission_apart (Admission.Refused r) n = inr (r, refl, n)
-  admission_apart Admission.Admitted n = h
+      (elim a [ Err r ↦ refused r buffer | Ok _ ↦ go (form_of file).table ])
+  admission_apart (Err r) n = inr (r, refl, n)
+  admission_apart (Ok u) n = h
 
   pub file_apart : Apart Taken buffer (on_file bytes file buffer go)
   file_apart = admission_apart (cond (eqb (length buffer) bytes) (form_of file).admission strange) (tellable (eqb (length buffer) bytes))
     where
       strange : Admission
-      strange = Admission.Refused (record { number = 50; place = min (length buffer) 65535 })
+      strange = Err (record { number = 50; place = min (length buffer) 65535 })
 
       tellable : (whole : Bool) → AdmissionTellable (cond whole (form_of file).admission strange)
       tellable true = form_tellable file
@@ -59,8 +56,8 @@ start_apart file buffer =
   where
     by : (t : Table) (j : Judgement) → JudgementTellable j → let s = start_judged t (state_in buffer) j in
         Apart TakenStart buffer (start_written buffer s.state s.admission)
-    by t (Judgement.Refused r) n = inr (r, refl, n)
-    by t (Judgement.WellFormed m) n = inl refl
+    by t (Err r) n = inr (r, refl, n)
+    by t (Ok m) n = inl refl
 
 -- The owner of a slot is a task or none.
 owner_range : (t : Table) (d : State) (done : Bool) → t.count ≤ task_limit → let k = (turn t d done).owner in (k ≤ task_limit)
@@ -73,14 +70,14 @@ owner_range t d done few = go (owner_one t (tie_order t) d done few)
     go (inr l) = (omega arith, inr l)
 
 -- The refusal of a state is tellable, by what its table is judged to be.
-pub state_tellable : (t : Table) (d : State) (j : Judgement) → ((m : Measure) → j ≡ Judgement.WellFormed m → t.count ≤ task_limit) → JudgementTellable j
+pub state_tellable : (t : Table) (d : State) (j : Judgement) → ((m : Measure) → j ≡ Ok m → t.count ≤ task_limit) → JudgementTellable j
     → AdmissionTellable (admitted_by t d j)
-state_tellable t d (Judgement.Refused r) few n = n
-state_tellable t d (Judgement.WellFormed m) few n = go (ltb (first_strange t d) t.count) (last_strange t d) (ltb slot_count_limit (slot_count t d)) refl
+state_tellable t d (Err r) few n = n
+state_tellable t d (Ok m) few n = go (ltb (first_strange t d) t.count) (last_strange t d) (ltb slot_count_limit (slot_count t d)) refl
   where
     go : (a b c : Bool) → ltb (first_strange t d) t.count ≡ a → AdmissionTellable
-        (cond a (Admission.Refused (refusal 8 (first_strange t d)))
-        (cond b (Admission.Refused (refusal 8 task_limit)) (cond c (Admission.Refused (refusal 8 sum_place)) Admission.Admitted)))
+        (cond a (Err (refusal 8 (first_strange t d)))
+        (cond b (Err (refusal 8 task_limit)) (cond c (Err (refusal 8 sum_place)) (Ok tt))))
     go true b c p = (omega arith, omega (arith, few m refl, ltb-true (first_strange t d) t.count p))
     go false true c p = (omega arith, omega arith)
     go false false true p = (omega arith, omega arith)
@@ -100,14 +97,14 @@ step_apart file buffer done =
   where
     by : (t : Table) (d : State) (report : Bool) (a : Admission) → admitted t d ≡ a → AdmissionTellable a
         → let s = step_admitted_by t (tie_order t) d report a in Apart (TakenStep t) buffer (step_written buffer s.state s.answer)
-    by t d report (Admission.Refused r) e n = inr (r, refl, n)
-    by t d report Admission.Admitted e n = go (eqb (slot_count t d) slot_count_limit)
+    by t d report (Err r) e n = inr (r, refl, n)
+    by t d report (Ok u) e n = go (eqb (slot_count t d) slot_count_limit)
       where
         few : t.count ≤ task_limit
         few = let a = (admitted_iff t d).0 e in (well_formed t a.measure a.well).ranged.few
 
         go : (full : Bool) → let s = cond full (refuse_step (refusal 9 0) d)
-            (record { answer = SlotAnswer.Slot (turn t d report); state = after t d report }) in Apart (TakenStep t) buffer
+            (record { answer = Ok (turn t d report); state = after t d report }) in Apart (TakenStep t) buffer
             (step_written buffer s.state s.answer)
         go true = inr (refusal 9 0, refl, (omega arith, omega arith))
         go false = inl (owner_range t d report few)

@@ -2,140 +2,110 @@
 #![tactic(auto)]
 
 ghost use Rattle.std.specs.Prelude.{◌≡◌, ◌≤◌, ◌<◌};
-ghost use Rattle.model.specs.Values.{refusal};
 ghost use Rattle.model.specs.Limits.{task_limit, slot_limit, round_limit};
-ghost use Rattle.model.specs.Tasks.{within, task_fault, measure, judged_mixed, judged, admission_of};
+ghost use Rattle.model.specs.Tasks.{within, measure, judged_mixed, judged, admission_of};
 ghost use Rattle.counting.specs.Divisors.{lcm};
 ghost use Rattle.wellformed.specs.Ranges.{Ranged};
 ghost use Rattle.wellformed.specs.Round.{RoundKept};
-ghost use Rattle.table.specs.Survey.{Surveyed};
+ghost use Rattle.table.specs.Survey.{FitsTable, Surveyed, button_refused, range_refused};
 
 use values::{
-    Admission, BAD_COST, BAD_DEADLINE, BAD_OFFSET, BAD_PERIOD, HAS_BUTTON, Judgement, LONG_ROUND,
-    Measure, NO_TASKS, ROUND_LIMIT, Refusal, SLOT_LIMIT, TASK_LIMIT, TOO_MANY_TASKS, Table, Task,
+    Admission, Fault, Judgement, Measure, ROUND_LIMIT, Refusal, SLOT_LIMIT, TASK_LIMIT, Table, Task,
 };
 
 // Where only periodic tasks are allowed.
 pub fn judge(t: Table) -> Judgement
     ensures { result ≡ judged t }
 {
-    match survey(t) {
-        Found::Refused(why) => Judgement::Refused(why),
-        Found::Kept { round, button } => {
-            if button < t.count {
-                return Judgement::Refused(has_button(button));
-            }
-            Judgement::WellFormed(measure_of(t, round))
-        }
-    }
+    let seen = survey(t)?;
+    refuse_button(seen)?;
+    Ok(measure_of(t, seen.round))
 }
 
 // Tasks of both sorts.
 pub fn judge_mixed(t: Table) -> Judgement
     ensures { result ≡ judged_mixed t }
 {
-    match survey(t) {
-        Found::Refused(why) => Judgement::Refused(why),
-        Found::Kept { round, button: _ } => Judgement::WellFormed(measure_of(t, round)),
-    }
+    let seen = survey(t)?;
+    Ok(measure_of(t, seen.round))
 }
 
 // The judge's refusal alone: what a step needs of it.
 pub fn admit(t: Table) -> Admission
     ensures { result ≡ admission_of (judged t) }
 {
-    match survey(t) {
-        Found::Refused(why) => Admission::Refused(why),
-        Found::Kept { round: _, button } => {
-            if button < t.count {
-                return Admission::Refused(has_button(button));
-            }
-            Admission::Admitted
-        }
-    }
+    let found = survey(t)?;
+    refuse_button(found)
 }
 
 pub fn admit_mixed(t: Table) -> Admission
     ensures { result ≡ admission_of (judged_mixed t) }
 {
-    match survey(t) {
-        Found::Refused(why) => Admission::Refused(why),
-        Found::Kept {
-            round: _,
-            button: _,
-        } => Admission::Admitted,
-    }
+    survey(t)?;
+    Ok(())
 }
 
-fn has_button(button: usize) -> Refusal
-    requires { button < task_limit }
-    ensures { result ≡ refusal 11 button }
-{
-    Refusal {
-        number: HAS_BUTTON,
-        place: button as u32,
-    }
-}
-
-// A refusal, or the round and the first button: the count if there is none.
+// What one pass over a table finds: its round, and its first button.
 #[derive(Clone, Copy)]
-pub enum Found {
-    Refused(Refusal),
-    Kept { round: u64, button: usize },
+pub struct Sight {
+    pub round: u64,
+    pub button: Option<usize>,
 }
 
-fn refused(number: u32, place: u32) -> Found
-    ensures { result ≡ Found.Refused (refusal number place) }
+// By 11 at the first button, if there is one.
+fn refuse_button(seen: Sight) -> Admission
+    requires { FitsTable seen.button }
+    ensures { result ≡ button_refused seen.button }
 {
-    Found::Refused(Refusal { number, place })
+    match seen.button {
+        Some(i) => Err(Refusal::new(Fault::HasButton, i as u32)),
+        None => Ok(()),
+    }
 }
 
 // One pass: a table handed to a call is copied.
-fn survey(t: Table) -> Found
+fn survey(t: Table) -> Result<Sight, Refusal>
     ensures { Surveyed t result }
 {
     let n = t.count;
     if n == 0 {
-        return refused(NO_TASKS, 0);
+        return Err(Refusal::new(Fault::NoTasks, 0));
     }
     if n > TASK_LIMIT {
-        return refused(TOO_MANY_TASKS, TASK_LIMIT as u32);
+        return Err(Refusal::new(Fault::TooManyTasks, TASK_LIMIT as u32));
     }
     let mut round: u64 = 1;
-    let mut button = n;
-    for i in 0..n {
-        let task = t.tasks[i];
-        let fault = task_fault(task);
-        if fault != 0 {
-            return refused(fault, i as u32);
-        }
-        round = common_multiple(round, task.period as u64);
-        if button == n && sorts::is_button(task) {
-            button = i;
+    let mut button = None;
+    for (i, task) in t.tasks[..n].iter().enumerate() {
+        check_ranges(*task, i as u32)?;
+        round = common_multiple(round, u64::from(task.period));
+        if button.is_none() && sorts::is_button(*task) {
+            button = Some(i);
         }
     }
     if ROUND_LIMIT < round {
-        return refused(LONG_ROUND, 0);
+        return Err(Refusal::new(Fault::LongRound, 0));
     }
-    Found::Kept { round, button }
+    Ok(Sight { round, button })
 }
 
-fn task_fault(k: Task) -> u32
-    ensures { result ≡ task_fault k }
+// The first range that a task leaves refuses it, in the order T, D, C, O.
+fn check_ranges(k: Task, i: u32) -> Admission
+    ensures { result ≡ range_refused k i }
 {
     if !within(1, SLOT_LIMIT, k.period) {
-        return BAD_PERIOD;
+        return Err(Refusal::new(Fault::BadPeriod, i));
     }
     if !within(1, k.period, k.deadline) {
-        return BAD_DEADLINE;
+        return Err(Refusal::new(Fault::BadDeadline, i));
     }
     if !within(1, k.deadline, k.cost) {
-        return BAD_COST;
+        return Err(Refusal::new(Fault::BadCost, i));
     }
     if !within(0, SLOT_LIMIT, sorts::offset_of(k)) {
-        return BAD_OFFSET;
+        return Err(Refusal::new(Fault::BadOffset, i));
     }
-    0
+    Ok(())
 }
 
 fn within(least: u32, most: u32, x: u32) -> bool
@@ -163,20 +133,15 @@ pub fn measure_of(t: Table, round: u64) -> Measure
     requires round_kept { RoundKept t round }
     ensures { result ≡ measure t }
 {
-    let n = t.count;
     let mut load: u64 = 0;
     let mut latest: u32 = 0;
-    for i in 0..n {
-        let task = t.tasks[i];
-        load += task.cost as u64 * (round / task.period as u64);
-        let offset = sorts::offset_of(task);
-        if offset > latest {
-            latest = offset;
-        }
+    for task in &t.tasks[..t.count] {
+        load += u64::from(task.cost) * (round / u64::from(task.period));
+        latest = latest.max(sorts::offset_of(*task));
     }
     Measure {
         round,
         load,
-        horizon: latest as u64 + 2 * round,
+        horizon: u64::from(latest) + 2 * round,
     }
 }

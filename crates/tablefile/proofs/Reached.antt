@@ -1,5 +1,5 @@
 -- What was reached, and what reading there leads to.
-use Rattle.std.specs.Prelude.{◌≡◌, List, [], ◌∷◌, ◌++◌}
+use Rattle.std.specs.Prelude.{◌≡◌, List, [], ◌∷◌, ◌++◌, Ok, Err}
 use Rattle.std.proofs.Common.{arith}
 use Prim.Native.Nat.{ℕ, ◌+◌, ◌*◌, ◌<◌, ◌≤◌}
 use Rattle.std.proofs.Math.ListN.{length}
@@ -7,8 +7,7 @@ use Rattle.values.specs.declared.Task.{Task}
 use Rattle.tablefile.specs.declared.Record.{Record}
 use Rattle.model.specs.Limits.{task_limit, budget_bytes, task_bytes, longest_file}
 use Rattle.model.specs.TableFile.{refuse_file, admit, read_from, form_of}
-use Rattle.tablefile.specs.declared.Reading.{Reading}
-use Rattle.tablefile.specs.Reading.{record_bytes}
+use Rattle.tablefile.specs.Reading.{Reading, record_bytes}
 
 -- Up to a place the budget b and the tasks ks were read: nothing yet, or all so that reading on from there makes the form of the file.
 pub data Reached (s : List ℕ) : ℕ → List Task → ℕ → Type 0 where
@@ -24,7 +23,7 @@ bounds (later room all from here inside same) = omega arith
 
 -- What reading there leads to: the form of the file, or the next place.
 abbrev pub Follows : List ℕ → ℕ → List Task → ℕ → Reading → Type 0
-Follows s b ks at (Reading.Refused r) = refuse_file r.number r.place ≡ form_of s
-Follows s b ks at (Reading.Whole (Record.Budget x)) = Reached s x ks (at + budget_bytes)
-Follows s b ks at (Reading.Whole (Record.OneTask k)) = Reached s b (ks ++ (k ∷ [])) (at + record_bytes k)
-Follows s b ks at (Reading.Whole Record.End) = admit b ks ≡ form_of s
+Follows s b ks at (Err r) = refuse_file r.number r.place ≡ form_of s
+Follows s b ks at (Ok (Record.Budget x)) = Reached s x ks (at + budget_bytes)
+Follows s b ks at (Ok (Record.OneTask k)) = Reached s b (ks ++ (k ∷ [])) (at + record_bytes k)
+Follows s b ks at (Ok Record.End) = admit b ks ≡ form_of s

@@ -1,15 +1,13 @@
 -- The state of the loop: the budget, the table that was built and the place that was reached.
-use Rattle.std.specs.Prelude.{◌≡◌, List, [], ◌∷◌, ◌++◌, ℕ, ◌+◌, ◌<◌, ◌≤◌, length}
+use Rattle.std.specs.Prelude.{◌≡◌, List, [], ◌∷◌, ◌++◌, ℕ, ◌+◌, ◌<◌, ◌≤◌, length, Ok}
 use Rattle.std.proofs.Common.{arith, length-append}
 use Rattle.values.specs.declared.Task.{Task}
 use Rattle.values.specs.declared.Table.{Table}
 use Rattle.tablefile.specs.declared.Record.{Record}
-use Rattle.values.specs.declared.Admission.{Admission}
 use Rattle.values.specs.declared.Contents.{Contents}
 use Rattle.model.specs.Limits.{task_limit, budget_bytes, longest_file}
 use Rattle.model.specs.TableFile.{table_of, form_of}
-use Rattle.tablefile.specs.declared.Reading.{Reading}
-use Rattle.tablefile.specs.Reading.{record_bytes, reading_at}
+use Rattle.tablefile.specs.Reading.{Reading, record_bytes, reading_at}
 use Rattle.tablefile.specs.Built.{with_task, stored}
 use Rattle.tablefile.proofs.Reached.{Reached, first, bounds, Follows}
 use Rattle.tablefile.proofs.Steps.{step}
@@ -29,16 +27,16 @@ module _ {s : List ℕ} {b : ℕ} {t : Table} {at : ℕ} (l : ReadSoFar s b t at
   pub follows : {r : Reading} → r ≡ reading_at s at t.count → Follows s b l.ks at r
   follows e = rw (e, l.table) (step l.reached)
 
-  pub after_budget : {x : ℕ} → Reading.Whole (Record.Budget x) ≡ reading_at s at t.count → ReadSoFar s x t (at + budget_bytes)
+  pub after_budget : {x : ℕ} → Ok (Record.Budget x) ≡ reading_at s at t.count → ReadSoFar s x t (at + budget_bytes)
   after_budget e = record { ks = l.ks; table = l.table; reached = follows e }
 
-  pub has_room : {k : Task} → Reading.Whole (Record.OneTask k) ≡ reading_at s at t.count → t.count < task_limit
+  pub has_room : {k : Task} → Ok (Record.OneTask k) ≡ reading_at s at t.count → t.count < task_limit
   has_room {k} e = rw l.table (omega (arith, bounds (follows e), length-append l.ks (k ∷ [])))
 
-  pub after_task_lem : {k : Task} → Reading.Whole (Record.OneTask k) ≡ reading_at s at t.count → ReadSoFar s b (with_task t k) (at + record_bytes k)
+  pub after_task_lem : {k : Task} → Ok (Record.OneTask k) ≡ reading_at s at t.count → ReadSoFar s b (with_task t k) (at + record_bytes k)
   after_task_lem {k} e =
       record { ks = l.ks ++ (k ∷ []); table = rw l.table (stored l.ks k (rw l.table at (has_room e))); reached = follows e }
 
-  pub after_end : Reading.Whole Record.End ≡ reading_at s at t.count → ◌≡◌ {A = Contents}
-      (record { admission = Admission.Admitted; budget = b; table = t }) (form_of s)
+  pub after_end : Ok Record.End ≡ reading_at s at t.count → ◌≡◌ {A = Contents}
+      (record { admission = Ok tt; budget = b; table = t }) (form_of s)
   after_end e = rw l.table (follows e)

@@ -1,4 +1,5 @@
 -- What reading at a place comes to, and the laws by which reading on and on comes to the form of the file.
+pub mod Kinds
 pub mod Reading
 pub mod Part
 pub mod Said

@@ -1,12 +1,13 @@
 -- What reading at a place comes to: the checks in their order, over the rest of the file after the kind byte.
-use Rattle.std.specs.Prelude.{List, ◌≡◌, refl, Bool, true, false, cond, ℕ, ◌+◌, ◌-◌, ◌≤◌, ltb, leb, eqb, get_or, length, drop}
+use Rattle.std.specs.Prelude.{Result, Ok, Err, List, ◌≡◌, refl, Bool, true, false, cond, ℕ, ◌+◌, ◌-◌, ◌≤◌, ltb, leb, eqb, get_or, length, drop}
 use Rattle.std.proofs.Common.{arith}
 use Rattle.values.specs.declared.Task.{Task}
 use Rattle.tablefile.specs.declared.Record.{Record}
+use Rattle.values.specs.declared.Refusal.{Refusal}
+use Rattle.values.specs.declared.Contents.{Contents}
 use Rattle.model.specs.Limits.{task_limit, budget_bytes, task_bytes, button_bytes}
 use Rattle.model.specs.Tasks.{is_button}
-use Rattle.model.specs.TableFile.{eight, task_in, button_in}
-use Rattle.tablefile.specs.declared.Reading.{Reading}
+use Rattle.model.specs.TableFile.{refuse_file, eight, task_in, button_in}
 
 -- The bytes of a body: those of the record without its kind.
 abbrev pub budget_body : ℕ
@@ -26,8 +27,17 @@ abbrev pub body_in : Bool → List ℕ → ℕ → Task
 body_in true s at = button_in s at
 body_in false s at = task_in s at
 
+-- What reading at a place comes to.
+abbrev pub Reading : Type 0
+Reading = Result Record Refusal
+
 abbrev pub refused : ℕ → ℕ → Reading
-refused n p = Reading.Refused (record { number = n; place = p })
+refused n p = Err (record { number = n; place = p })
+
+-- The contents that a file's records come to, or those of a refused file.
+abbrev pub told_form : Result Contents Refusal → Contents
+told_form (Ok form) = form
+told_form (Err why) = refuse_file why.number why.place
 
 pub record_size_lem : (button : Bool) → (button_bytes ≤ record_size button) × (record_size button ≤ task_bytes)
 record_size_lem true = omega arith
@@ -42,18 +52,18 @@ abbrev pub budget_reading : List ℕ → ℕ → Reading
 budget_reading rest at =
     cond (ltb 0 at) (refused 23 at)
     (cond (ltb (length rest) budget_body) (refused 20 at)
-    (cond (eqb (eight rest 0) 0) (refused 27 at) (Reading.Whole (Record.Budget (eight rest 0)))))
+    (cond (eqb (eight rest 0) 0) (refused 27 at) (Ok (Record.Budget (eight rest 0)))))
 
 abbrev pub task_reading : Bool → List ℕ → ℕ → ℕ → Reading
 task_reading button rest at n =
     cond (eqb at 0) (refused 22 at)
     (cond (leb task_limit n) (refused 25 at)
-    (cond (ltb (length rest) (body_bytes button)) (refused 20 at) (Reading.Whole (Record.OneTask (body_in button rest 0)))))
+    (cond (ltb (length rest) (body_bytes button)) (refused 20 at) (Ok (Record.OneTask (body_in button rest 0)))))
 
 abbrev pub end_reading : List ℕ → ℕ → Reading
 end_reading rest at =
     cond (eqb at 0) (refused 22 at)
-    (cond (ltb 0 (length rest)) (refused 24 (at + 1)) (Reading.Whole Record.End))
+    (cond (ltb 0 (length rest)) (refused 24 (at + 1)) (Ok Record.End))
 
 -- What stands at a place of the file, after n tasks.
 unfoldable pub reading_at : List ℕ → ℕ → ℕ → Reading

@@ -1,5 +1,6 @@
 -- Every refusal of a file has a number above 0 and a place below 65,536: no place lies behind the longest legal file.
-use Rattle.std.specs.Prelude.{◌≡◌, refl, Bool, cond, ◌||◌, leb, ltb, length, get_or}
+use Rattle.model.specs.Values.{Judgement, Admission}
+use Rattle.std.specs.Prelude.{◌≡◌, refl, Bool, cond, ◌||◌, leb, ltb, length, get_or, Ok, Err}
 use mathlib.Core.List.{List, [], ◌∷◌, ◌++◌}
 use Rattle.std.proofs.Math.Bool.{true, false}
 use Prim.Native.Nat.{ℕ, zero, suc, ◌+◌, ◌*◌, ◌≤◌, ◌<◌}
@@ -7,8 +8,6 @@ use native.Mathlib.Omega.{arith}
 use Rattle.std.proofs.Common.{leb-true}
 use Rattle.std.proofs.Math.Dec.{eqb}
 use Rattle.values.specs.declared.Task.{Task}
-use Rattle.values.specs.declared.Judgement.{Judgement}
-use Rattle.values.specs.declared.Admission.{Admission}
 use Rattle.values.specs.declared.Contents.{Contents}
 use Rattle.model.specs.Limits.{task_limit, budget_bytes, task_bytes, button_bytes, longest_file}
 use Rattle.model.specs.Tasks.{judged_mixed}
@@ -18,8 +17,8 @@ use Rattle.wellformed.specs.Refused.{Tellable, JudgementTellable, mixed_tellable
 
 -- An admission that is tellable if it refuses.
 abbrev pub AdmissionTellable : Admission → Type 0
-AdmissionTellable (Admission.Refused r) = Tellable r
-AdmissionTellable Admission.Admitted = Unit
+AdmissionTellable (Err r) = Tellable r
+AdmissionTellable (Ok u) = Unit
 
 worth_tellable : (b : ℕ) (l : Contents) → AdmissionTellable l.admission → AdmissionTellable (worth b l).admission
 worth_tellable b l h = go (eqb b 0)
@@ -83,9 +82,9 @@ module _ (s : List ℕ) where
   read_tellable = go (form_of s).admission form_tellable
     where
       table_tellable : (j : Judgement) → JudgementTellable j → AdmissionTellable (judged_table (form_of s) j).admission
-      table_tellable (Judgement.Refused r) h = h
-      table_tellable (Judgement.WellFormed m) h = form_tellable
+      table_tellable (Err r) h = h
+      table_tellable (Ok m) h = form_tellable
 
       go : (a : Admission) → AdmissionTellable a → AdmissionTellable (judged_form judged_mixed (form_of s) a).admission
-      go (Admission.Refused r) h = form_tellable
-      go Admission.Admitted h = table_tellable (judged_mixed (form_of s).table) (mixed_tellable (form_of s).table)
+      go (Err r) h = form_tellable
+      go (Ok u) h = table_tellable (judged_mixed (form_of s).table) (mixed_tellable (form_of s).table)

@@ -1,13 +1,12 @@
 -- The specification's numbers for a record, and that a record which is read has the numbers that stand in the file.
-use Rattle.std.specs.Prelude.{◌≡◌, List, [], ◌∷◌, ◌++◌, true, false, cond, ℕ, ◌+◌, ltb, leb, eqb, get_or, length, drop}
+use Rattle.std.specs.Prelude.{◌≡◌, List, [], ◌∷◌, ◌++◌, true, false, cond, ℕ, ◌+◌, ltb, leb, eqb, get_or, length, drop, Ok, Err}
 use Rattle.std.proofs.Common.{ap, eqb-true}
 use Rattle.values.specs.declared.Sort.{Sort}
 use Rattle.values.specs.declared.Task.{Task}
 use Rattle.model.specs.Limits.{task_limit}
 use Rattle.model.specs.TableFile.{four, eight}
 use Rattle.tablefile.specs.declared.Record.{Record}
-use Rattle.tablefile.specs.declared.Reading.{Reading}
-use Rattle.tablefile.specs.Reading.{budget_body, body_bytes, reading_at, either}
+use Rattle.tablefile.specs.Reading.{Reading, budget_body, body_bytes, reading_at, either}
 use Rattle.tablefile.specs.Part.{eight_part, task_part}
 
 -- A record's kind, and the numbers of its body in their order. A button has no offset among them.
@@ -30,8 +29,8 @@ numbers_at s at =
 
 -- A reading that has these numbers if it is a record.
 abbrev pub Has : List ℕ → Reading → Type 0
-Has numbers (Reading.Refused r) = Unit
-Has numbers (Reading.Whole k) = record_said k ≡ numbers
+Has numbers (Err r) = Unit
+Has numbers (Ok k) = record_said k ≡ numbers
 
 pub record_said_lem : (s : List ℕ) (at n : ℕ) → Has (numbers_at s at) (reading_at s at n)
 unfolding reading_at

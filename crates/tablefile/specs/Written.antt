@@ -1,5 +1,5 @@
 -- The reader takes exactly the files of a budget and tasks: a budget, tasks in their order, the end.
-use Rattle.std.specs.Prelude.{◌≡◌, Bool, ◌||◌, leb, ltb, length}
+use Rattle.std.specs.Prelude.{◌≡◌, Bool, ◌||◌, leb, ltb, length, Ok}
 use Rattle.std.proofs.Math.Path.{refl, sym, ap}
 use Rattle.std.proofs.Common.{subst, ◌∙◌, add-zero, length-drop, get_or-drop, drop-drop}
 use Rattle.std.proofs.Math.Bool.{true, false, cond}
@@ -12,7 +12,6 @@ use Rattle.std.proofs.Math.ListN.{get_or, drop, length-append, drop_of_length-le
 use Rattle.std.proofs.Math.Seq.{append_snoc, drop-cons}
 use Rattle.values.specs.declared.Sort.{Sort}
 use Rattle.values.specs.declared.Task.{Task}
-use Rattle.values.specs.declared.Admission.{Admission}
 use Rattle.values.specs.declared.Contents.{Contents}
 use Rattle.model.specs.Limits.{task_limit, word_limit, budget_limit, budget_bytes, task_bytes, button_bytes}
 use Rattle.model.specs.Tasks.{no_task, button_sort, is_button, offset}
@@ -72,7 +71,7 @@ module _ (s : List ℕ) where
 
   -- If the file is taken, tasks stand from this place on, no more than there is room for, and were read after the tasks ks.
   abbrev Takes : ℕ → List Task → ℕ → ℕ → Contents → Type 0
-  Takes b ks room at l = l.admission ≡ Admission.Admitted → (more : List Task) × (length more ≤ room) × Stand at more × (l ≡ admit b (ks ++ more))
+  Takes b ks room at l = l.admission ≡ Ok tt → (more : List Task) × (length more ≤ room) × Stand at more × (l ≡ admit b (ks ++ more))
 
   refusal_takes : (b : ℕ) (ks : List Task) (room at n p : ℕ) → Takes b ks room at (refuse_file n p)
   refusal_takes b ks room at n p h = let z : ◌≡◌ {A = ℕ} 0 1 = cc in absurd (omega arith)
@@ -121,7 +120,7 @@ module _ (s : List ℕ) where
 
   -- If the file is taken, it holds a budget and tasks, and these were read.
   abbrev Holds : Contents → Type 0
-  Holds l = l.admission ≡ Admission.Admitted
+  Holds l = l.admission ≡ Ok tt
       → (get_or s 0 0 ≡ 1) × (0 < eight s 1) × ((ks : List Task) × (length ks ≤ task_limit) × Stand budget_bytes ks × (l ≡ admit (eight s 1) ks))
 
   refusal_holds : (n p : ℕ) → Holds (refuse_file n p)
@@ -145,7 +144,7 @@ module _ (s : List ℕ) where
       go false false short nothing false kind some = refusal_holds 21 0
 
   -- A file of good form has the bytes of the file of its budget and tasks, at most `task_limit`.
-  pub form_length : (form_of s).admission ≡ Admission.Admitted
+  pub form_length : (form_of s).admission ≡ Ok tt
       → (ks : List Task) × (length ks ≤ task_limit) × (form_of s ≡ admit (form_of s).budget ks) × (length s ≡ length (file_of (form_of s).budget ks))
   form_length h =
       let (kind, some, (ks, few, stand, same)) = form_holds h in
@@ -288,7 +287,7 @@ module _ (s : List ℕ) (bytes : (i : ℕ) → get_or s i 0 < 256) where
       drop-cons s 0 0 (omega arith) ∙ rw (low, high, kind, lower, upper, stand_written budget_bytes ks stand)
 
   -- A file of good form is what the writer writes of its budget and of the tasks of its table, at most `task_limit`.
-  pub read_written : (form_of s).admission ≡ Admission.Admitted
+  pub read_written : (form_of s).admission ≡ Ok tt
       → (0 < (form_of s).budget)
       × ((form_of s).budget < budget_limit)
       × ((ks : List Task) × (length ks ≤ task_limit) × AllFit ks × (s ≡ file_of (form_of s).budget ks) × (form_of s ≡ admit (form_of s).budget ks))

@@ -4,21 +4,48 @@
 ghost use Rattle.std.specs.Prelude.{◌≡◌, [], ◌+◌, ◌<◌, ◌≤◌, length};
 ghost use Rattle.model.specs.Limits.{longest_file};
 ghost use Rattle.model.specs.TableFile.{table_of, refuse_file, judged_table, form_of, file_read, periodic_from};
-ghost use Rattle.tablefile.specs.Reading.{body_bytes, record_bytes, body_in, refused, budget_reading, task_reading, end_reading, reading_at};
+ghost use Rattle.values.specs.Numbers.{number_of};
+ghost use Rattle.tablefile.specs.Kinds.{KindOf, kind_byte};
+ghost use Rattle.tablefile.specs.Reading.{body_bytes, record_bytes, body_in, told_form, budget_reading, task_reading, end_reading, reading_at};
 
-use values::{
-    Admission, Contents, FILE_AFTER_END, FILE_CUT_SHORT, FILE_NO_BUDGET, FILE_NO_END,
-    FILE_SECOND_BUDGET, FILE_TOO_MANY_TASKS, FILE_UNKNOWN_KIND, Judgement, Refusal, Sort,
-    TASK_LIMIT, Table, Task, ZERO_BUDGET,
-};
+use values::{Admission, Contents, Fault, Judgement, Refusal, Sort, TASK_LIMIT, Table, Task};
 
-pub const BUDGET: u8 = 1;
+// The kinds of records: the first byte of each.
+#[derive(Clone, Copy, PartialEq, Eq)]
+pub enum Kind {
+    Budget = 1,
+    Task = 2,
+    End = 3,
+    Button = 4,
+}
 
-pub const TASK: u8 = 2;
+// A byte that is no kind.
+#[derive(Clone, Copy, PartialEq, Eq)]
+pub struct UnknownKind;
 
-pub const END: u8 = 3;
+impl TryFrom<u8> for Kind {
+    type Error = UnknownKind;
 
-pub const BUTTON: u8 = 4;
+    ghost try_from_gives = { KindOf };
+
+    fn try_from(byte: u8) -> Result<Self, UnknownKind> {
+        match byte {
+            1 => Ok(Kind::Budget),
+            2 => Ok(Kind::Task),
+            3 => Ok(Kind::End),
+            4 => Ok(Kind::Button),
+            _ => Err(UnknownKind),
+        }
+    }
+}
+
+impl From<Kind> for u8 {
+    ghost from_gives = { λ kind byte. byte ≡ kind_byte kind };
+
+    fn from(kind: Kind) -> u8 {
+        kind as u8
+    }
+}
 
 const BUDGET_BODY: usize = 8;
 
@@ -36,13 +63,6 @@ pub enum Record {
     Budget(u64),
     OneTask(Task),
     End,
-}
-
-// What reading at a place comes to.
-#[derive(Clone, Copy)]
-pub enum Reading {
-    Refused(Refusal),
-    Whole(Record),
 }
 
 // A button's body is a task's without the offset.
@@ -83,81 +103,77 @@ pub fn record_bytes(task: Task) -> usize
 }
 
 // Reading stops within the longest legal file, so a place fits a refusal whatever the file's length.
-fn refusal(number: u32, place: usize) -> Reading
+fn refusal(fault: Fault, place: usize) -> Refusal
     requires { place ≤ longest_file }
-    ensures { result ≡ refused number place }
+    ensures { result ≡ record { number = number_of fault; place = place } }
 {
-    Reading::Refused(Refusal {
-        number: number,
-        place: place as u32,
-    })
+    Refusal::new(fault, place as u32)
 }
 
-fn budget_reading(rest: &[u8], at: usize) -> Reading
+fn budget_reading(rest: &[u8], at: usize) -> Result<Record, Refusal>
     requires { at < longest_file }
     ensures { result ≡ budget_reading rest.now at }
 {
     if 0 < at {
-        return refusal(FILE_SECOND_BUDGET, at);
+        return Err(refusal(Fault::FileSecondBudget, at));
     }
     if rest.len() < BUDGET_BODY {
-        return refusal(FILE_CUT_SHORT, at);
+        return Err(refusal(Fault::FileCutShort, at));
     }
     let budget = words::long_at(rest, 0);
     if budget == 0 {
-        return refusal(ZERO_BUDGET, at);
+        return Err(refusal(Fault::ZeroBudget, at));
     }
-    Reading::Whole(Record::Budget(budget))
+    Ok(Record::Budget(budget))
 }
 
-fn task_reading(button: bool, rest: &[u8], at: usize, count: usize) -> Reading
+fn task_reading(button: bool, rest: &[u8], at: usize, count: usize) -> Result<Record, Refusal>
     requires { at < longest_file }
     ensures { result ≡ task_reading button rest.now at count }
 {
     if at == 0 {
-        return refusal(FILE_NO_BUDGET, at);
+        return Err(refusal(Fault::FileNoBudget, at));
     }
     if TASK_LIMIT <= count {
-        return refusal(FILE_TOO_MANY_TASKS, at);
+        return Err(refusal(Fault::FileTooManyTasks, at));
     }
     if rest.len() < body_bytes(button) {
-        return refusal(FILE_CUT_SHORT, at);
+        return Err(refusal(Fault::FileCutShort, at));
     }
-    Reading::Whole(Record::OneTask(task_in(button, rest)))
+    Ok(Record::OneTask(task_in(button, rest)))
 }
 
-fn end_reading(rest: &[u8], at: usize) -> Reading
+fn end_reading(rest: &[u8], at: usize) -> Result<Record, Refusal>
     requires { at < longest_file }
     ensures { result ≡ end_reading rest.now at }
 {
     if at == 0 {
-        return refusal(FILE_NO_BUDGET, at);
+        return Err(refusal(Fault::FileNoBudget, at));
     }
     if 0 < rest.len() {
-        return refusal(FILE_AFTER_END, at + 1);
+        return Err(refusal(Fault::FileAfterEnd, at + 1));
     }
-    Reading::Whole(Record::End)
+    Ok(Record::End)
 }
 
 // The specification's order is kind known, kind allowed here, body whole: the reader of each kind keeps the last two.
-fn reading_at(file: &[u8], at: usize, count: usize) -> Reading
+fn reading_at(file: &[u8], at: usize, count: usize) -> Result<Record, Refusal>
     requires { at < longest_file }
     ensures { result ≡ reading_at file.now at count }
 {
     if file.len() <= at {
         if at == 0 {
-            return refusal(FILE_NO_BUDGET, at);
+            return Err(refusal(Fault::FileNoBudget, at));
         }
-        return refusal(FILE_NO_END, at);
+        return Err(refusal(Fault::FileNoEnd, at));
     }
-    let from = at + 1;
-    let rest = &file[from..];
-    match file[at] {
-        BUDGET => budget_reading(rest, at),
-        TASK => task_reading(false, rest, at, count),
-        BUTTON => task_reading(true, rest, at, count),
-        END => end_reading(rest, at),
-        _ => refusal(FILE_UNKNOWN_KIND, at),
+    let rest = &file[at + 1..];
+    match Kind::try_from(file[at]) {
+        Ok(Kind::Budget) => budget_reading(rest, at),
+        Ok(Kind::Task) => task_reading(false, rest, at, count),
+        Ok(Kind::Button) => task_reading(true, rest, at, count),
+        Ok(Kind::End) => end_reading(rest, at),
+        Err(_) => Err(refusal(Fault::FileUnknownKind, at)),
     }
 }
 
@@ -180,9 +196,40 @@ pub fn refused_file(why: Refusal) -> Contents
     ensures { result ≡ refuse_file why.number why.place }
 {
     Contents {
-        admission: Admission::Refused(why),
+        admission: Err(why),
         budget: 0,
         table: no_tasks(),
+    }
+}
+
+// The records of a file, up to its end or its first fault.
+fn records_of(file: &[u8]) -> Result<Contents, Refusal>
+    ensures { told_form result ≡ form_of file.now }
+{
+    let mut budget: u64 = 0;
+    let mut table = no_tasks();
+    let mut at: usize = 0;
+    loop {
+        match reading_at(file, at, table.count)? {
+            Record::Budget(slots) => {
+                budget = slots;
+                at += BUDGET_BYTES;
+            }
+            // in place: a table handed over and back would be copied for every task
+            Record::OneTask(task) => {
+                let count = table.count;
+                table.tasks[count] = task;
+                table.count = count + 1;
+                at += record_bytes(task);
+            }
+            Record::End => {
+                return Ok(Contents {
+                    admission: Ok(()),
+                    budget,
+                    table,
+                });
+            }
+        }
     }
 }
 
@@ -190,35 +237,9 @@ pub fn refused_file(why: Refusal) -> Contents
 pub fn form_of(file: &[u8]) -> Contents
     ensures { result ≡ form_of file.now }
 {
-    let mut budget: u64 = 0;
-    let mut table = no_tasks();
-    let mut at: usize = 0;
-    loop {
-        match reading_at(file, at, table.count) {
-            Reading::Refused(why) => {
-                return refused_file(why);
-            }
-            Reading::Whole(record) => match record {
-                Record::Budget(slots) => {
-                    budget = slots;
-                    at = at + BUDGET_BYTES;
-                }
-                // in place: a table handed over and back would be copied for every task
-                Record::OneTask(task) => {
-                    let count = table.count;
-                    table.tasks[count] = task;
-                    table.count = count + 1;
-                    at = at + record_bytes(task);
-                }
-                Record::End => {
-                    return Contents {
-                        admission: Admission::Admitted,
-                        budget: budget,
-                        table: table,
-                    };
-                }
-            },
-        }
+    match records_of(file) {
+        Ok(form) => form,
+        Err(why) => refused_file(why),
     }
 }
 
@@ -226,8 +247,8 @@ fn judged_by(form: Contents, judgement: Judgement) -> Contents
     ensures { result ≡ judged_table form judgement }
 {
     match judgement {
-        Judgement::Refused(why) => refused_file(why),
-        Judgement::WellFormed(_) => form,
+        Err(fault) => refused_file(fault),
+        Ok(_) => form,
     }
 }
 
@@ -237,8 +258,8 @@ pub fn read(file: &[u8]) -> Contents
     let form = form_of(file);
     let admission = form.admission;
     match admission {
-        Admission::Refused(_) => form,
-        Admission::Admitted => judged_by(form, table::judge_mixed(form.table)),
+        Err(_) => form,
+        Ok(()) => judged_by(form, table::judge_mixed(form.table)),
     }
 }
 
@@ -249,7 +270,7 @@ pub fn read_periodic(file: &[u8]) -> Contents
     let form = form_of(file);
     let formed = form.admission;
     match formed {
-        Admission::Refused(_) => form,
-        Admission::Admitted => judged_by(form, table::judge(form.table)),
+        Err(_) => form,
+        Ok(()) => judged_by(form, table::judge(form.table)),
     }
 }

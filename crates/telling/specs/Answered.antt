@@ -1,21 +1,19 @@
 -- AN ANSWER AS NUMBERS (`same_answer`): the exported call that gives numbers and the one that writes a report say the same of a
 -- file; it gives numbers or refuses (`numbered_or_refused`); the numbers of a permitted answer fit their bytes (`numbers_fit`)
 -- and are read back from them (`numbers_read`).
+use Rattle.model.specs.Values.{Outcome, Admission}
 use Rattle.std.proofs.Math.Path.{◌≡◌, refl, ap}
 use Rattle.std.proofs.Common.{sym, subst, ◌∙◌, arith, le-ltb}
-use Rattle.std.specs.Prelude.{◌↔◌, ◌⊎◌, List, ◌++◌, Bool, true, false, cond, ℕ, ◌≤◌, ◌<◌, ltb, length, get_or, drop, replicate}
+use Rattle.std.specs.Prelude.{◌↔◌, ◌⊎◌, List, ◌++◌, Bool, true, false, cond, ℕ, ◌≤◌, ◌<◌, ltb, length, get_or, drop, replicate, Ok, Err}
 use Rattle.std.proofs.Math.Logic.{inl, inr}
 use Rattle.std.proofs.Math.Decide.{dec_lt}
 use Rattle.std.proofs.lemmas.List.{length-replicate, get_or-replicate}
 use Rattle.values.specs.declared.Refusal.{Refusal}
 use Rattle.values.specs.declared.Table.{Table}
 use Rattle.values.specs.declared.Measure.{Measure}
-use Rattle.values.specs.declared.Judgement.{Judgement}
 use Rattle.values.specs.declared.Verdict.{Verdict}
-use Rattle.values.specs.declared.Outcome.{Outcome}
 use Rattle.values.specs.declared.Answer.{Answer}
 use Rattle.values.specs.declared.AnswerNumbers.{AnswerNumbers}
-use Rattle.values.specs.declared.Admission.{Admission}
 use Rattle.values.specs.declared.Contents.{Contents}
 use Rattle.model.specs.Limits.{task_limit, word_limit, budget_limit, report_bytes}
 use Rattle.model.specs.Tasks.{judged}
@@ -41,7 +39,7 @@ use Rattle.telling.specs.Reported.{taken, taken_tellable, tested}
 abbrev pub SameAnswer : Contents → List ℕ → List ℕ → Exported → Exported → Type 0
 SameAnswer l report buffer e f =
     ((r : Refusal) × (e ≡ refused r report) × (f ≡ refused r buffer))
-    ⊎ ((a : Answer) × (v : Verdict) × Permitted l.table l.budget a × (a.outcome ≡ Outcome.Tested v)
+    ⊎ ((a : Answer) × (v : Verdict) × Permitted l.table l.budget a × (a.outcome ≡ Ok v)
     × (e ≡ report_written report l.table.count (quick_pass l.table) a v)
     × (f ≡ numbers_written buffer l.table.count (quick_pass l.table) a v))
 
@@ -55,13 +53,13 @@ module _ (l : Contents) (report buffer : List ℕ) where
 
   by_outcome : (a : Answer) → Permitted l.table l.budget a → (o : Outcome) → a.outcome ≡ o
       → SameAnswer l report buffer (told a o) (numbers_told a o)
-  by_outcome a p (Outcome.Refused r) q = inl (r, refl, refl)
-  by_outcome a p (Outcome.Tested v) q = inr (a, v, p, q, refl, refl)
+  by_outcome a p (Err r) q = inl (r, refl, refl)
+  by_outcome a p (Ok v) q = inr (a, v, p, q, refl, refl)
 
   told_both : (e f : Exported) (x : Admission) → FileTold (λ r. refused r report) (report_written report) l e x
       → FileTold (λ r. refused r buffer) (numbers_written buffer) l f x → SameAnswer l report buffer e f
-  told_both e f (Admission.Refused r) p q = inl (r, p, q)
-  told_both e f Admission.Admitted (a, p, d) (b, q, g) =
+  told_both e f (Err r) p q = inl (r, p, q)
+  told_both e f (Ok u) (a, p, d) (b, q, g) =
       let one : b ≡ a = permitted_unique l.table l.budget b a q p in
       let h = subst (λ (c : Answer). f ≡ numbers_told c c.outcome) one g in
       rw (d, h) (by_outcome a p a.outcome refl)
@@ -78,7 +76,7 @@ same_answer file report buffer e f room space checked answered =
 -- What is returned and left is that of the numbers of the permitted answer.
 abbrev pub Numbered : Contents → List ℕ → Exported → Type 0
 Numbered l buffer e =
-    (a : Answer) × (v : Verdict) × Permitted l.table l.budget a × (a.outcome ≡ Outcome.Tested v)
+    (a : Answer) × (v : Verdict) × Permitted l.table l.budget a × (a.outcome ≡ Ok v)
     × (e ≡ numbers_written buffer l.table.count (quick_pass l.table) a v)
 
 module _ (buffer : List ℕ) (l : Contents) where
@@ -88,21 +86,21 @@ module _ (buffer : List ℕ) (l : Contents) where
   outcome_apart : (a : Answer) → Permitted l.table l.budget a → (o : Outcome) → a.outcome ≡ o
       → Fitting l.table.count (quick_pass l.table) a o → Apart (Numbered l buffer) buffer (numbers_by_lem a o)
   unfolding numbers_by_lem
-  outcome_apart a p (Outcome.Refused r) q h = inr (r, refl, h)
-  outcome_apart a p (Outcome.Tested v) q h = inl (a, v, p, q, refl)
+  outcome_apart a p (Err r) q h = inr (r, refl, h)
+  outcome_apart a p (Ok v) q h = inl (a, v, p, q, refl)
 
   told_apart : (e : Exported) (x : Admission) → AdmissionTellable x → FileTold (λ r. refused r buffer) (numbers_written buffer) l e x
       → Apart (Numbered l buffer) buffer e
   unfolding numbers_by_lem
-  told_apart e (Admission.Refused r) h q = inr (r, q, h)
-  told_apart e Admission.Admitted h (a, p, q) =
+  told_apart e (Err r) h q = inr (r, q, h)
+  told_apart e (Ok u) h (a, p, q) =
       rw q (outcome_apart a p a.outcome refl (permitted_fits l.table l.budget (quick_pass l.table) a p))
 
-  told_numbered : (m : Measure) → judged l.table ≡ Judgement.WellFormed m → (e : Exported) (x : Admission) → x ≡ Admission.Admitted
+  told_numbered : (m : Measure) → judged l.table ≡ Ok m → (e : Exported) (x : Admission) → x ≡ Ok tt
       → FileTold (λ r. refused r buffer) (numbers_written buffer) l e x → Numbered l buffer e
   unfolding numbers_by_lem
-  told_numbered m well e (Admission.Refused r) q h = let z : ◌≡◌ {A = ℕ} 0 1 = cc in absurd (omega arith)
-  told_numbered m well e Admission.Admitted q (a, p, h) =
+  told_numbered m well e (Err r) q h = let z : ◌≡◌ {A = ℕ} 0 1 = cc in absurd (omega arith)
+  told_numbered m well e (Ok u) q (a, p, h) =
       let o = tested buffer l m well a p in (a, verdict l.table l.budget, p, o, h ∙ ap (numbers_by_lem a) o)
 
 pub numbered_or_refused : (file buffer : List ℕ) (e : Exported) → Answered file buffer e → Apart (Numbered (file_read file) buffer) buffer e
@@ -111,7 +109,7 @@ numbered_or_refused file buffer e =
 
 -- Of a file that is read and has no button it is the numbers'.
 pub numbered : (file buffer : List ℕ) (e : Exported) → ltb (length buffer) answer_bytes ≡ false
-    → (periodic_from file).admission ≡ Admission.Admitted → Answered file buffer e → Numbered (file_read file) buffer e
+    → (periodic_from file).admission ≡ Ok tt → Answered file buffer e → Numbered (file_read file) buffer e
 numbered file buffer e long good =
     let (read, same, (m, well)) = periodic_read file good in
     told_numbered buffer (file_read file) m well e (taken answer_bytes file buffer) (rw long read)
@@ -150,11 +148,11 @@ module _ (n : ℕ) (quick : Bool) (a : Answer) where
   brief_fit v p verdict from to demand code f t d =
       fit_by v p verdict 0 from to demand (replicate task_limit 0) code (omega arith) f t d (length-replicate {A = ℕ} task_limit 0) none
 
-pub numbers_fit : (t : Table) (budget : ℕ) (quick : Bool) (a : Answer) (v : Verdict) → a.outcome ≡ Outcome.Tested v
+pub numbers_fit : (t : Table) (budget : ℕ) (quick : Bool) (a : Answer) (v : Verdict) → a.outcome ≡ Ok v
     → Permitted t budget a → NumbersFit (numbers_of t.count quick a v)
 numbers_fit t budget quick a v o p = go v o (permitted_printable t budget a v o p)
   where
-    go : (v : Verdict) → a.outcome ≡ Outcome.Tested v → Printable t.count a v → NumbersFit (numbers_of t.count quick a v)
+    go : (v : Verdict) → a.outcome ≡ Ok v → Printable t.count a v → NumbersFit (numbers_of t.count quick a v)
     go Verdict.Overload o h = brief_fit t.count quick a Verdict.Overload h 1 0 0 0 (omega arith) (omega arith) (omega arith) (omega arith)
     go Verdict.Undecided o h = brief_fit t.count quick a Verdict.Undecided h 2 0 0 0 (omega arith) (omega arith) (omega arith) (omega arith)
     go (Verdict.Late from to asked) o h =
@@ -168,7 +166,7 @@ numbers_fit t budget quick a v o p = go v o (permitted_printable t budget a v o 
         ])
 
 -- What a host decodes from the buffer are the numbers of the answer.
-pub numbers_read : (t : Table) (budget : ℕ) (quick : Bool) (a : Answer) (v : Verdict) → a.outcome ≡ Outcome.Tested v
+pub numbers_read : (t : Table) (budget : ℕ) (quick : Bool) (a : Answer) (v : Verdict) → a.outcome ≡ Ok v
     → Permitted t budget a → (buffer : List ℕ) (f : Exported) → f ≡ numbers_written buffer t.count quick a v
     → numbers_in f.buffer ≡ numbers_of t.count quick a v
 numbers_read t budget quick a v o p buffer f h =

@@ -1,13 +1,12 @@
 -- THE DISTANCE ANSWER (`distance_words`): to a well-formed table it is overload, pass or no answer,
 -- and is told so in words and as a number.
-use Rattle.std.specs.Prelude.{◌≡◌, [], ◌∷◌, Bool, true, false, cond, ℕ, ◌≤◌, ◌<◌, T}
+use Rattle.std.specs.Prelude.{◌≡◌, [], ◌∷◌, Bool, true, false, cond, ℕ, ◌≤◌, ◌<◌, T, Ok, Err}
 use Rattle.std.proofs.Math.Path.{refl}
 use Rattle.std.proofs.Math.Decide.{dec_lt}
 use Rattle.std.proofs.Common.{arith}
 use Rattle.values.specs.declared.Table.{Table}
 use Rattle.values.specs.declared.Refusal.{Refusal}
 use Rattle.values.specs.declared.Measure.{Measure}
-use Rattle.values.specs.declared.Judgement.{Judgement}
 use Rattle.values.specs.declared.DistanceAnswer.{DistanceAnswer}
 use Rattle.model.specs.Values.{distance_said}
 use Rattle.model.specs.Tasks.{round, load, judged_mixed}
@@ -42,12 +41,12 @@ heavy_by t false q b e = elim (dec_lt (round t) (load t)) [
   | no l ↦ let z : T (light t) = omega tests in absurd (rw q at z)
 ]
 
-pub distance_refuses : (t : Table) (r : Refusal) → judged_mixed t ≡ Judgement.Refused r
+pub distance_refuses : (t : Table) (r : Refusal) → judged_mixed t ≡ Err r
     → distance_number (distance_answer t) ≡ refusal_number r
 unfolding distance_answer
 distance_refuses t r e = rw e refl
 
-module _ (t : Table) (m : Measure) (well : judged_mixed t ≡ Judgement.WellFormed m) where
+module _ (t : Table) (m : Measure) (well : judged_mixed t ≡ Ok m) where
   pub distance_words :
       distance_said (distance_answer t) ≡ cond (light t) (cond (distance_pass t) (0 ∷ 1 ∷ []) (0 ∷ 0 ∷ [])) (0 ∷ 2 ∷ [])
   unfolding distance_answer

@@ -1,12 +1,12 @@
 -- WHAT IS TOLD OF TWO FILES (`eased_told_as`): by its remainder by 4 the number tells of no easing,
 -- of an easing, or of a file's refusal. The kept tasks are tasks of the old table (`kept_below`),
 -- and where an easing is told there is one (`files_eased`).
-use Rattle.std.specs.Prelude.{◌≡◌, refl, ◌⊎◌, List, Bool, true, false, cond, ℕ, ◌+◌, ◌*◌, ◌/◌, ◌%◌, ◌^◌, ◌<◌, ltb}
+use Rattle.model.specs.Values.{Admission}
+use Rattle.std.specs.Prelude.{◌≡◌, refl, ◌⊎◌, List, Bool, true, false, cond, ℕ, ◌+◌, ◌*◌, ◌/◌, ◌%◌, ◌^◌, ◌<◌, ltb, Ok, Err}
 use Rattle.std.proofs.Common.{subst, inl, inr, arith}
 use Rattle.values.specs.declared.Table.{Table}
 use Rattle.values.specs.declared.Refusal.{Refusal}
 use Rattle.values.specs.declared.Easing.{Easing}
-use Rattle.values.specs.declared.Admission.{Admission}
 use Rattle.model.specs.TableFile.{periodic_from}
 use Rattle.model.specs.Report.{refusal_number}
 use Rattle.model.specs.Easing.{Eased, unmatched, kept_set, easing, eased_number, eased_exported}
@@ -35,11 +35,11 @@ module _ (before after : Table) where
 -- A file is read, and has no button; a file is refused, by 11 at a button too,
 -- in a way that its number and place are told by one number v.
 abbrev pub Read : List ℕ → Type 0
-Read file = (periodic_from file).admission ≡ Admission.Admitted
+Read file = (periodic_from file).admission ≡ Ok tt
 
 abbrev pub RefusedAs : List ℕ → ℕ → Type 0
 RefusedAs file v =
-    (r : Refusal) × ((periodic_from file).admission ≡ Admission.Refused r) × (v ≡ refusal_number r)
+    (r : Refusal) × ((periodic_from file).admission ≡ Err r) × (v ≡ refusal_number r)
     × ((0 < r.number) × (r.place < 65536))
 
 -- What is told of the tables of two files.
@@ -62,12 +62,12 @@ module _ (old new : List ℕ) where
   means_by : (a b : Admission)
       → (periodic_from old).admission ≡ a → (periodic_from new).admission ≡ b → AdmissionTellable a → AdmissionTellable b
       → (x : Easing) → easing_of old new ≡ x → EasedMeans old new (number a b % 4) (number a b / 4)
-  means_by (Admission.Refused r) b p q h g x e = inr (inr (inl (omega arith, (r, p, omega arith, h))))
-  means_by Admission.Admitted (Admission.Refused r) p q h g x e =
+  means_by (Err r) b p q h g x e = inr (inr (inl (omega arith, (r, p, omega arith, h))))
+  means_by (Ok u) (Err r) p q h g x e =
       inr (inr (inr (omega arith, p, (r, q, omega arith, g))))
-  means_by Admission.Admitted Admission.Admitted p q h g (Easing.Unmatched i) e =
+  means_by (Ok u) (Ok v) p q h g (Easing.Unmatched i) e =
       let v : (4 * i) / 4 ≡ i = omega arith in rw e (inl (omega arith, p, q, rw v refl))
-  means_by Admission.Admitted Admission.Admitted p q h g (Easing.Kept set) e =
+  means_by (Ok u) (Ok v) p q h g (Easing.Kept set) e =
       let v : (4 * set + 1) / 4 ≡ set = omega arith in rw e (inr (inl (omega arith, p, q, rw v refl)))
 
   pub eased_told_as : EasedMeans old new (eased_exported old new % 4) (eased_exported old new / 4)

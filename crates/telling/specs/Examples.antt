@@ -1,17 +1,15 @@
 -- EXAMPLES (`g_formed`): the file of table g has a good form and a well-formed table;
 -- a longer deadline alone is an easing (`due_eased`).
-use Rattle.std.specs.Prelude.{◌≡◌, refl, zero, suc, ◌<◌}
+use Rattle.std.specs.Prelude.{◌≡◌, refl, zero, suc, ◌<◌, Ok}
 use Rattle.std.proofs.Common.{arith, lit≤}
-use Rattle.values.specs.declared.Judgement.{Judgement}
-use Rattle.values.specs.declared.Admission.{Admission}
 use Rattle.model.specs.Notation.{sum, largest, count, first}
 use Rattle.model.specs.Tasks.{task, task_fault, first_faulty, first_button, round, load, horizon, judged_mixed, judged}
 use Rattle.model.specs.TableFile.{read_from, form_of}
 use Rattle.model.specs.Easing.{EasedTask, Eased}
 use Rattle.model.specs.Examples.{table_g, file_g, two_due}
 
-pub g_formed : ((form_of file_g).admission ≡ Admission.Admitted) × ((form_of file_g).table ≡ table_g)
-    × (judged table_g ≡ Judgement.WellFormed (record { round = 4; load = 4; horizon = 8 }))
+pub g_formed : ((form_of file_g).admission ≡ Ok tt) × ((form_of file_g).table ≡ table_g)
+    × (judged table_g ≡ Ok (record { round = 4; load = 4; horizon = 8 }))
 unfolding form_of read_from judged judged_mixed first_button first_faulty
     task_fault first round load horizon largest sum count
 g_formed = (refl, refl, refl)

@@ -1,15 +1,14 @@
 -- A LARGEST COST (`cost_case`): it is told only of a task of a table that passes, and is the largest cost there is;
 -- what is told is told apart as a number (`cost_apart`).
-use Rattle.std.specs.Prelude.{◌≡◌, ◌⊎◌, Bool, true, false, cond, ℕ, ◌+◌, ◌≤◌, ◌<◌, ltb}
+use Rattle.std.specs.Prelude.{◌≡◌, ◌⊎◌, Bool, true, false, cond, ℕ, ◌+◌, ◌≤◌, ◌<◌, ltb, Ok, Err}
 use Rattle.std.proofs.Math.Path.{refl}
 use Rattle.std.proofs.Common.{subst, inl, inr, arith, lit<, ltb-true}
 use Rattle.values.specs.declared.Table.{Table}
 use Rattle.values.specs.declared.Refusal.{Refusal}
 use Rattle.values.specs.declared.Measure.{Measure}
-use Rattle.values.specs.declared.Judgement.{Judgement}
 use Rattle.values.specs.declared.Verdict.{Verdict}
 use Rattle.values.specs.declared.LargestCost.{LargestCost}
-use Rattle.model.specs.Values.{refusal}
+use Rattle.model.specs.Values.{refusal, Judgement}
 use Rattle.model.specs.Limits.{slot_limit}
 use Rattle.model.specs.Tasks.{judged}
 use Rattle.model.specs.Verdict.{verdict}
@@ -34,15 +33,15 @@ module _ (t : Table) (i budget c : ℕ) where
   by_verdict Verdict.Undecided e = let z : ◌≡◌ {A = ℕ} 0 1 = cc in absurd (omega arith)
 
   by_judgement : (j : Judgement) → judged t ≡ j → cost_judged t i budget j ≡ LargestCost.Cost c
-      → (i < t.count) × (verdict t budget ≡ Verdict.Passes) × ((m : Measure) × (judged t ≡ Judgement.WellFormed m)) × (largest_cost t i budget ≡ c)
-  by_judgement (Judgement.Refused r) w e = let z : ◌≡◌ {A = ℕ} 0 1 = cc in absurd (omega arith)
-  by_judgement (Judgement.WellFormed m) w e =
+      → (i < t.count) × (verdict t budget ≡ Verdict.Passes) × ((m : Measure) × (judged t ≡ Ok m)) × (largest_cost t i budget ≡ c)
+  by_judgement (Err r) w e = let z : ◌≡◌ {A = ℕ} 0 1 = cc in absurd (omega arith)
+  by_judgement (Ok m) w e =
       let (n, told) = by_number (ltb i t.count) (cost_told t i budget (verdict t budget)) (refusal 12 i) c e in
       let (pass, same) = by_verdict (verdict t budget) told in
       (ltb-true i t.count n, pass, (m, w), same)
 
   pub cost_case : cost_answer t i budget ≡ LargestCost.Cost c
-      → (i < t.count) × (verdict t budget ≡ Verdict.Passes) × ((m : Measure) × (judged t ≡ Judgement.WellFormed m)) × (largest_cost t i budget ≡ c)
+      → (i < t.count) × (verdict t budget ≡ Verdict.Passes) × ((m : Measure) × (judged t ≡ Ok m)) × (largest_cost t i budget ≡ c)
   unfolding cost_answer
   cost_case = by_judgement (judged t) refl
 
@@ -70,8 +69,8 @@ module _ (t : Table) (i budget : ℕ) (l : i < 65536) where
 
   table_tellable : (r : Refusal) (j : Judgement)
       → JudgementTellable j → cost_judged t i budget j ≡ LargestCost.Refused r → Tellable r
-  table_tellable r (Judgement.Refused w) h f = let q : w ≡ r = cc in subst Tellable q h
-  table_tellable r (Judgement.WellFormed m) h f = task_tellable r (ltb i t.count) f
+  table_tellable r (Err w) h f = let q : w ≡ r = cc in subst Tellable q h
+  table_tellable r (Ok m) h f = task_tellable r (ltb i t.count) f
 
   -- A refusal has a number above 0 and a place below 65,536.
   pub refusal_tellable : (r : Refusal) → cost_answer t i budget ≡ LargestCost.Refused r → Tellable r

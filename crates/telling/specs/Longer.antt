@@ -1,11 +1,10 @@
 -- A LONGER BUDGET (`still_permitted`): it alters no answer but undecided.
-use Rattle.std.specs.Prelude.{◌≡◌, ◌≢◌, ℕ, ◌≤◌}
+use Rattle.model.specs.Values.{Judgement}
+use Rattle.std.specs.Prelude.{◌≡◌, ◌≢◌, ℕ, ◌≤◌, Ok, Err}
 use Rattle.std.proofs.Common.{sym, ap, subst, ◌∙◌}
 use Rattle.values.specs.declared.Table.{Table}
 use Rattle.values.specs.declared.Measure.{Measure}
-use Rattle.values.specs.declared.Judgement.{Judgement}
 use Rattle.values.specs.declared.Verdict.{Verdict}
-use Rattle.values.specs.declared.Outcome.{Outcome}
 use Rattle.values.specs.declared.Answer.{Answer}
 use Rattle.model.specs.Tasks.{judged}
 use Rattle.model.specs.Verdict.{verdict, settled_by, Answers, PermittedBy, Permitted}
@@ -20,12 +19,12 @@ module _ (t : Table) (budget more : ℕ) (a : Answer) where
   longer_answers m (Verdict.Late f k d) s e = rw s e
   longer_answers m Verdict.Undecided s e = rw s e
 
-  module _ (l : budget ≤ more) (u : a.outcome ≢ Outcome.Tested Verdict.Undecided) where
+  module _ (l : budget ≤ more) (u : a.outcome ≢ Ok Verdict.Undecided) where
     longer_judged : (j : Judgement) → PermittedBy t budget a j → PermittedBy t more a j
-    longer_judged (Judgement.Refused r) h = h
-    longer_judged (Judgement.WellFormed m) h =
+    longer_judged (Err r) h = h
+    longer_judged (Ok m) h =
         let tested = (answers_say t budget m a (verdict t budget) h).0 in
-        let (v, s) = longer t budget more l (λ e. u (tested ∙ ap Outcome.Tested e)) in
+        let (v, s) = longer t budget more l (λ e. u (tested ∙ ap Ok e)) in
         subst (Answers t more m a) (sym v) (longer_answers m (verdict t budget) s h)
 
     pub still_permitted : Permitted t budget a → Permitted t more a

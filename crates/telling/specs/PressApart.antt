@@ -1,14 +1,12 @@
 -- WHAT A PRESS STEP RETURNS (`press_step_apart`): the owner and the presses that were not taken, or a refusal, which is below 2^32, tells its number and
 -- place, and changes no byte.
-use Rattle.std.specs.Prelude.{◌≡◌, ◌⊎◌, ◌↔◌, List, Bool, true, false, cond, not, ◌&&◌, ℕ, ◌+◌, ◌*◌, ◌/◌, ◌%◌, ◌≤◌, ◌<◌, T, ltb, eqb}
+use Rattle.std.specs.Prelude.{◌≡◌, ◌⊎◌, ◌↔◌, List, Bool, true, false, cond, not, ◌&&◌, ℕ, ◌+◌, ◌*◌, ◌/◌, ◌%◌, ◌≤◌, ◌<◌, T, ltb, eqb, Ok, Err}
 use Rattle.std.proofs.Math.Path.{refl}
 use Rattle.std.proofs.Math.Logic.{inl, inr}
 use Rattle.std.proofs.Common.{arith, ltb-true, ltb-false}
 use Rattle.values.specs.declared.Table.{Table}
-use Rattle.values.specs.declared.Judgement.{Judgement}
-use Rattle.values.specs.declared.Admission.{Admission}
 use Rattle.model.specs.Limits.{task_limit, word_limit, slot_count_limit}
-use Rattle.model.specs.Values.{refusal}
+use Rattle.model.specs.Values.{refusal, Judgement, Admission}
 use Rattle.model.specs.Notation.{in_set}
 use Rattle.model.specs.Tasks.{task, is_button, judged_mixed}
 use Rattle.model.specs.TableFile.{form_of}
@@ -51,7 +49,7 @@ mixed_told t d = (
   state_below t d (judged_mixed t) (mixed_below t),
 )
 
-pub admitted_ranged : (t : Table) (d : State) → admitted_mixed t d ≡ Admission.Admitted → Ranged t
+pub admitted_ranged : (t : Table) (d : State) → admitted_mixed t d ≡ Ok tt → Ranged t
 unfolding admitted_mixed
 admitted_ranged t d e = let ((m, well), fits) = (admitted_by_iff t d (judged_mixed t)).0 e in (well_mixed t m well).ranged
 
@@ -64,8 +62,8 @@ module _ (file buffer : List ℕ) where
     where
       by : (t : Table) (j : Judgement) → JudgementTellable j → JudgedBelow j → let s = start_judged t (state_in buffer) j in
           Apart (λ n. n ≡ 0) buffer (start_written buffer s.state s.admission)
-      by t (Judgement.Refused r) n b = inr (r, refl, n, omega (arith, n.1))
-      by t (Judgement.WellFormed m) n b = inl refl
+      by t (Err r) n b = inr (r, refl, n, omega (arith, n.1))
+      by t (Ok m) n b = inl refl
 
   pub press_step_apart : (done pressed : ℕ) → Apart (TakenPress (form_of file).table) buffer (press_step_exported file buffer done pressed)
   unfolding stepped_pressed
@@ -78,8 +76,8 @@ module _ (file buffer : List ℕ) where
     where
       by : (t : Table) (d : State) (report : Bool) (a : Admission) → admitted_mixed t d ≡ a → AdmissionTellable a → Below a
           → let s = press_admitted t d report pressed a in Apart (TakenPress t) buffer (press_written buffer s.state s.untaken s.answer)
-      by t d report (Admission.Refused r) e n b = inr (r, refl, n, omega (arith, n.1))
-      by t d report Admission.Admitted e n b = go (eqb (slot_count t d) slot_count_limit)
+      by t d report (Err r) e n b = inr (r, refl, n, omega (arith, n.1))
+      by t d report (Ok u) e n b = go (eqb (slot_count t d) slot_count_limit)
         where
           taken : TakenPress t (word_limit * not_taken t d pressed + owner_come t d report (comes t d pressed))
           taken =

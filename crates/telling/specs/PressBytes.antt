@@ -1,16 +1,14 @@
 -- WITHOUT BUTTONS, BYTE FOR BYTE (`steps_same`): on a file that has none, the calls that take presses do what a camera's own start and step do, and tell
 -- every press as not taken.
-use Rattle.std.specs.Prelude.{◌≡◌, List, Bool, true, false, cond, not, ◌&&◌, ℕ, min, ◌+◌, ◌*◌, ◌/◌, ◌%◌, ◌≤◌, ◌<◌, ltb, eqb, length}
+use Rattle.std.specs.Prelude.{◌≡◌, List, Bool, true, false, cond, not, ◌&&◌, ℕ, min, ◌+◌, ◌*◌, ◌/◌, ◌%◌, ◌≤◌, ◌<◌, ltb, eqb, length, Ok, Err}
 use Rattle.std.proofs.Math.Path.{refl}
 use Rattle.std.proofs.Common.{ap, ◌∙◌, inl, inr, arith, le-ltb}
 use Rattle.std.proofs.Math.Decide.{dec_lt}
 use Rattle.values.specs.declared.Table.{Table}
 use Rattle.values.specs.declared.Refusal.{Refusal}
-use Rattle.values.specs.declared.Admission.{Admission}
-use Rattle.values.specs.declared.SlotAnswer.{SlotAnswer}
 use Rattle.model.specs.Limits.{task_limit, word_limit, slot_count_limit}
 use Rattle.model.specs.Notation.{bits, in_set}
-use Rattle.model.specs.Values.{refusal}
+use Rattle.model.specs.Values.{refusal, Admission}
 use Rattle.model.specs.Tasks.{task, is_button, judged_mixed}
 use Rattle.model.specs.TableFile.{form_of}
 use Rattle.model.specs.Run.{tie_order}
@@ -58,14 +56,14 @@ module _ (file buffer : List ℕ) (none : Buttonless (form_of file).table) where
   table = (form_of file).table
 
   abbrev unfit : Admission
-  unfit = Admission.Refused (refusal 50 (min (length buffer) 65535))
+  unfit = Err (refusal 50 (min (length buffer) 65535))
 
   -- Whatever comes of the buffer and the form, two that do alike on the table do alike.
   alike : {x y : Exported} → x ≡ y → (a : Admission)
-      → ◌≡◌ {A = Exported} (elim a [ Admission.Refused r ↦ refused r buffer | Admission.Admitted ↦ x ])
-      (elim a [ Admission.Refused r ↦ refused r buffer | Admission.Admitted ↦ y ])
-  alike e (Admission.Refused r) = refl
-  alike e Admission.Admitted = e
+      → ◌≡◌ {A = Exported} (elim a [ Err r ↦ refused r buffer | Ok _ ↦ x ])
+      (elim a [ Err r ↦ refused r buffer | Ok _ ↦ y ])
+  alike e (Err r) = refl
+  alike e (Ok u) = e
 
   pub starts_same : press_start_exported file buffer ≡ start_exported file buffer
   starts_same = alike (rw (start_same table none (state_in buffer)) refl) (cond (eqb (length buffer) state_bytes) (form_of file).admission unfit)
@@ -77,7 +75,7 @@ module _ (file buffer : List ℕ) (none : Buttonless (form_of file).table) where
     taken_beside : Ranged table
         → let p = press_taken table d report pressed in
         Beside pressed (press_written buffer p.state p.untaken p.answer)
-        (step_written buffer (after table d report) (SlotAnswer.Slot (turn table d report)))
+        (step_written buffer (after table d report) (Ok (turn table d report)))
     unfolding turn_by
     taken_beside r =
         let one = (owner_low table r d report pressed).0 in
@@ -93,12 +91,12 @@ module _ (file buffer : List ℕ) (none : Buttonless (form_of file).table) where
         → let p = press_admitted table d report pressed a in
         let s = step_admitted_by table (tie_order table) d report a in
         Beside pressed (press_written buffer p.state p.untaken p.answer) (step_written buffer s.state s.answer)
-    by_admission (Admission.Refused r) e n = refused_beside pressed r n
-    by_admission Admission.Admitted e n = go (eqb (slot_count table d) slot_count_limit)
+    by_admission (Err r) e n = refused_beside pressed r n
+    by_admission (Ok u) e n = go (eqb (slot_count table d) slot_count_limit)
       where
         go : (full : Bool)
             → let p = cond full (refuse_pressed (refusal 9 0) d pressed) (press_taken table d report pressed) in
-            let s = cond full (refuse_step (refusal 9 0) d) (record { answer = SlotAnswer.Slot (turn table d report); state = after table d report }) in
+            let s = cond full (refuse_step (refusal 9 0) d) (record { answer = Ok (turn table d report); state = after table d report }) in
             Beside pressed (press_written buffer p.state p.untaken p.answer) (step_written buffer s.state s.answer)
         go true = refused_beside pressed (refusal 9 0) (omega arith, omega arith)
         go false = taken_beside (admitted_ranged table d e)
@@ -109,10 +107,10 @@ module _ (file buffer : List ℕ) (none : Buttonless (form_of file).table) where
     by_table = rw (judged_same table none) (by_admission (admitted_mixed table d) refl (mixed_told table d).0)
 
   on_both : (pressed : ℕ) {p s : Exported} → Beside pressed p s → (a : Admission) → AdmissionTellable a
-      → Beside pressed (elim a [ Admission.Refused r ↦ refused r buffer | Admission.Admitted ↦ p ])
-      (elim a [ Admission.Refused r ↦ refused r buffer | Admission.Admitted ↦ s ])
-  on_both pressed b (Admission.Refused r) n = refused_beside pressed r n
-  on_both pressed b Admission.Admitted n = b
+      → Beside pressed (elim a [ Err r ↦ refused r buffer | Ok _ ↦ p ])
+      (elim a [ Err r ↦ refused r buffer | Ok _ ↦ s ])
+  on_both pressed b (Err r) n = refused_beside pressed r n
+  on_both pressed b (Ok u) n = b
 
   pub steps_same : (done pressed : ℕ) → Beside pressed (press_step_exported file buffer done pressed) (step_exported file buffer done)
   steps_same done pressed =

@@ -1,14 +1,12 @@
 -- THE LOOP UNDER PRESSES (`steps`): the exported start and steps that take presses, in one buffer and on the file of a well-formed table of both sorts, are
 -- the dispatcher's history under these presses, for as long as its slots can be counted.
-use Rattle.std.specs.Prelude.{◌≡◌, List, Bool, not, eqb, length, replicate}
+use Rattle.std.specs.Prelude.{◌≡◌, List, Bool, not, eqb, length, replicate, Ok}
 use Rattle.std.proofs.Math.Path.{refl, ap}
 use Rattle.std.proofs.Common.{sym, ◌∙◌, arith}
 use Prim.Native.Nat.{ℕ, zero, suc, ◌+◌, ◌*◌, ◌/◌, ◌%◌, ◌≤◌, ◌<◌}
 use Rattle.std.proofs.lemmas.List.{length-replicate}
 use Rattle.values.specs.declared.Table.{Table}
 use Rattle.values.specs.declared.Measure.{Measure}
-use Rattle.values.specs.declared.Judgement.{Judgement}
-use Rattle.values.specs.declared.Admission.{Admission}
 use Rattle.values.specs.declared.Turn.{Turn}
 use Rattle.model.specs.Limits.{task_limit, word_limit, slot_count_limit}
 use Rattle.model.specs.Notation.{count}
@@ -42,8 +40,8 @@ fits_under t r done pressed n h =
     belongs_fits t r (state_under t done pressed n) (belongs_under t r done pressed n) (past_under t done pressed n)
     (omega (arith, slots_are t r done pressed n))
 
-module _ (file : List ℕ) (t : Table) (m : Measure) (formed : (form_of file).admission ≡ Admission.Admitted) (held : (form_of file).table ≡ t)
-    (well : judged_mixed t ≡ Judgement.WellFormed m) (lent : List ℕ) (size : length lent ≡ state_bytes) (done pressed : ℕ → ℕ) where
+module _ (file : List ℕ) (t : Table) (m : Measure) (formed : (form_of file).admission ≡ Ok tt) (held : (form_of file).table ≡ t)
+    (well : judged_mixed t ≡ Ok m) (lent : List ℕ) (size : length lent ≡ state_bytes) (done pressed : ℕ → ℕ) where
   r : Ranged t
   r = (well_mixed t m well).ranged
 

@@ -1,11 +1,10 @@
 -- THE QUICK ANSWER (`quick_either`): to a well-formed table it is pass or no answer,
 -- and is told so in words and as a number.
-use Rattle.std.specs.Prelude.{◌≡◌, refl, ◌⊎◌, [], ◌∷◌, Bool, true, false, cond, ◌≤◌}
+use Rattle.std.specs.Prelude.{◌≡◌, refl, ◌⊎◌, [], ◌∷◌, Bool, true, false, cond, ◌≤◌, Ok, Err}
 use Rattle.std.proofs.Common.{inl, inr, arith}
 use Rattle.values.specs.declared.Table.{Table}
 use Rattle.values.specs.declared.Refusal.{Refusal}
 use Rattle.values.specs.declared.Measure.{Measure}
-use Rattle.values.specs.declared.Judgement.{Judgement}
 use Rattle.values.specs.declared.QuickAnswer.{QuickAnswer}
 use Rattle.model.specs.Values.{quick_said}
 use Rattle.model.specs.Tasks.{judged}
@@ -28,12 +27,12 @@ low_by : (b : Bool) → quick_number (told b) ≤ 1
 low_by true = omega arith
 low_by false = omega arith
 
-pub quick_refuses : (t : Table) (r : Refusal) → judged t ≡ Judgement.Refused r
+pub quick_refuses : (t : Table) (r : Refusal) → judged t ≡ Err r
     → quick_number (quick_answer t) ≡ refusal_number r
 unfolding quick_answer
 quick_refuses t r e = rw e refl
 
-module _ (t : Table) (m : Measure) (well : judged t ≡ Judgement.WellFormed m) where
+module _ (t : Table) (m : Measure) (well : judged t ≡ Ok m) where
   pub quick_either : (quick_answer t ≡ QuickAnswer.Pass) ⊎ (quick_answer t ≡ QuickAnswer.NoAnswer)
   unfolding quick_answer
   quick_either = rw well (either_by (quick_pass t))

@@ -1,7 +1,7 @@
 -- THE ROOM TOLD (`room_right`): where the distance test passes a table, the room of a task is a cost with which it passes, and no larger one up to the
 -- deadline is.
 use Rattle.std.proofs.Math.Path.{◌≡◌, refl}
-use Rattle.std.specs.Prelude.{◌⊎◌, ◌↔◌, T, ltb}
+use Rattle.std.specs.Prelude.{◌⊎◌, ◌↔◌, T, ltb, Ok, Err}
 use Rattle.std.proofs.Math.Logic.{inl}
 use Rattle.std.proofs.Common.{inr, ltb-true}
 use Rattle.std.proofs.Math.Bool.{Bool, true, false, cond}
@@ -11,10 +11,9 @@ use native.Mathlib.Omega.{arith}
 use Rattle.values.specs.declared.Table.{Table}
 use Rattle.values.specs.declared.Refusal.{Refusal}
 use Rattle.values.specs.declared.Measure.{Measure}
-use Rattle.values.specs.declared.Judgement.{Judgement}
 use Rattle.values.specs.declared.DistanceAnswer.{DistanceAnswer}
 use Rattle.model.specs.Limits.{slot_limit}
-use Rattle.model.specs.Values.{refusal}
+use Rattle.model.specs.Values.{refusal, Judgement}
 use Rattle.model.specs.Notation.{last}
 use Rattle.model.specs.Tasks.{task, measure, judged_mixed}
 use Rattle.model.specs.Patterns.{light, distance_pass, distance_judged, distance_answer}
@@ -29,7 +28,7 @@ use Rattle.backlog.proofs.Largest.{ranged_with, round_with}
 use Rattle.patterns.proofs.DistancePass.{distance_case, distance_told}
 use Rattle.patterns.proofs.Room.{own_room}
 
-module _ (t : Table) (m : Measure) (well : judged_mixed t ≡ Judgement.WellFormed m) (i : ℕ) (l : i < t.count) where
+module _ (t : Table) (m : Measure) (well : judged_mixed t ≡ Ok m) (i : ℕ) (l : i < t.count) where
   ranged : Ranged t
   ranged = ((mixed_iff t m).0 well).0
 
@@ -78,11 +77,11 @@ module _ (t : Table) (i : ℕ) (below : i < 65536) where
   abbrev Apart : ℕ → Type 0
   Apart n = (n ≤ slot_limit + 3) ⊎ ((r : Refusal) × (n ≡ refusal_number r) × Tellable r)
 
-  by_answer : (m : Measure) → judged_mixed t ≡ Judgement.WellFormed m → i < t.count → (a : DistanceAnswer) → distance_answer t ≡ a → Apart (room_told t i a)
+  by_answer : (m : Measure) → judged_mixed t ≡ Ok m → i < t.count → (a : DistanceAnswer) → distance_answer t ≡ a → Apart (room_told t i a)
   unfolding distance_answer
   by_answer m well l (DistanceAnswer.Refused r) e = absurd (none (rw well at e))
     where
-      none : distance_judged t (Judgement.WellFormed m) ≡ DistanceAnswer.Refused r → ⊥
+      none : distance_judged t (Ok m) ≡ DistanceAnswer.Refused r → ⊥
       none = unrefused (light t) (distance_pass t) r
         where
           unrefused : (a b : Bool) (r : Refusal)
@@ -97,8 +96,8 @@ module _ (t : Table) (i : ℕ) (below : i < 65536) where
   by_answer m well l DistanceAnswer.NoAnswer e = inl (omega arith)
 
   by_judgement : (j : Judgement) → judged_mixed t ≡ j → JudgementTellable j → Apart (room_judged t i j)
-  by_judgement (Judgement.Refused r) e n = inr (r, refl, n)
-  by_judgement (Judgement.WellFormed m) e n = go (ltb i t.count) refl
+  by_judgement (Err r) e n = inr (r, refl, n)
+  by_judgement (Ok m) e n = go (ltb i t.count) refl
     where
       go : (b : Bool) → ltb i t.count ≡ b → Apart (cond b (room_told t i (distance_answer t)) (refusal_number (refusal 12 i)))
       go true q = by_answer m e (ltb-true i t.count q) (distance_answer t) refl

@@ -57,18 +57,18 @@ fn step(vector: &[u8], d: Dispatcher, t: Table, done: bool) -> Dispatcher {
 
 fn say_admission(admission: Admission) {
     match admission {
-        Admission::Refused(why) => {
+        Err(why) => {
             say::refusal(why);
             say::words(b", ");
         }
-        Admission::Admitted => {}
+        Ok(()) => {}
     }
 }
 
 fn say_answer(answer: SlotAnswer) {
     match answer {
-        SlotAnswer::Refused(why) => say::refusal(why),
-        SlotAnswer::Slot(turn) => say_turn(turn),
+        Err(why) => say::refusal(why),
+        Ok(turn) => say_turn(turn),
     }
     say::words(b", ");
 }

@@ -24,8 +24,8 @@ pub fn rounds() {
 fn judge(vector: &[u8], t: Table) {
     say::about(b"judge", vector);
     match table::judge(t) {
-        Judgement::Refused(why) => say::refusal(why),
-        Judgement::WellFormed(m) => say::measure(m),
+        Err(why) => say::refusal(why),
+        Ok(m) => say::measure(m),
     }
     say::words(b"\n");
 }

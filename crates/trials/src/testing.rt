@@ -60,8 +60,8 @@ fn say_answer(a: Answer) {
 
 fn say_outcome(outcome: Outcome) {
     match outcome {
-        Outcome::Refused(why) => say::refusal(why),
-        Outcome::Tested(verdict) => say_verdict(verdict),
+        Err(why) => say::refusal(why),
+        Ok(verdict) => say_verdict(verdict),
     }
 }
 

@@ -1,6 +1,9 @@
 // The values that pass between the calls. What they mean stands in `model`.
 #![tactic(auto)]
 
+ghost use Rattle.std.specs.Prelude.{◌≡◌};
+ghost use Rattle.values.specs.Numbers.{number_of, verdict_number};
+
 // The limits of the code, each once: they are those of `model`, or the proofs fail.
 pub const TASK_LIMIT: usize = 32;
 
@@ -24,87 +27,55 @@ pub const LOG_LIMIT: u64 = 0xffff_ffff;
 
 pub const LOG_STATE_BYTES: usize = STATE_BYTES + 4 * 4 + 8 * 2;
 
-// The numbers of refusals, section 7.1 of the specification, and of a log's faults, 7.3: those of `model`, or the proofs fail.
-pub const NO_TASKS: u32 = 1;
+// Why a call refuses, section 7.1 of the specification, and what is wrong with a log, 7.3: the numbers are those of `model`, or the
+// proofs fail.
+#[derive(Clone, Copy, PartialEq, Eq)]
+pub enum Fault {
+    NoTasks = 1,
+    TooManyTasks = 2,
+    BadPeriod = 3,
+    BadDeadline = 4,
+    BadCost = 5,
+    BadOffset = 6,
+    LongRound = 7,
+    StrangeState = 8,
+    FullState = 9,
+    HasButton = 11,
+    NoSuchTask = 12,
+    FileCutShort = 20,
+    FileUnknownKind = 21,
+    FileNoBudget = 22,
+    FileSecondBudget = 23,
+    FileAfterEnd = 24,
+    FileTooManyTasks = 25,
+    FileNoEnd = 26,
+    ZeroBudget = 27,
+    ShortReport = 30,
+    ShortBuffer = 31,
+    LogUnknownKind = 40,
+    LogBadDone = 41,
+    LogAfterEnd = 42,
+    LogNoEnd = 43,
+    LogTooLong = 44,
+    StateLength = 50,
+    BrokenRows = 51,
+    StrangeRow = 52,
+    TextUnknownWord = 60,
+    TextNotANumber = 61,
+    TextLargeNumber = 62,
+    TextWrongCount = 63,
+    TextBudgetNotFirst = 64,
+    TextSecondBudget = 65,
+    TextTooManyTasks = 66,
+}
 
-pub const TOO_MANY_TASKS: u32 = 2;
+impl From<Fault> for u32 {
+    ghost from_gives = { λ fault number. number ≡ number_of fault };
 
-pub const BAD_PERIOD: u32 = 3;
-
-pub const BAD_DEADLINE: u32 = 4;
-
-pub const BAD_COST: u32 = 5;
-
-pub const BAD_OFFSET: u32 = 6;
-
-pub const LONG_ROUND: u32 = 7;
-
-pub const STRANGE_STATE: u32 = 8;
-
-pub const FULL_STATE: u32 = 9;
-
-pub const HAS_BUTTON: u32 = 11;
-
-pub const NO_SUCH_TASK: u32 = 12;
-
-pub const FILE_CUT_SHORT: u32 = 20;
-
-pub const FILE_UNKNOWN_KIND: u32 = 21;
-
-pub const FILE_NO_BUDGET: u32 = 22;
-
-pub const FILE_SECOND_BUDGET: u32 = 23;
-
-pub const FILE_AFTER_END: u32 = 24;
-
-pub const FILE_TOO_MANY_TASKS: u32 = 25;
-
-pub const FILE_NO_END: u32 = 26;
-
-pub const ZERO_BUDGET: u32 = 27;
-
-pub const SHORT_REPORT: u32 = 30;
-
-pub const SHORT_BUFFER: u32 = 31;
-
-pub const LOG_UNKNOWN_KIND: u32 = 40;
-
-pub const LOG_BAD_DONE: u32 = 41;
-
-pub const LOG_AFTER_END: u32 = 42;
-
-pub const LOG_NO_END: u32 = 43;
-
-pub const LOG_TOO_LONG: u32 = 44;
-
-pub const STATE_LENGTH: u32 = 50;
-
-pub const BROKEN_ROWS: u32 = 51;
-
-pub const STRANGE_ROW: u32 = 52;
-
-pub const TEXT_UNKNOWN_WORD: u32 = 60;
-
-pub const TEXT_NOT_A_NUMBER: u32 = 61;
-
-pub const TEXT_LARGE_NUMBER: u32 = 62;
-
-pub const TEXT_WRONG_COUNT: u32 = 63;
-
-pub const TEXT_BUDGET_NOT_FIRST: u32 = 64;
-
-pub const TEXT_SECOND_BUDGET: u32 = 65;
-
-pub const TEXT_TOO_MANY_TASKS: u32 = 66;
-
-// The numbers of verdicts in the answer of a check, section 9 of the specification.
-pub const OVERLOAD: u32 = 1;
-
-pub const UNDECIDED: u32 = 2;
-
-pub const LATE: u32 = 3;
-
-pub const PASSES: u32 = 4;
+    fn from(fault: Fault) -> u32 {
+        fault as u32
+    }
+}
 
 // How the jobs of a task come: from an offset on, every period, or as a button is pressed, with no offset at all.
 #[derive(Clone, Copy)]
@@ -136,6 +107,17 @@ pub struct Refusal {
     pub place: u32,
 }
 
+impl Refusal {
+    pub fn new(fault: Fault, place: u32) -> Refusal
+        ensures { result ≡ record { number = number_of fault; place = place } }
+    {
+        Refusal {
+            number: u32::from(fault),
+            place,
+        }
+    }
+}
+
 // What a well-formed table measures: H, the slots its jobs ask for in H slots, and its horizon.
 #[derive(Clone, Copy)]
 pub struct Measure {
@@ -144,12 +126,8 @@ pub struct Measure {
     pub horizon: u64,
 }
 
-// Whether a table is well-formed.
-#[derive(Clone, Copy)]
-pub enum Judgement {
-    Refused(Refusal),
-    WellFormed(Measure),
-}
+// Whether a table is well-formed: what it measures, or its refusal.
+pub type Judgement = Result<Measure, Refusal>;
 
 // What the exact test decides.
 #[derive(Clone, Copy)]
@@ -160,12 +138,22 @@ pub enum Verdict {
     Undecided,
 }
 
-// The answer of the exact test: a refusal or a verdict.
-#[derive(Clone, Copy)]
-pub enum Outcome {
-    Refused(Refusal),
-    Tested(Verdict),
+impl Verdict {
+    // Its number in the answer of a check, section 9 of the specification.
+    pub fn number(self) -> u32
+        ensures { result ≡ verdict_number self }
+    {
+        match self {
+            Verdict::Overload => 1,
+            Verdict::Undecided => 2,
+            Verdict::Late { .. } => 3,
+            Verdict::Passes => 4,
+        }
+    }
 }
+
+// The answer of the exact test: a verdict or a refusal.
+pub type Outcome = Result<Verdict, Refusal>;
 
 // The largest cost of a task with which its table passes: a refusal, why the table does not pass as it is, or that cost.
 #[derive(Clone, Copy)]
@@ -249,11 +237,7 @@ pub enum Easing {
 }
 
 // Whether a buffer, a file, or a table to start with, is taken.
-#[derive(Clone, Copy)]
-pub enum Admission {
-    Refused(Refusal),
-    Admitted,
-}
+pub type Admission = Result<(), Refusal>;
 
 // What a table file holds. Of a refused file the budget is 0 and the table empty.
 #[derive(Clone, Copy)]
@@ -263,12 +247,8 @@ pub struct Contents {
     pub table: Table,
 }
 
-// What a writer into a lent buffer says: a refusal, or how many bytes it wrote at the buffer's front.
-#[derive(Clone, Copy)]
-pub enum Writing {
-    Refused(Refusal),
-    Bytes(usize),
-}
+// What a writer into a lent buffer says: how many bytes it wrote at the buffer's front, or a refusal.
+pub type Writing = Result<usize, Refusal>;
 
 // What a line of a plain text says: nothing, a budget, a task, or by its number the fault that it has.
 #[derive(Clone, Copy)]
@@ -300,12 +280,8 @@ pub struct Turn {
     pub lowest: u32,
 }
 
-// The answer of a step: a refusal, or what it says.
-#[derive(Clone, Copy)]
-pub enum SlotAnswer {
-    Refused(Refusal),
-    Slot(Turn),
-}
+// The answer of a step: what it says, or a refusal.
+pub type SlotAnswer = Result<Turn, Refusal>;
 
 // What is found of a camera's log: nothing yet; its end, with nothing wrong before it; the first slot that differs from the
 // dispatcher's; a fault, by its number (section 7.3 of the specification) and the place of its byte.

@@ -1,8 +1,7 @@
 -- Tables at the limit of H, whose search is too long to compute: two are read, one is refused by 7 at 0.
-use Rattle.std.specs.Prelude.{◌≡◌, refl, ℕ, ◌≤◌, ◌<◌}
+use Rattle.std.specs.Prelude.{◌≡◌, refl, ℕ, ◌≤◌, ◌<◌, Ok, Err}
 use Rattle.std.proofs.Common.{ap, ◌∙◌, arith}
 use Rattle.values.specs.declared.Table.{Table}
-use Rattle.values.specs.declared.Judgement.{Judgement}
 use Rattle.model.specs.Limits.{round_limit}
 use Rattle.model.specs.Notation.{sum, largest, first}
 use Rattle.model.specs.Values.{refusal}
@@ -18,10 +17,10 @@ module _ (t : Table) (r : Ranged t) (h : ℕ) (e : lcm_all t.count (period t) �
   round_is : round t ≡ h
   round_is = round_lcm t r ∙ e
 
-  long : round_limit < h → judged t ≡ Judgement.Refused (refusal 7 0)
+  long : round_limit < h → judged t ≡ Err (refusal 7 0)
   long l = judged_long t r (omega (arith, round_is))
 
-  short : h ≤ round_limit → Buttonless t → judged t ≡ Judgement.WellFormed (measure t)
+  short : h ≤ round_limit → Buttonless t → judged t ≡ Ok (measure t)
   short l = judged_of t r (omega (arith, round_is))
 
 now_ranged : Ranged now_read
@@ -51,11 +50,11 @@ measures : (measure now_read ≡ now_measured) × (measure within_limit ≡ with
 unfolding load horizon sum largest
 measures = (rw (round_is now_read now_ranged _ rounds.0) refl, rw (round_is within_limit within_ranged _ rounds.1) refl)
 
-pub read_now : judged now_read ≡ Judgement.WellFormed now_measured
-read_now = short now_read now_ranged _ rounds.0 (omega arith) buttonless.0 ∙ ap Judgement.WellFormed measures.0
+pub read_now : judged now_read ≡ Ok now_measured
+read_now = short now_read now_ranged _ rounds.0 (omega arith) buttonless.0 ∙ ap Ok measures.0
 
-pub read_within : judged within_limit ≡ Judgement.WellFormed within_measured
-read_within = short within_limit within_ranged _ rounds.1 (omega arith) buttonless.1 ∙ ap Judgement.WellFormed measures.1
+pub read_within : judged within_limit ≡ Ok within_measured
+read_within = short within_limit within_ranged _ rounds.1 (omega arith) buttonless.1 ∙ ap Ok measures.1
 
-pub refused_above : judged above_limit ≡ Judgement.Refused (refusal 7 0)
+pub refused_above : judged above_limit ≡ Err (refusal 7 0)
 refused_above = long above_limit above_ranged _ rounds.2 (omega arith)

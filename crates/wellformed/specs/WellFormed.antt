@@ -1,5 +1,5 @@
 -- What holds of a table that is judged well-formed.
-use Rattle.std.specs.Prelude.{◌≡◌, refl, ◌↔◌, Bool, true, false, cond, ℕ, ◌+◌, ◌*◌, ◌≤◌, ◌<◌, eqb, ltb}
+use Rattle.std.specs.Prelude.{◌≡◌, refl, ◌↔◌, Bool, true, false, cond, ℕ, ◌+◌, ◌*◌, ◌≤◌, ◌<◌, eqb, ltb, Ok, Err}
 use Rattle.std.proofs.Common.{sym, ap, subst, ◌∙◌, arith, ltb-false, ne_eqb, le-ltb, lt-ltb}
 use Rattle.std.specs.Int.{◌∣◌}
 use Rattle.std.proofs.lemmas.Bool.{eqb-false}
@@ -7,10 +7,8 @@ use Rattle.values.specs.declared.Task.{Task}
 use Rattle.values.specs.declared.Table.{Table}
 use Rattle.values.specs.declared.Refusal.{Refusal}
 use Rattle.values.specs.declared.Measure.{Measure}
-use Rattle.values.specs.declared.Judgement.{Judgement}
-use Rattle.values.specs.declared.Admission.{Admission}
 use Rattle.model.specs.Notation.{largest, Least}
-use Rattle.model.specs.Values.{refusal}
+use Rattle.model.specs.Values.{refusal, Judgement}
 use Rattle.model.specs.Limits.{task_limit, slot_limit, round_limit}
 use Rattle.model.specs.Tasks.{task, is_button, offset, task_fault, first_faulty, first_button, round, load, horizon, measure, judged_mixed, periodic_only}
 use Rattle.model.specs.Tasks.{judged, admission_of}
@@ -34,21 +32,21 @@ pub record WellFormed (t : Table) (m : Measure) : Type 0 where
   pub horizon_le : horizon t ≤ horizon_limit
 
 -- Of a table that keeps its ranges, H decides.
-mixed_ranged : (t : Table) → Ranged t → judged_mixed t ≡ cond (ltb round_limit (round t)) (Judgement.Refused (refusal 7 0)) (Judgement.WellFormed (measure t))
+mixed_ranged : (t : Table) → Ranged t → judged_mixed t ≡ cond (ltb round_limit (round t)) (Err (refusal 7 0)) (Ok (measure t))
 unfolding judged_mixed
 mixed_ranged t r =
     rw (ne_eqb t.count 0 (omega arith), le-ltb task_limit t.count (omega arith), le-ltb (first_faulty t) t.count (omega (arith, none_faulty t r)))
 
 -- It is refused where H is above its limit.
-pub mixed_long : (t : Table) → Ranged t → round_limit < round t → judged_mixed t ≡ Judgement.Refused (refusal 7 0)
+pub mixed_long : (t : Table) → Ranged t → round_limit < round t → judged_mixed t ≡ Err (refusal 7 0)
 mixed_long t r h = rw (mixed_ranged t r, lt-ltb round_limit (round t) h)
 
-pub judged_long : (t : Table) → Ranged t → round_limit < round t → judged t ≡ Judgement.Refused (refusal 7 0)
+pub judged_long : (t : Table) → Ranged t → round_limit < round t → judged t ≡ Err (refusal 7 0)
 unfolding judged
 judged_long t r h = rw (mixed_long t r h)
 
 -- Else it is well-formed, and measures this.
-pub mixed_of : (t : Table) → Ranged t → round t ≤ round_limit → judged_mixed t ≡ Judgement.WellFormed (measure t)
+pub mixed_of : (t : Table) → Ranged t → round t ≤ round_limit → judged_mixed t ≡ Ok (measure t)
 mixed_of t r h = rw (mixed_ranged t r, le-ltb round_limit (round t) h)
 
 -- No task of a table is a button.
@@ -64,13 +62,13 @@ buttonless_iff t = (
 )
 
 -- And well-formed where only periodic tasks are allowed, if it has no button.
-pub judged_of : (t : Table) → Ranged t → round t ≤ round_limit → Buttonless t → judged t ≡ Judgement.WellFormed (measure t)
+pub judged_of : (t : Table) → Ranged t → round t ≤ round_limit → Buttonless t → judged t ≡ Ok (measure t)
 unfolding judged
 judged_of t r h none = rw (mixed_of t r h, le-ltb (first_button t) t.count ((buttonless_iff t).1 none))
 
 -- A table that one test does not refuse goes on to the next.
-passed : (p : Bool) (n place : ℕ) {j : Judgement} {m : Measure} → cond p (Judgement.Refused (refusal n place)) j ≡ Judgement.WellFormed m
-    → (p ≡ false) × (j ≡ Judgement.WellFormed m)
+passed : (p : Bool) (n place : ℕ) {j : Judgement} {m : Measure} → cond p (Err (refusal n place)) j ≡ Ok m
+    → (p ≡ false) × (j ≡ Ok m)
 passed true n place e = let z : ◌≡◌ {A = ℕ} 0 1 = cc in absurd (omega arith)
 passed false n place e = (refl, e)
 
@@ -102,11 +100,11 @@ horizon_same t u r q n e =
     offsets a = largest a.count (λ k. offset (task a k))
 
 -- EXACTLY: a table is judged well-formed if it keeps its ranges and H its limit, and its measure is told.
-pub mixed_iff : (t : Table) (m : Measure) → (judged_mixed t ≡ Judgement.WellFormed m) ↔ (Ranged t × (round t ≤ round_limit) × (m ≡ measure t))
+pub mixed_iff : (t : Table) (m : Measure) → (judged_mixed t ≡ Ok m) ↔ (Ranged t × (round t ≤ round_limit) × (m ≡ measure t))
 unfolding judged_mixed
-mixed_iff t m = (fwd, λ (r, h, same). mixed_of t r h ∙ ap Judgement.WellFormed (sym same))
+mixed_iff t m = (fwd, λ (r, h, same). mixed_of t r h ∙ ap Ok (sym same))
   where
-    fwd : judged_mixed t ≡ Judgement.WellFormed m → Ranged t × (round t ≤ round_limit) × (m ≡ measure t)
+    fwd : judged_mixed t ≡ Ok m → Ranged t × (round t ≤ round_limit) × (m ≡ measure t)
     fwd e =
         let (a, e₁) = passed (eqb t.count 0) 1 0 e in
         let (b, e₂) = passed (ltb task_limit t.count) 2 task_limit e₁ in
@@ -119,16 +117,16 @@ mixed_iff t m = (fwd, λ (r, h, same). mixed_of t r h ∙ ap Judgement.WellForme
         )
 
 -- EXACTLY: where only periodic tasks are allowed it is well-formed if it is so at all and has no button.
-pub periodic_iff : (t : Table) (m : Measure) → (judged t ≡ Judgement.WellFormed m) ↔ ((judged_mixed t ≡ Judgement.WellFormed m) × Buttonless t)
+pub periodic_iff : (t : Table) (m : Measure) → (judged t ≡ Ok m) ↔ ((judged_mixed t ≡ Ok m) × Buttonless t)
 unfolding judged
 periodic_iff t m = (
   fwd (judged_mixed t) refl,
   λ (e, none). rw (e, le-ltb (first_button t) t.count ((buttonless_iff t).1 none)),
 )
   where
-    fwd : (j : Judgement) → judged_mixed t ≡ j → periodic_only t j ≡ Judgement.WellFormed m → (judged_mixed t ≡ Judgement.WellFormed m) × Buttonless t
-    fwd (Judgement.Refused r) w e = let z : ◌≡◌ {A = ℕ} 0 1 = cc in absurd (omega arith)
-    fwd (Judgement.WellFormed k) w e =
+    fwd : (j : Judgement) → judged_mixed t ≡ j → periodic_only t j ≡ Ok m → (judged_mixed t ≡ Ok m) × Buttonless t
+    fwd (Err r) w e = let z : ◌≡◌ {A = ℕ} 0 1 = cc in absurd (omega arith)
+    fwd (Ok k) w e =
         let (a, e₁) = passed (ltb (first_button t) t.count) 11 (first_button t) e in
         (w ∙ e₁, (buttonless_iff t).0 (ltb-false (first_button t) t.count a))
 
@@ -138,16 +136,16 @@ unfolding judged
 judged_same t none = go (judged_mixed t)
   where
     go : (j : Judgement) → periodic_only t j ≡ j
-    go (Judgement.Refused r) = refl
-    go (Judgement.WellFormed m) = rw (le-ltb (first_button t) t.count ((buttonless_iff t).1 none))
+    go (Err r) = refl
+    go (Ok m) = rw (le-ltb (first_button t) t.count ((buttonless_iff t).1 none))
 
 -- Else it is refused as it is at all, or by 11 at its lowest button.
-pub refused_both : (t : Table) (r : Refusal) → judged_mixed t ≡ Judgement.Refused r → judged t ≡ Judgement.Refused r
+pub refused_both : (t : Table) (r : Refusal) → judged_mixed t ≡ Err r → judged t ≡ Err r
 unfolding judged
 refused_both t r e = rw e refl
 
-pub refused_button : (t : Table) (m : Measure) (i : ℕ) → judged_mixed t ≡ Judgement.WellFormed m
-    → Least (λ k. (k < t.count) × (is_button (task t k) ≡ true)) i → judged t ≡ Judgement.Refused (refusal 11 i)
+pub refused_button : (t : Table) (m : Measure) (i : ℕ) → judged_mixed t ≡ Ok m
+    → Least (λ k. (k < t.count) × (is_button (task t k) ≡ true)) i → judged t ≡ Err (refusal 11 i)
 unfolding judged first_button
 refused_button t m i e ((l, b), before) = rw (e, at, lt-ltb i t.count l) refl
   where
@@ -157,23 +155,23 @@ refused_button t m i e ((l, b), before) = rw (e, at, lt-ltb i t.count l) refl
         (λ k x y h. before k y (omega arith, is_true (is_button (task t k)) h))
 
 -- EXACTLY: by its ranges, H and the sorts of its tasks.
-pub judged_iff : (t : Table) (m : Measure) → (judged t ≡ Judgement.WellFormed m) ↔ (Ranged t × (round t ≤ round_limit) × (m ≡ measure t) × Buttonless t)
+pub judged_iff : (t : Table) (m : Measure) → (judged t ≡ Ok m) ↔ (Ranged t × (round t ≤ round_limit) × (m ≡ measure t) × Buttonless t)
 judged_iff t m = (
   λ e. let (w, none) = (periodic_iff t m).0 e in let (r, h, same) = (mixed_iff t m).0 w in (r, h, same, none),
   λ (r, h, same, none). (periodic_iff t m).1 ((mixed_iff t m).1 (r, h, same), none),
 )
 
 -- What is admitted is well-formed, and what is not is refused as it is judged.
-pub refused_is : (j : Judgement) (r : Refusal) → admission_of j ≡ Admission.Refused r → j ≡ Judgement.Refused r
-refused_is (Judgement.Refused q) r e = let same : q ≡ r = cc in ap Judgement.Refused same
-refused_is (Judgement.WellFormed m) r e = let z : ◌≡◌ {A = ℕ} 0 1 = cc in absurd (omega arith)
+pub refused_is : (j : Judgement) (r : Refusal) → admission_of j ≡ Err r → j ≡ Err r
+refused_is (Err q) r e = let same : q ≡ r = cc in ap Err same
+refused_is (Ok m) r e = let z : ◌≡◌ {A = ℕ} 0 1 = cc in absurd (omega arith)
 
-pub admitted_is : (j : Judgement) → admission_of j ≡ Admission.Admitted → (m : Measure) × (j ≡ Judgement.WellFormed m)
-admitted_is (Judgement.Refused q) e = let z : ◌≡◌ {A = ℕ} 0 1 = cc in absurd (omega arith)
-admitted_is (Judgement.WellFormed m) e = (m, refl)
+pub admitted_is : (j : Judgement) → admission_of j ≡ Ok tt → (m : Measure) × (j ≡ Ok m)
+admitted_is (Err q) e = let z : ◌≡◌ {A = ℕ} 0 1 = cc in absurd (omega arith)
+admitted_is (Ok m) e = (m, refl)
 
 -- What holds of a well-formed table.
-pub well_mixed : (t : Table) (m : Measure) → judged_mixed t ≡ Judgement.WellFormed m → WellFormed t m
+pub well_mixed : (t : Table) (m : Measure) → judged_mixed t ≡ Ok m → WellFormed t m
 well_mixed t m e =
     let (r, h, same) = (mixed_iff t m).0 e in
     record {
@@ -186,12 +184,12 @@ well_mixed t m e =
       horizon_le = horizon_bound t r h;
     }
 
-pub well_formed : (t : Table) (m : Measure) → judged t ≡ Judgement.WellFormed m → WellFormed t m
+pub well_formed : (t : Table) (m : Measure) → judged t ≡ Ok m → WellFormed t m
 well_formed t m e = well_mixed t m ((periodic_iff t m).0 e).0
 
 -- Tables with the same tasks are well-formed together, whatever stands behind their tasks.
 pub same_well_formed : (t u : Table) (m : Measure) → u.count ≡ t.count → ((i : ℕ) → i < t.count → task u i ≡ task t i)
-    → judged_mixed t ≡ Judgement.WellFormed m → judged_mixed u ≡ Judgement.WellFormed (measure u)
+    → judged_mixed t ≡ Ok m → judged_mixed u ≡ Ok (measure u)
 same_well_formed t u m size same well =
     let (r, h, _) = (mixed_iff t m).0 well in
     let u-ranged : Ranged u = record {

@@ -1,6 +1,6 @@
 -- What a writer says, as a number.
+use Rattle.model.specs.Values.{Writing}
 use Rattle.std.specs.Prelude.{◌≡◌, List, ℕ}
-use Rattle.values.specs.declared.Writing.{Writing}
 use Rattle.model.specs.Report.{Exported}
 use Rattle.model.specs.Writer.{fill_told}
 

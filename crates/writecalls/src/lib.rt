@@ -13,8 +13,8 @@ fn told(said: Writing) -> u64
     ensures { ToldAs said result }
 {
     match said {
-        Writing::Refused(why) => numbers::refusal_number(why),
-        Writing::Bytes(bytes) => bytes as u64,
+        Err(why) => numbers::refusal_number(why),
+        Ok(bytes) => bytes as u64,
     }
 }
 

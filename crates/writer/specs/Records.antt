@@ -1,16 +1,14 @@
 -- The records of a file, put one after another: their lengths, and the turn of the loop over the tasks.
-use Rattle.std.specs.Prelude.{◌≡◌, refl, List, [], ◌∷◌, ◌++◌, ◌≢◌, ℕ, zero, suc, ◌+◌, ◌≤◌, ◌<◌, length, get_or, take}
+use Rattle.std.specs.Prelude.{◌≡◌, refl, List, [], ◌∷◌, ◌++◌, ◌≢◌, ℕ, zero, suc, ◌+◌, ◌≤◌, ◌<◌, length, get_or, take, Ok, Err}
 use Rattle.std.proofs.Common.{append-nil, append_assoc, add-one, arith, eq-eqb, ne_eqb, lt-ltb, le-ltb, length-append, take-suc}
 use Rattle.std.proofs.lemmas.List.Edits.{sets-eq}
 use Rattle.values.specs.declared.Sort.{Sort}
 use Rattle.values.specs.declared.Task.{Task}
-use Rattle.values.specs.declared.Table.{Table}
-use Rattle.values.specs.declared.Writing.{Writing}
 use Rattle.model.specs.Limits.{budget_bytes}
-use Rattle.model.specs.Values.{refusal}
+use Rattle.model.specs.Values.{refusal, Writing}
 use Rattle.model.specs.Tasks.{no_task, button_sort}
 use Rattle.model.specs.TableFile.{sort_bytes, task_record, task_records}
-use Rattle.model.specs.Writer.{Filled, fitted, budgeted, tasks_of}
+use Rattle.model.specs.Writer.{Filled, fitted, budgeted}
 use Rattle.counting.specs.Put.{Put, join}
 use Rattle.tablefile.specs.Reading.{record_size, record_bytes}
 use Rattle.tablefile.specs.Written.{record_length}
@@ -24,12 +22,9 @@ pub sort_size : (q : Sort) → length (sort_bytes q) + 12 ≡ record_size (butto
 sort_size (Sort.Periodic o) = refl
 sort_size Sort.Button = refl
 
--- The bytes of a table's tasks, and of its file.
-abbrev pub records_bytes : Table → ℕ
-records_bytes t = length (task_records (tasks_of t))
-
-abbrev pub file_bytes : Table → ℕ
-file_bytes t = budget_bytes + records_bytes t + 1
+-- The bytes of a file of these tasks.
+abbrev pub file_bytes : List Task → ℕ
+file_bytes ks = budget_bytes + length (task_records ks) + 1
 
 -- More tasks have no fewer bytes.
 pub records_more : (ks : List Task) (i n : ℕ) → i ≤ n → length (task_records (take i ks)) ≤ length (task_records (take n ks))
@@ -65,7 +60,7 @@ pub one_more : (ks : List Task) (i : ℕ) {before between after : List ℕ} {at 
 one_more ks i h p q = rw (add-one i, take-suc ks i no_task, records_append (take i ks) (get_or ks i no_task)) (join p q)
 
 -- A budget of 0, and any other.
-pub nothing : {w : Writing} (b : ℕ) (bytes before : List ℕ) → b ≡ 0 → w ≡ Writing.Refused (refusal 27 0)
+pub nothing : {w : Writing} (b : ℕ) (bytes before : List ℕ) → b ≡ 0 → w ≡ Err (refusal 27 0)
     → filled w before ≡ budgeted b bytes before
 nothing b bytes before z e = rw (eq-eqb b 0 z, e)
 
@@ -73,13 +68,13 @@ pub something : {f : Filled} (b : ℕ) (bytes before : List ℕ) → b ≢ 0 →
 something b bytes before h e = rw (ne_eqb b 0 h) e
 
 -- A buffer that is too short.
-pub short : {w : Writing} (bytes before : List ℕ) → length before < length bytes → w ≡ Writing.Refused (refusal 31 (length before))
+pub short : {w : Writing} (bytes before : List ℕ) → length before < length bytes → w ≡ Err (refusal 31 (length before))
     → filled w before ≡ fitted bytes before
 short bytes before h e = rw (lt-ltb (length before) (length bytes) h, e)
 
 -- Bytes at the front of a buffer that is long enough.
 pub fits : {bytes before after : List ℕ} {next : ℕ} → Put bytes 0 before after next → length bytes ≤ length before
-    → filled (Writing.Bytes next) after ≡ fitted bytes before
+    → filled (Ok next) after ≡ fitted bytes before
 fits {bytes} {before} p h =
     let n : 0 + length bytes ≡ length bytes = omega arith in
     let place = p.place in

@@ -1,5 +1,5 @@
 -- What a writer tells: the file where it fits, and else a refusal that changes no byte.
-use Rattle.std.specs.Prelude.{◌≡◌, refl, ◌⊎◌, Bool, true, false, cond, List, ◌++◌, ℕ, min, ◌%◌, ◌≤◌, ◌<◌, ltb, eqb, length, get_or, drop, replicate}
+use Rattle.std.specs.Prelude.{◌≡◌, refl, ◌⊎◌, Bool, true, false, cond, List, ◌++◌, ℕ, min, ◌%◌, ◌≤◌, ◌<◌, ltb, eqb, length, get_or, drop, replicate, Ok, Err}
 use Rattle.std.proofs.Common.{inl, inr, le_refl, arith, lit<, length-take-le}
 use Rattle.std.proofs.Math.Bool.{not}
 use borrow.Author.Tests.{ne_eqb, lt-ltb, le-ltb, ltb-true}
@@ -7,14 +7,11 @@ use Rattle.std.proofs.lemmas.List.{length-replicate}
 use Rattle.values.specs.declared.Table.{Table}
 use Rattle.values.specs.declared.Refusal.{Refusal}
 use Rattle.values.specs.declared.Measure.{Measure}
-use Rattle.values.specs.declared.Judgement.{Judgement}
-use Rattle.values.specs.declared.Admission.{Admission}
-use Rattle.values.specs.declared.Writing.{Writing}
 use Rattle.model.specs.Limits.{task_limit, longest_file}
 use Rattle.model.specs.Tasks.{no_task, task, judged_mixed}
 use Rattle.model.specs.TableFile.{file_of, file_read}
 use Rattle.model.specs.Report.{Exported, refused}
-use Rattle.model.specs.Values.{refusal}
+use Rattle.model.specs.Values.{refusal, Judgement}
 use Rattle.model.specs.Writer.{unwritten, fitted, budgeted, tasks_of, file_written, written_by, row_words, rows, row_task, is_task, first_stranger, table_in}
 use Rattle.model.specs.Writer.{fill_told, write_exported}
 use Rattle.counting.specs.Search.{first_is, first_none}
@@ -29,22 +26,22 @@ use Rattle.writer.specs.RoundTrip as round
 short_file : (t : Table) (b : ℕ) → Ranged t → length (file_of b (tasks_of t)) ≤ longest_file
 short_file t b r = omega (arith, file_length b (tasks_of t), records_le (tasks_of t), length-take-le t.count t.tasks (holds_all t r), r.few)
 
-pub short_writing : (t : Table) (m : Measure) (b : ℕ) (buffer : List ℕ) → judged_mixed t ≡ Judgement.WellFormed m → 0 < b
+pub short_writing : (t : Table) (m : Measure) (b : ℕ) (buffer : List ℕ) → judged_mixed t ≡ Ok m → 0 < b
     → length buffer < length (file_of b (tasks_of t)) → file_written t b buffer ≡ unwritten 31 (length buffer) buffer
 unfolding file_written
 short_writing t m b buffer well some h = rw (well, ne_eqb b 0 (omega arith), lt-ltb (length buffer) (length (file_of b (tasks_of t))) h)
 
-pub long_writing : (t : Table) (m : Measure) (b : ℕ) (buffer : List ℕ) → judged_mixed t ≡ Judgement.WellFormed m → 0 < b
+pub long_writing : (t : Table) (m : Measure) (b : ℕ) (buffer : List ℕ) → judged_mixed t ≡ Ok m → 0 < b
     → length (file_of b (tasks_of t)) ≤ length buffer
     → let file = file_of b (tasks_of t) in
-    (file_written t b buffer ≡ record { said = Writing.Bytes (length file); buffer = file ++ drop (length file) buffer }) × (length file ≤ longest_file)
+    (file_written t b buffer ≡ record { said = Ok (length file); buffer = file ++ drop (length file) buffer }) × (length file ≤ longest_file)
 unfolding file_written
 long_writing t m b buffer well some h =
     (rw (well, ne_eqb b 0 (omega arith), le-ltb (length buffer) (length (file_of b (tasks_of t))) h), short_file t b (well_mixed t m well).ranged)
 
-pub read_writes : (file buffer : List ℕ) → ((i : ℕ) → get_or file i 0 < 256) → (file_read file).admission ≡ Admission.Admitted → length file ≤ length buffer
+pub read_writes : (file buffer : List ℕ) → ((i : ℕ) → get_or file i 0 < 256) → (file_read file).admission ≡ Ok tt → length file ≤ length buffer
     → file_written (file_read file).table (file_read file).budget buffer
-    ≡ record { said = Writing.Bytes (length file); buffer = file ++ drop (length file) buffer }
+    ≡ record { said = Ok (length file); buffer = file ++ drop (length file) buffer }
 read_writes file buffer bytes good h = rw (round.read_writes file buffer bytes good, le-ltb (length buffer) (length file) h)
 
 -- Bytes that fit are told, no more than `most`; or there is a refusal that C can tell, and no byte is changed.
@@ -59,7 +56,7 @@ module _ (most : ℕ) (small : most < 65536) (buffer : List ℕ) where
     where
       go : (short : Bool) → (short ≡ true → length buffer < length bytes)
           → let f =
-          cond short (unwritten 31 (length buffer) buffer) (record { said = Writing.Bytes (length bytes); buffer = bytes ++ drop (length bytes) buffer }) in
+          cond short (unwritten 31 (length buffer) buffer) (record { said = Ok (length bytes); buffer = bytes ++ drop (length bytes) buffer }) in
           Apart most buffer bytes (fill_told f.buffer f.said)
       go true h = inr (refusal 31 (length buffer), refl, (omega arith, omega (arith, h refl)))
       go false h = inl (refl, few)
@@ -80,8 +77,8 @@ module _ (most : ℕ) (small : most < 65536) (buffer : List ℕ) where
     where
       go : (j : Judgement) → judged_mixed t ≡ j → JudgementTellable j → let f = written_by b bytes buffer j in Apart most buffer bytes
           (fill_told f.buffer f.said)
-      go (Judgement.Refused r) e n = inr (r, refl, n)
-      go (Judgement.WellFormed m) e n = budgeted_apart b bytes (few (well_mixed t m e).ranged)
+      go (Err r) e n = inr (r, refl, n)
+      go (Ok m) e n = budgeted_apart b bytes (few (well_mixed t m e).ranged)
 
 module _ (buffer : List ℕ) where
   pub file_apart : (t : Table) (b : ℕ) → let f = file_written t b buffer in Apart longest_file buffer (file_of b (tasks_of t)) (fill_told f.buffer f.said)

@@ -7,21 +7,21 @@ use Rattle.cameracalls.proofs.start.Goals as goal
 
 pub start_table-requires : goal.start_table-requires
 start_table-requires c =
-    right_length state_bytes c.args.file.now c.args.state.now c.form_for-form.ensures c.in-Admitted.is
+    right_length state_bytes c.args.file.now c.args.state.now c.form_for-form.ensures c.in-Ok.is
 
-pub returns-in-Refused : goal.returns-in-Refused
-returns-in-Refused c =
+pub returns-in-Err : goal.returns-in-Err
+returns-in-Err c =
     rw (
       on_form state_bytes c.args.file.now c.args.state.now c.form_for-form.ensures
           (λ t. let d = started t (state_in c.args.state.now) in start_written c.args.state.now d.state d.admission),
-      c.in-Refused.is,
+      c.in-Err.is,
       c.refusal_number.ensures,
     )
 
-pub returns-in-Admitted : goal.returns-in-Admitted
-returns-in-Admitted c =
+pub returns-in-Ok : goal.returns-in-Ok
+returns-in-Ok c =
     rw (
       on_form state_bytes c.args.file.now c.args.state.now c.form_for-form.ensures
           (λ t. let d = started t (state_in c.args.state.now) in start_written c.args.state.now d.state d.admission),
-      c.in-Admitted.is,
+      c.in-Ok.is,
     ) c.start_table.ensures

@@ -1,8 +1,8 @@
 -- A refusal, or the permitted answer.
+use Rattle.std.specs.Prelude.{Ok}
 use mathlib.Core.Path.{◌≡◌, sym, ap, ◌∙◌}
 use mathlib.Core.Bool.{Bool}
 use borrow.Author.Rules.{rules}
-use Rattle.values.specs.declared.Judgement.{Judgement}
 use Rattle.model.specs.Tasks.{judged}
 use Rattle.model.specs.Report.{outcome_told}
 use Rattle.wellformed.specs.WellFormed.{periodic_iff, well_formed}
@@ -11,8 +11,8 @@ use Rattle.checkcalls.proofs.check_table.Goals.{In-WellFormed}
 use Rattle.checkcalls.proofs.check_table.Goals as goal
 
 -- The table is well-formed.
-well : (c : In-WellFormed) → judged c.args.t ≡ Judgement.WellFormed c.in-WellFormed.m
-well c = sym c.judge.ensures ∙ c.in-WellFormed.is
+well : (c : In-WellFormed) → judged c.args.t ≡ Ok c.in-Ok.m
+well c = sym c.judge.ensures ∙ c.in-Ok.is
 
 pub passes-requires : goal.passes-requires
 passes-requires c = ((periodic_iff _ _).0 (well (goal.at.passes-requires c).In-WellFormed)).0
@@ -20,16 +20,16 @@ passes-requires c = ((periodic_iff _ _).0 (well (goal.at.passes-requires c).In-W
 pub tested-requires : goal.tested-requires
 tested-requires c = well (goal.at.tested-requires c).In-WellFormed
 
-pub returns-in-Refused : goal.returns-in-Refused
-returns-in-Refused c = record {
-  table_found = rw (← c.judge.ensures, c.in-Refused.is) c.refuse.ensures.result_value;
+pub returns-in-Err : goal.returns-in-Err
+returns-in-Err c = record {
+  table_found = rw (← c.judge.ensures, c.in-Err.is) c.refuse.ensures.result_value;
   tasks_le_task_limit = c.refuse.ensures.tasks_le_task_limit;
 }
 
-pub returns-in-WellFormed : goal.returns-in-WellFormed
-returns-in-WellFormed c =
+pub returns-in-Ok : goal.returns-in-Ok
+returns-in-Ok c =
     let a = c.tested.result in
     let passed = ap (λ (q : Bool). outcome_told refused_by answered c.args.t.count q a a.outcome) c.passes.ensures in record {
-      table_found = rw (← c.judge.ensures, c.in-WellFormed.is) (a, c.tested.ensures, passed);
-      tasks_le_task_limit = (well_formed _ _ (well (goal.at.returns-in-WellFormed c).In-WellFormed)).ranged.few;
+      table_found = rw (← c.judge.ensures, c.in-Ok.is) (a, c.tested.ensures, passed);
+      tasks_le_task_limit = (well_formed _ _ (well (goal.at.returns-in-Ok c).In-WellFormed)).ranged.few;
     }

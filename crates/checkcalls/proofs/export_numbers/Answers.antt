@@ -5,10 +5,10 @@ use Rattle.model.specs.AnswerBuffer.{numbers_written}
 use Rattle.checkcalls.specs.Outcomes.{by_outcome_of}
 use Rattle.checkcalls.proofs.export_numbers.Goals as goal
 
-pub returns-in-Refused : goal.returns-in-Refused
-returns-in-Refused c = rw (c.in-Refused.is, c.refusal_number.ensures)
+pub returns-in-Err : goal.returns-in-Err
+returns-in-Err c = rw (c.in-Err.is, c.refusal_number.ensures)
 
-pub returns-in-Tested : goal.returns-in-Tested
-returns-in-Tested c =
-    by_outcome_of (λ w. refused w c.args.buffer.now) (numbers_written c.args.buffer.now) c.args.found c.in-Tested.is
+pub returns-in-Ok : goal.returns-in-Ok
+returns-in-Ok c =
+    by_outcome_of (λ w. refused w c.args.buffer.now) (numbers_written c.args.buffer.now) c.args.found c.in-Ok.is
     (rw (c.write_answer.ensures, c.numbers_of-numbers.ensures))

@@ -4,9 +4,9 @@ use Rattle.model.specs.Report.{refused, report_written}
 use Rattle.checkcalls.specs.Outcomes.{by_outcome_of}
 use Rattle.checkcalls.proofs.export_report.Goals as goal
 
-pub returns-in-Refused : goal.returns-in-Refused
-returns-in-Refused c = rw (c.in-Refused.is, c.refusal_number.ensures)
+pub returns-in-Err : goal.returns-in-Err
+returns-in-Err c = rw (c.in-Err.is, c.refusal_number.ensures)
 
-pub returns-in-Tested : goal.returns-in-Tested
-returns-in-Tested c =
-    by_outcome_of (λ w. refused w c.args.buffer.now) (report_written c.args.buffer.now) c.args.found c.in-Tested.is c.write_report.ensures.buffer_after
+pub returns-in-Ok : goal.returns-in-Ok
+returns-in-Ok c =
+    by_outcome_of (λ w. refused w c.args.buffer.now) (report_written c.args.buffer.now) c.args.found c.in-Ok.is c.write_report.ensures.buffer_after

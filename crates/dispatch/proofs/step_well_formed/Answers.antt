@@ -1,11 +1,10 @@
 -- Refused as the state is; full; or taken.
+use Rattle.std.specs.Prelude.{Ok}
 use mathlib.Core.Path.{◌≡◌, refl, sym, ◌∙◌}
 use Prim.Native.Nat.{◌-◌, ◌≤◌}
 use native.Mathlib.Omega.{arith}
 use borrow.Author.Rules.{rules}
 use borrow.Author.Tests.{eq-eqb, ne_eqb}
-use Rattle.values.specs.declared.Judgement.{Judgement}
-use Rattle.values.specs.declared.Admission.{Admission}
 use Rattle.model.specs.Limits.{slot_count_limit}
 use Rattle.model.specs.Tasks.{measure}
 use Rattle.model.specs.Dispatcher.{slot_count, admitted_by}
@@ -16,7 +15,7 @@ use Rattle.dispatch.proofs.step_well_formed.Goals.{In-Slots}
 use Rattle.dispatch.proofs.step_well_formed.Goals as goal
 
 -- The state is admitted, and the room is what it can still count.
-told : (c : In-Slots) → (admitted_by c.args.t c.args.d (Judgement.WellFormed (measure c.args.t)) ≡ Admission.Admitted)
+told : (c : In-Slots) → (admitted_by c.args.t c.args.d (Ok (measure c.args.t)) ≡ Ok tt)
     × (c.in-Slots.room ≡ slot_count_limit - slot_count c.args.t c.args.d)
 told c = slots_tell _ _ _ (sym c.belonging.ensures ∙ c.in-Slots.is)
 
@@ -48,7 +47,7 @@ step_taken-requires c =
 
 pub returns-in-Refused : goal.returns-in-Refused
 returns-in-Refused c =
-    let e = refused_tells (admitted_by c.args.t c.args.d (Judgement.WellFormed (measure c.args.t))) _ _
+    let e = refused_tells (admitted_by c.args.t c.args.d (Ok (measure c.args.t))) _ _
     (sym c.belonging.ensures ∙ c.in-Refused.is) in
     rw e c.handed_back.ensures
 

@@ -1,7 +1,7 @@
 -- A refusal, an overload, or what the patterns tell.
+use Rattle.std.specs.Prelude.{Ok}
 use mathlib.Core.Path.{◌≡◌, sym, ◌∙◌}
 use borrow.Author.Rules.{rules}
-use Rattle.values.specs.declared.Judgement.{Judgement}
 use Rattle.model.specs.Tasks.{judged_mixed}
 use Rattle.model.specs.Patterns.{distance_pass, distance_answer}
 use Rattle.distance.specs.Passing.{is_heavy, is_light}
@@ -9,7 +9,7 @@ use Rattle.distance.proofs.test.Goals.{In-WellFormed}
 use Rattle.distance.proofs.test.Goals as goal
 
 -- The table is well-formed where its measures are looked at.
-well : (c : In-WellFormed) → judged_mixed c.args.t ≡ Judgement.WellFormed c.in-WellFormed.m
+well : (c : In-WellFormed) → judged_mixed c.args.t ≡ Ok c.in-WellFormed.m
 well c = sym c.judge_mixed.ensures ∙ c.in-WellFormed.is
 
 pub all_calm-requires : goal.all_calm-requires

@@ -7,12 +7,12 @@ use Rattle.filecalls.proofs.eased_from.Goals as goal
 
 pub compare-requires : goal.compare-requires
 compare-requires c =
-    (c.requires, few_periodic _ c.read_periodic-contents.ensures c.in-Admitted.is)
+    (c.requires, few_periodic _ c.read_periodic-contents.ensures c.in-Ok.is)
 
-pub returns-in-Refused : goal.returns-in-Refused
-returns-in-Refused c =
-    rw (← c.read_periodic-contents.ensures, c.in-Refused.is) c.refused_file.ensures
+pub returns-in-Err : goal.returns-in-Err
+returns-in-Err c =
+    rw (← c.read_periodic-contents.ensures, c.in-Err.is) c.refused_file.ensures
 
-pub returns-in-Admitted : goal.returns-in-Admitted
-returns-in-Admitted c =
-    rw (← c.read_periodic-contents.ensures, c.in-Admitted.is) (c.easing_number.ensures ∙ ap easing_number c.compare.ensures)
+pub returns-in-Ok : goal.returns-in-Ok
+returns-in-Ok c =
+    rw (← c.read_periodic-contents.ensures, c.in-Ok.is) (c.easing_number.ensures ∙ ap easing_number c.compare.ensures)

@@ -6,12 +6,12 @@ use Rattle.model.specs.Report.{file_number}
 use Rattle.model.specs.Room.{room_answer}
 use Rattle.filecalls.proofs.room_file.Goals as goal
 
-pub returns-in-Refused : goal.returns-in-Refused
-returns-in-Refused c =
-    rw (file_number, ← c.form_of-form.ensures) (rw c.in-Refused.is c.refusal_number.ensures)
+pub returns-in-Err : goal.returns-in-Err
+returns-in-Err c =
+    rw (file_number, ← c.form_of-form.ensures) (rw c.in-Err.is c.refusal_number.ensures)
 
-pub returns-in-Admitted : goal.returns-in-Admitted
-returns-in-Admitted c =
+pub returns-in-Ok : goal.returns-in-Ok
+returns-in-Ok c =
     let read = c.form_of-form.result in
     let answer = c.room_number.ensures ∙ ap (λ (i : ℕ). room_answer read.table i) c.tellable_task.ensures in
-    rw (file_number, ← c.form_of-form.ensures) (rw c.in-Admitted.is (rw (← c.form_of-form.ensures) answer))
+    rw (file_number, ← c.form_of-form.ensures) (rw c.in-Ok.is (rw (← c.form_of-form.ensures) answer))

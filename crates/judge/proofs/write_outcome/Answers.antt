@@ -2,10 +2,10 @@
 use borrow.Author.Rules.{rules}
 use Rattle.judge.proofs.write_outcome.Goals as goal
 
-pub returns-in-Refused : goal.returns-in-Refused
-returns-in-Refused c =
-    record { buffer_after = rw c.in-Refused.is c.write_refusal.ensures.buffer_after; upper_bound = c.write_refusal.ensures.upper_bound }
+pub returns-in-Err : goal.returns-in-Err
+returns-in-Err c =
+    record { buffer_after = rw c.in-Err.is c.write_refusal.ensures.buffer_after; upper_bound = c.write_refusal.ensures.upper_bound }
 
-pub returns-in-Tested : goal.returns-in-Tested
-returns-in-Tested c =
-    record { buffer_after = rw c.in-Tested.is c.write_report.ensures.buffer_after; upper_bound = c.write_report.ensures.upper_bound }
+pub returns-in-Ok : goal.returns-in-Ok
+returns-in-Ok c =
+    record { buffer_after = rw c.in-Ok.is c.write_report.ensures.buffer_after; upper_bound = c.write_report.ensures.upper_bound }

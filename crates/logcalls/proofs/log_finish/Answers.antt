@@ -7,25 +7,25 @@ use Rattle.logcalls.proofs.log_finish.Goals as goal
 
 pub log_in-log-requires : goal.log_in-log-requires
 log_in-log-requires c =
-    right_length log_bytes c.args.file.now c.args.state.now c.form_for-form.ensures c.in-Admitted.is
+    right_length log_bytes c.args.file.now c.args.state.now c.form_for-form.ensures c.in-Ok.is
 
 pub log_told-requires : goal.log_told-requires
 log_told-requires c =
-    right_length log_bytes c.args.file.now c.args.state.now c.form_for-form.ensures c.in-Admitted.is
+    right_length log_bytes c.args.file.now c.args.state.now c.form_for-form.ensures c.in-Ok.is
 
-pub returns-in-Refused : goal.returns-in-Refused
-returns-in-Refused c =
+pub returns-in-Err : goal.returns-in-Err
+returns-in-Err c =
     rw (
       on_form log_bytes c.args.file.now c.args.state.now c.form_for-form.ensures
           (λ t. let f = log_finished t (log_in c.args.state.now) in log_written c.args.state.now f.log f.admission),
-      c.in-Refused.is,
+      c.in-Err.is,
       c.refusal_number.ensures,
     )
 
-pub returns-in-Admitted : goal.returns-in-Admitted
-returns-in-Admitted c =
+pub returns-in-Ok : goal.returns-in-Ok
+returns-in-Ok c =
     rw (
       on_form log_bytes c.args.file.now c.args.state.now c.form_for-form.ensures
           (λ t. let f = log_finished t (log_in c.args.state.now) in log_written c.args.state.now f.log f.admission),
-      c.in-Admitted.is,
+      c.in-Ok.is,
     ) (rw (← c.log_in-log.ensures, ← c.finish.ensures) c.log_told.ensures)

@@ -2,10 +2,10 @@
 use borrow.Author.Rules.{rules}
 use Rattle.presscalls.proofs.start_table.Goals as goal
 
-pub returns-in-Refused : goal.returns-in-Refused
-returns-in-Refused c =
-    rw (← c.state_in-held.ensures, ← c.start-started.ensures, c.in-Refused.is, c.refusal_number.ensures)
+pub returns-in-Err : goal.returns-in-Err
+returns-in-Err c =
+    rw (← c.state_in-held.ensures, ← c.start-started.ensures, c.in-Err.is, c.refusal_number.ensures)
 
-pub returns-in-Admitted : goal.returns-in-Admitted
-returns-in-Admitted c =
-    rw (← c.state_in-held.ensures, ← c.start-started.ensures, c.in-Admitted.is, c.write_state.ensures, c.quiet.ensures)
+pub returns-in-Ok : goal.returns-in-Ok
+returns-in-Ok c =
+    rw (← c.state_in-held.ensures, ← c.start-started.ensures, c.in-Ok.is, c.write_state.ensures, c.quiet.ensures)

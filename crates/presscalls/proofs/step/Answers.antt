@@ -19,21 +19,21 @@ pressed-on buffer done pressed t =
 
 pub step_table-requires : goal.step_table-requires
 step_table-requires c =
-    right_length state_bytes c.args.file.now c.args.state.now c.form_for-form.ensures c.in-Admitted.is
+    right_length state_bytes c.args.file.now c.args.state.now c.form_for-form.ensures c.in-Ok.is
 
-pub returns-in-Refused : goal.returns-in-Refused
-returns-in-Refused c =
+pub returns-in-Err : goal.returns-in-Err
+returns-in-Err c =
     rw (
       on_form state_bytes c.args.file.now c.args.state.now c.form_for-form.ensures
           (pressed-on c.args.state.now c.args.done c.args.pressed),
-      c.in-Refused.is,
+      c.in-Err.is,
       c.refusal_number.ensures,
     )
 
-pub returns-in-Admitted : goal.returns-in-Admitted
-returns-in-Admitted c =
+pub returns-in-Ok : goal.returns-in-Ok
+returns-in-Ok c =
     rw (
       on_form state_bytes c.args.file.now c.args.state.now c.form_for-form.ensures
           (pressed-on c.args.state.now c.args.done c.args.pressed),
-      c.in-Admitted.is,
+      c.in-Ok.is,
     ) c.step_table.ensures

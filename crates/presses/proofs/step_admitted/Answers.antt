@@ -1,11 +1,10 @@
 -- Full, or taken.
+use Rattle.std.specs.Prelude.{Ok}
 use mathlib.Core.Path.{◌≡◌}
 use Prim.Native.Nat.{◌-◌, ◌≤◌}
 use native.Mathlib.Omega.{arith}
 use borrow.Author.Rules.{rules}
 use borrow.Author.Tests.{eq-eqb, ne_eqb}
-use Rattle.values.specs.declared.Judgement.{Judgement}
-use Rattle.values.specs.declared.Admission.{Admission}
 use Rattle.model.specs.Limits.{slot_count_limit}
 use Rattle.model.specs.Tasks.{measure}
 use Rattle.model.specs.Dispatcher.{slot_count, admitted_by}
@@ -16,7 +15,7 @@ use Rattle.presses.proofs.step_admitted.Goals.{Start}
 use Rattle.presses.proofs.step_admitted.Goals as goal
 
 -- The state is admitted, and the room is what it can still count.
-told : (c : Start) → let t = c.args.t in let d = c.args.d in (admitted_by t d (Judgement.WellFormed (measure t)) ≡ Admission.Admitted)
+told : (c : Start) → let t = c.args.t in let d = c.args.d in (admitted_by t d (Ok (measure t)) ≡ Ok tt)
     × (c.args.room ≡ slot_count_limit - slot_count t d)
 told c = slots_tell _ _ _ c.requires.d_value
 

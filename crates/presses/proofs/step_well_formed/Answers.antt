@@ -1,7 +1,7 @@
 -- Refused as the state is, or a step on one that is admitted.
+use Rattle.std.specs.Prelude.{Ok}
 use mathlib.Core.Path.{sym, ◌∙◌}
 use borrow.Author.Rules.{rules}
-use Rattle.values.specs.declared.Judgement.{Judgement}
 use Rattle.model.specs.Tasks.{measure}
 use Rattle.model.specs.Dispatcher.{admitted_by}
 use Rattle.belonging.specs.Room.{refused_tells}
@@ -12,7 +12,7 @@ step_admitted-requires c = record { ranged = c.requires; d_value = sym c.belongi
 
 pub returns-in-Refused : goal.returns-in-Refused
 returns-in-Refused c =
-    let e = refused_tells (admitted_by c.args.t c.args.d (Judgement.WellFormed (measure c.args.t))) _ _
+    let e = refused_tells (admitted_by c.args.t c.args.d (Ok (measure c.args.t))) _ _
     (sym c.belonging.ensures ∙ c.in-Refused.is) in
     rw e c.handed_back.ensures
 

@@ -1,9 +1,8 @@
 -- Refused as the table is, as its dispatcher is, or by its counts.
+use Rattle.std.specs.Prelude.{Ok}
 use mathlib.Core.Path.{◌≡◌, refl, sym, ap, ◌∙◌}
 use Prim.Native.Nat.{◌-◌}
 use native.Mathlib.Omega.{arith}
-use Rattle.values.specs.declared.Judgement.{Judgement}
-use Rattle.values.specs.declared.Admission.{Admission}
 use Rattle.model.specs.Limits.{slot_count_limit}
 use Rattle.model.specs.Tasks.{measure, judged}
 use Rattle.model.specs.Dispatcher.{slot_count, admitted_by, admitted}
@@ -16,19 +15,19 @@ use Rattle.slotlog.proofs.admission.Goals.{After-miscounted, In-Admitted}
 use Rattle.slotlog.proofs.admission.Goals as goal
 
 -- The table is well-formed.
-well : (c : In-Admitted) → let t = c.args.t in (judged t ≡ Judgement.WellFormed (measure t))
+well : (c : In-Admitted) → let t = c.args.t in (judged t ≡ Ok (measure t))
 well c =
     let (m, e) = admitted_is (judged _) (sym c.admit.ensures ∙ c.in-Admitted.is) in
-    e ∙ ap Judgement.WellFormed ((judged_iff _ m).0 e).2
+    e ∙ ap Ok ((judged_iff _ m).0 e).2
 
 pub belonging-requires : goal.belonging-requires
 belonging-requires c = (well_formed _ _ (well (goal.at.belonging-requires c).In-Admitted)).ranged.few
 
 -- The dispatcher is admitted, and what it counts is what it can count less the room.
-counts : (c : After-miscounted) → (admitted_by c.args.t c.args.log.state (Judgement.WellFormed (measure c.args.t)) ≡ Admission.Admitted)
+counts : (c : After-miscounted) → (admitted_by c.args.t c.args.log.state (Ok (measure c.args.t)) ≡ Ok tt)
     × (c.miscounted.result ≡ miscounted c.args.t (log_state_of c.args.log))
 counts c =
-    let (fits, room) = slots_tell (admitted_by c.args.t c.args.log.state (Judgement.WellFormed (measure c.args.t)))
+    let (fits, room) = slots_tell (admitted_by c.args.t c.args.log.state (Ok (measure c.args.t)))
     (slot_count c.args.t c.args.log.state) _ (sym c.belonging.ensures ∙ c.in-Slots.is) in
     let counted : slot_count_limit - c.in-Slots.room ≡ slot_count c.args.t c.args.log.state = omega
     (arith, room, (fitting c.args.t c.args.log.state (measure c.args.t) fits).room) in
@@ -55,7 +54,7 @@ unfolding log_admitted admitted
 returns-in-Refused-belonging c =
     rw (
       well (goal.at.returns-in-Refused-belonging c).In-Admitted,
-      refused_tells (admitted_by c.args.t c.args.log.state (Judgement.WellFormed (measure c.args.t))) _ _
+      refused_tells (admitted_by c.args.t c.args.log.state (Ok (measure c.args.t))) _ _
           (sym c.belonging.ensures ∙ c.in-Refused-belonging.is),
     ) refl
 

@@ -1,28 +1,15 @@
 -- Refused as the survey is; by 11 at the first button; or admitted.
-use native.Mathlib.Omega.{arith}
-use borrow.Author.Tests.{lt-ltb, le-ltb}
-use Rattle.model.specs.Tasks.{judged}
-use Rattle.wellformed.specs.WellFormed.{mixed_of}
+use Rattle.std.proofs.lemmas.Result.{err_from_is_err_and}
+use Rattle.table.specs.Survey.{unseen, seen_so, judged_unseen, admitted_seen, fits_seen}
 use Rattle.table.proofs.admit.Goals as goal
 
-pub has_button-requires : goal.has_button-requires
-has_button-requires c =
-    let kept = rw c.in-Kept.is at c.survey.ensures in
-    omega (arith, kept.0.few)
+pub refuse_button-requires : goal.refuse_button-requires
+refuse_button-requires c = fits_seen c.args.t _ (seen_so _ _ _ c.in_ok-found.was c.survey.ensures)
 
-pub returns-then-button-t : goal.returns-then-button-t
-unfolding judged
-returns-then-button-t c =
-    let kept = rw c.in-Kept.is at c.survey.ensures in
-    rw (mixed_of c.args.t kept.0 (omega (arith, kept.1.is, kept.1.le)), ← kept.2, lt-ltb _ _ c.if-button-t.true, c.has_button.ensures)
+pub returns-in_err-found : goal.returns-in_err-found
+returns-in_err-found c =
+    let p = err_from_is_err_and c.from_residual.result c.from_residual.ensures.1 in
+    rw (p.1, p.2, judged_unseen c.args.t _ (unseen _ _ _ c.in_err-found.was c.survey.ensures))
 
-pub returns-in-Refused : goal.returns-in-Refused
-unfolding judged
-returns-in-Refused c =
-    rw (rw c.in-Refused.is at c.survey.ensures)
-
-pub returns-else-button-t : goal.returns-else-button-t
-unfolding judged
-returns-else-button-t c =
-    let kept = rw c.in-Kept.is at c.survey.ensures in
-    rw (mixed_of c.args.t kept.0 (omega (arith, kept.1.is, kept.1.le)), ← kept.2, le-ltb _ _ c.if-button-t.false)
+pub returns : goal.returns
+returns c = rw (c.refuse_button.ensures, admitted_seen c.args.t _ (seen_so _ _ _ c.in_ok-found.was c.survey.ensures))

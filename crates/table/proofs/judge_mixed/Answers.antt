@@ -1,18 +1,14 @@
 -- Refused as the survey is, or measured.
-use native.Mathlib.Omega.{arith}
-use Rattle.wellformed.specs.WellFormed.{mixed_of}
+use Rattle.std.specs.Prelude.{Ok}
+use Rattle.table.specs.Survey.{Surveyed, seen_so, mixed_seen}
 use Rattle.table.proofs.judge_mixed.Goals as goal
+use Rattle.table.proofs.judge_mixed.Goals.{In_ok-seen}
+
+so : (c : In_ok-seen) → Surveyed c.args.t (Ok c.in_ok-seen.seen)
+so c = seen_so _ _ _ c.in_ok-seen.was c.survey.ensures
 
 pub measure_of-requires : goal.measure_of-requires
-measure_of-requires c =
-    let kept = rw c.in-Kept.is at c.survey.ensures in
-    record { ranged = kept.0; round_kept = kept.1 }
+measure_of-requires c = let s = so (goal.at.measure_of-requires c).In_ok-seen in record { ranged = s.0; round_kept = s.1 }
 
-pub returns-in-Refused : goal.returns-in-Refused
-returns-in-Refused c =
-    rw (rw c.in-Refused.is at c.survey.ensures)
-
-pub returns-in-Kept : goal.returns-in-Kept
-returns-in-Kept c =
-    let kept = rw c.in-Kept.is at c.survey.ensures in
-    rw (mixed_of c.args.t kept.0 (omega (arith, kept.1.is, kept.1.le)), c.measure_of.ensures)
+pub returns : goal.returns
+returns c = rw (c.measure_of.ensures, mixed_seen c.args.t _ (so (goal.at.returns c).In_ok-seen))

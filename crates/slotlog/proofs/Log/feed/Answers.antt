@@ -1,6 +1,6 @@
 -- Refused as it is, or read.
+use Rattle.std.specs.Prelude.{Ok}
 use mathlib.Core.Path.{refl, sym, ap, ◌∙◌}
-use Rattle.values.specs.declared.Admission.{Admission}
 use Rattle.model.specs.Log.{Log, fed}
 use Rattle.slotlog.proofs.Log.feed.Goals as goal
 
@@ -15,4 +15,4 @@ pub returns-in-Admitted : goal.returns-in-Admitted
 unfolding fed
 returns-in-Admitted c =
     rw (← c.admission.ensures, c.in-Admitted.is)
-    (ap (λ (l : Log). record { admission = Admission.Admitted; log = l }) c.read_all.ensures)
+    (ap (λ (l : Log). record { admission = Ok tt; log = l }) c.read_all.ensures)

@@ -1,6 +1,6 @@
 -- Refused as it is, or what was found at the end.
+use Rattle.std.specs.Prelude.{Ok}
 use mathlib.Core.Path.{refl, sym, ap, ◌∙◌}
-use Rattle.values.specs.declared.Admission.{Admission}
 use Rattle.model.specs.Log.{Log, log_finished}
 use Rattle.slotlog.specs.Fits.{Sized}
 use Rattle.slotlog.specs.State.{log_state_of}
@@ -26,4 +26,4 @@ pub returns-in-Admitted : goal.returns-in-Admitted
 unfolding log_finished
 returns-in-Admitted c =
     rw (← c.admission.ensures, c.in-Admitted.is)
-    (ap (λ (l : Log). record { admission = Admission.Admitted; log = l }) c.close.ensures)
+    (ap (λ (l : Log). record { admission = Ok tt; log = l }) c.close.ensures)

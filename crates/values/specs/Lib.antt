@@ -1,0 +1,2 @@
+-- The numbers of faults and verdicts.
+pub mod Numbers
