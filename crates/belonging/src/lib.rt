@@ -9,7 +9,7 @@ ghost use Rattle.belonging.specs.Strange.{strange_at};
 ghost use Rattle.belonging.specs.Room.{room_for, belonging};
 
 use slots::NO_TASK;
-use values::{Refusal, SLOT_COUNT_LIMIT, STRANGE_STATE, State, TASK_LIMIT, Table, Task};
+use values::{Fault, Refusal, SLOT_COUNT_LIMIT, State, Table, Task, TASK_LIMIT};
 
 // The place of 8 for a state that counts more slots than it can.
 const SUM_PLACE: u32 = NO_TASK + 1;
@@ -46,10 +46,7 @@ pub fn belonging(d: State, t: Table) -> Room
 fn strange_state(place: u32) -> Room
     ensures { result ≡ Room.Refused (refusal 8 place) }
 {
-    Room::Refused(Refusal {
-        number: STRANGE_STATE,
-        place,
-    })
+    Room::Refused(Refusal::new(Fault::StrangeState, place))
 }
 
 // The sum is never made: each count is taken from what can be counted, for as long as it can.

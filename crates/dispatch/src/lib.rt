@@ -15,7 +15,7 @@ ghost use Rattle.dispatch.specs.Step.{Unpacked, Unrefused, state_with, Advanced,
 
 use belonging::{Counts, Room};
 use slots::{NO_TASK, Numbers, Ranks};
-use values::{Admission, FULL_STATE, Refusal, SlotAnswer, State, TASK_LIMIT, Table, Turn};
+use values::{Admission, Fault, Refusal, SlotAnswer, State, Table, TASK_LIMIT, Turn};
 
 #[derive(Clone, Copy)]
 pub struct Dispatcher {
@@ -103,10 +103,7 @@ fn step_well_formed(d: State, t: Table, done: bool) -> Stepped
 fn full_state() -> Refusal
     ensures { result ≡ refusal 9 0 }
 {
-    Refusal {
-        number: FULL_STATE,
-        place: 0,
-    }
+    Refusal::new(Fault::FullState, 0)
 }
 
 // The four rules of a step that nothing refuses, on a table that is unpacked, and the slot counted.

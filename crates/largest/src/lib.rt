@@ -10,7 +10,7 @@ ghost use Rattle.model.specs.Tasks.{task, judged};
 ghost use Rattle.model.specs.Verdict.{verdict};
 ghost use Rattle.model.specs.Largest.{with_cost, is_pass, passes_with, largest_cost, cost_told, cost_answer};
 
-use values::{Judgement, LargestCost, Measure, NO_SUCH_TASK, Outcome, Refusal, Table, Verdict};
+use values::{Fault, Judgement, LargestCost, Measure, Outcome, Refusal, Table, Verdict};
 
 pub fn with_cost(t: Table, i: usize, cost: u32) -> Table
     requires { i < task_limit }
@@ -121,10 +121,7 @@ fn told(t: Table, m: Measure, i: usize, budget: u64) -> LargestCost
 fn refused_task(task: u32) -> LargestCost
     ensures { result ≡ LargestCost.Refused (refusal 12 task) }
 {
-    LargestCost::Refused(Refusal {
-        number: NO_SUCH_TASK,
-        place: task,
-    })
+    LargestCost::Refused(Refusal::new(Fault::NoSuchTask, task))
 }
 
 // The one permitted answer to any table, task number and budget.

@@ -5,7 +5,7 @@ ghost use Rattle.std.specs.Prelude.{◌≡◌, ◌+◌, ◌*◌, min};
 ghost use Rattle.model.specs.Report.{refusal_number};
 ghost use Rattle.numbers.specs.Form.{form_for};
 
-use values::{Contents, Refusal, STATE_LENGTH};
+use values::{Contents, Fault, Refusal};
 
 const LARGEST_PLACE: usize = 65535;
 
@@ -39,10 +39,7 @@ pub fn form_for(file: &[u8], wanted: usize, bytes: usize) -> Contents
     ensures { result ≡ form_for wanted file.now bytes }
 {
     if bytes != wanted {
-        return tablefile::refused_file(Refusal {
-            number: STATE_LENGTH,
-            place: place_of(bytes),
-        });
+        return tablefile::refused_file(Refusal::new(Fault::StateLength, place_of(bytes)));
     }
     tablefile::form_of(file)
 }

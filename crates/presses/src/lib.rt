@@ -10,7 +10,7 @@ ghost use Rattle.presses.specs.Step.{Pressable, press_well_formed, Advanced};
 
 use belonging::Room;
 use slots::{NO_TASK, Numbers};
-use values::{Admission, FULL_STATE, Refusal, SlotAnswer, State, TASK_LIMIT, Table};
+use values::{Admission, Fault, Refusal, SlotAnswer, State, Table, TASK_LIMIT};
 
 // A dispatcher's state. A button's wait is the slots until it may be pressed again.
 #[derive(Clone, Copy)]
@@ -98,10 +98,7 @@ fn step_admitted(d: State, t: Table, room: u64, done: bool, pressed: u32) -> Pre
     if room == 0 {
         return handed_back(
             d,
-            Refusal {
-                number: FULL_STATE,
-                place: 0,
-            },
+            Refusal::new(Fault::FullState, 0),
             pressed,
         );
     }

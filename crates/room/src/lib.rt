@@ -9,7 +9,7 @@ ghost use Rattle.model.specs.Room.{room_with, room as roomOf, room_told, room_an
 ghost use Rattle.patterns.specs.Room.{is_passed};
 ghost use Rattle.room.specs.Halving.{Well};
 
-use values::{Admission, DistanceAnswer, NO_SUCH_TASK, Refusal, Table};
+use values::{Admission, DistanceAnswer, Fault, Refusal, Table};
 
 fn is_pass(said: DistanceAnswer) -> bool
     ensures { result ≡ is_passed said }
@@ -78,10 +78,7 @@ pub fn room_number(t: Table, task: u32) -> u64
             if i < t.count {
                 told(t, i)
             } else {
-                numbers::refusal_number(Refusal {
-                    number: NO_SUCH_TASK,
-                    place: task,
-                })
+                numbers::refusal_number(Refusal::new(Fault::NoSuchTask, task))
             }
         }
     }

@@ -14,10 +14,7 @@ ghost use Rattle.slotlog.specs.Bytes.{Readable, ReadTo, ends_slot, is_due, slot_
 use belonging::{Counts, Room};
 use dispatch::Dispatcher;
 use slots::{NO_TASK, Numbers, Ranks, Seen};
-use values::{
-    Admission, Finding, LOG_AFTER_END, LOG_BAD_DONE, LOG_LIMIT, LOG_NO_END, LOG_TOO_LONG,
-    LOG_UNKNOWN_KIND, Refusal, SLOT_COUNT_LIMIT, STRANGE_STATE, State, Table,
-};
+use values::{Admission, Fault, Finding, LOG_AFTER_END, LOG_BAD_DONE, LOG_LIMIT, LOG_NO_END, LOG_TOO_LONG, LOG_UNKNOWN_KIND, Refusal, SLOT_COUNT_LIMIT, State, Table};
 
 // A block whose lists are spoilt is read twice, so it is short.
 const BLOCK: usize = 256;
@@ -136,10 +133,7 @@ fn admission(log: Log, t: Table) -> Admission
                         log.reading.bytes,
                         SLOT_COUNT_LIMIT - room,
                     ) {
-                        return Err(Refusal {
-                            number: STRANGE_STATE,
-                            place: COUNT_PLACE,
-                        });
+                        return Err(Refusal::new(Fault::StrangeState, COUNT_PLACE));
                     }
                     Ok(())
                 }

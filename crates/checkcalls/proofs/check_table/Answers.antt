@@ -7,18 +7,18 @@ use Rattle.model.specs.Tasks.{judged}
 use Rattle.model.specs.Report.{outcome_told}
 use Rattle.wellformed.specs.WellFormed.{periodic_iff, well_formed}
 use Rattle.checkcalls.specs.Outcomes.{refused_by, answered}
-use Rattle.checkcalls.proofs.check_table.Goals.{In-WellFormed}
+use Rattle.checkcalls.proofs.check_table.Goals.{In-Ok}
 use Rattle.checkcalls.proofs.check_table.Goals as goal
 
 -- The table is well-formed.
-well : (c : In-WellFormed) → judged c.args.t ≡ Ok c.in-Ok.m
+well : (c : In-Ok) → judged c.args.t ≡ Ok c.in-Ok.m
 well c = sym c.judge.ensures ∙ c.in-Ok.is
 
 pub passes-requires : goal.passes-requires
-passes-requires c = ((periodic_iff _ _).0 (well (goal.at.passes-requires c).In-WellFormed)).0
+passes-requires c = ((periodic_iff _ _).0 (well (goal.at.passes-requires c).In-Ok)).0
 
 pub tested-requires : goal.tested-requires
-tested-requires c = well (goal.at.tested-requires c).In-WellFormed
+tested-requires c = well (goal.at.tested-requires c).In-Ok
 
 pub returns-in-Err : goal.returns-in-Err
 returns-in-Err c = record {
@@ -31,5 +31,5 @@ returns-in-Ok c =
     let a = c.tested.result in
     let passed = ap (λ (q : Bool). outcome_told refused_by answered c.args.t.count q a a.outcome) c.passes.ensures in record {
       table_found = rw (← c.judge.ensures, c.in-Ok.is) (a, c.tested.ensures, passed);
-      tasks_le_task_limit = (well_formed _ _ (well (goal.at.returns-in-Ok c).In-WellFormed)).ranged.few;
+      tasks_le_task_limit = (well_formed _ _ (well (goal.at.returns-in-Ok c).In-Ok)).ranged.few;
     }

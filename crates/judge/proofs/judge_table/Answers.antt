@@ -6,22 +6,22 @@ use borrow.Author.Rules.{rules}
 use Rattle.model.specs.Tasks.{judged}
 use Rattle.model.specs.Report.{report_of, outcome_told, refusal_line}
 use Rattle.wellformed.specs.WellFormed.{periodic_iff, well_formed}
-use Rattle.judge.proofs.judge_table.Goals.{In-WellFormed}
+use Rattle.judge.proofs.judge_table.Goals.{In-Ok}
 use Rattle.judge.proofs.judge_table.Goals as goal
 
 -- The table is well-formed.
-well : (c : In-WellFormed) → judged c.args.t ≡ Ok c.in-Ok.m
+well : (c : In-Ok) → judged c.args.t ≡ Ok c.in-Ok.m
 well c = sym c.judge.ensures ∙ c.in-Ok.is
 
 pub tested-answer-requires : goal.tested-answer-requires
-tested-answer-requires c = well (goal.at.tested-answer-requires c).In-WellFormed
+tested-answer-requires c = well (goal.at.tested-answer-requires c).In-Ok
 
 pub passes-quick-requires : goal.passes-quick-requires
-passes-quick-requires c = ((periodic_iff _ _).0 (well (goal.at.passes-quick-requires c).In-WellFormed)).0
+passes-quick-requires c = ((periodic_iff _ _).0 (well (goal.at.passes-quick-requires c).In-Ok)).0
 
 pub write_outcome-requires-clause-tasks_le_task_limit : goal.write_outcome-requires-clause-tasks_le_task_limit
 write_outcome-requires-clause-tasks_le_task_limit c =
-    (well_formed _ _ (well (goal.at.write_outcome-requires-clause-tasks_le_task_limit c).In-WellFormed)).ranged.few
+    (well_formed _ _ (well (goal.at.write_outcome-requires-clause-tasks_le_task_limit c).In-Ok)).ranged.few
 
 pub returns-in-Err : goal.returns-in-Err
 returns-in-Err c =

@@ -8,18 +8,18 @@ use Rattle.largest.proofs.largest_cost.Goals as goal
 
 pub told-requires : goal.told-requires
 told-requires c =
-    record { t_value = sym c.judge.ensures ∙ c.in-WellFormed.is; i_lt_count = omega arith }
+    record { t_value = sym c.judge.ensures ∙ c.in-Ok.is; i_lt_count = omega arith }
 
-pub returns-in-Refused : goal.returns-in-Refused
+pub returns-in-Err : goal.returns-in-Err
 unfolding cost_answer
-returns-in-Refused c = rw (← c.judge.ensures, c.in-Refused.is)
+returns-in-Err c = rw (← c.judge.ensures, c.in-Err.is)
 
 pub returns-then-i-t : goal.returns-then-i-t
 unfolding cost_answer
 returns-then-i-t c =
-    rw (← c.judge.ensures, c.in-WellFormed.is, lt-ltb c.args.task c.args.t.count (omega arith)) c.told.ensures
+    rw (← c.judge.ensures, c.in-Ok.is, lt-ltb c.args.task c.args.t.count (omega arith)) c.told.ensures
 
 pub returns-else-i-t : goal.returns-else-i-t
 unfolding cost_answer
 returns-else-i-t c =
-    rw (← c.judge.ensures, c.in-WellFormed.is, le-ltb c.args.task c.args.t.count (omega arith)) c.refused_task.ensures
+    rw (← c.judge.ensures, c.in-Ok.is, le-ltb c.args.task c.args.t.count (omega arith)) c.refused_task.ensures

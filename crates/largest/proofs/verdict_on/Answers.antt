@@ -15,13 +15,13 @@ returns-then-passes c =
     sym (quick_says c.args.t c.args.m c.requires c.args.budget (omega (arith, c.if-m-budget.true))
     (rw (sym c.passes.ensures ∙ c.if-passes.true) tt))
 
-pub returns-in-Refused : goal.returns-in-Refused
-returns-in-Refused c =
+pub returns-in-Err : goal.returns-in-Err
+returns-in-Err c =
     let e = says c.args.t c.args.m c.requires c.args.budget c.tested-answer.result c.tested-answer.ensures in
     let z : ◌≡◌ {A = ℕ} 0 1 = cc in
     absurd (omega arith)
 
-pub returns-in-Tested : goal.returns-in-Tested
-returns-in-Tested c =
+pub returns-in-Ok : goal.returns-in-Ok
+returns-in-Ok c =
     let e = says c.args.t c.args.m c.requires c.args.budget c.tested-answer.result c.tested-answer.ensures in
     cc

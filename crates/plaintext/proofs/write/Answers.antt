@@ -6,14 +6,14 @@ use Rattle.plaintext.proofs.write.Goals as goal
 
 pub write_text-requires : goal.write_text-requires
 write_text-requires c =
-    (well_mixed _ _ (sym c.judge_mixed.ensures ∙ c.in-WellFormed.is)).ranged
+    (well_mixed _ _ (sym c.judge_mixed.ensures ∙ c.in-Ok.is)).ranged
 
-pub returns-in-Refused : goal.returns-in-Refused
+pub returns-in-Err : goal.returns-in-Err
 unfolding text_written
-returns-in-Refused c =
-    rw (← c.judge_mixed.ensures, c.in-Refused.is)
+returns-in-Err c =
+    rw (← c.judge_mixed.ensures, c.in-Err.is)
 
-pub returns-in-WellFormed : goal.returns-in-WellFormed
+pub returns-in-Ok : goal.returns-in-Ok
 unfolding text_written
-returns-in-WellFormed c =
-    rw (← c.judge_mixed.ensures, c.in-WellFormed.is) c.write_text.ensures
+returns-in-Ok c =
+    rw (← c.judge_mixed.ensures, c.in-Ok.is) c.write_text.ensures

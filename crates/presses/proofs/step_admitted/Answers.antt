@@ -28,7 +28,7 @@ returns-then-room-eq0 c = rw (
   eq-eqb (slot_count c.args.t c.args.d) slot_count_limit
       (omega (arith, (told (goal.at.returns-then-room-eq0 c).Start).1, most (goal.at.returns-then-room-eq0 c).Start, c.if-room-eq0.true)),
 )
-    c.handed_back.ensures
+    (rw c.new.ensures at c.handed_back.ensures)
 
 pub step_taken-requires : goal.step_taken-requires
 step_taken-requires c = pressable _ _ c.requires.ranged (told (goal.at.step_taken-requires c).Start).0

@@ -5,18 +5,18 @@ use Rattle.wellformed.specs.WellFormed.{periodic_iff}
 use Rattle.quick.proofs.test.Goals as goal
 
 pub passes-requires : goal.passes-requires
-passes-requires c = ((periodic_iff _ _).0 (sym c.judge.ensures ∙ c.in-WellFormed.is)).0
+passes-requires c = ((periodic_iff _ _).0 (sym c.judge.ensures ∙ c.in-Ok.is)).0
 
-pub returns-in-Refused : goal.returns-in-Refused
+pub returns-in-Err : goal.returns-in-Err
 unfolding quick_answer
-returns-in-Refused c = rw (← c.judge.ensures, c.in-Refused.is)
+returns-in-Err c = rw (← c.judge.ensures, c.in-Err.is)
 
 pub returns-then-passes : goal.returns-then-passes
 unfolding quick_answer
 returns-then-passes c =
-    rw (← c.judge.ensures, c.in-WellFormed.is, ← c.passes.ensures, c.if-passes.true)
+    rw (← c.judge.ensures, c.in-Ok.is, ← c.passes.ensures, c.if-passes.true)
 
 pub returns-else-passes : goal.returns-else-passes
 unfolding quick_answer
 returns-else-passes c =
-    rw (← c.judge.ensures, c.in-WellFormed.is, ← c.passes.ensures, c.if-passes.false)
+    rw (← c.judge.ensures, c.in-Ok.is, ← c.passes.ensures, c.if-passes.false)

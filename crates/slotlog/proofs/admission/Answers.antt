@@ -11,17 +11,17 @@ use Rattle.wellformed.specs.WellFormed.{well_formed, refused_is, admitted_is, ju
 use Rattle.wellformed.specs.Admitted.{fitting}
 use Rattle.belonging.specs.Room.{refused_tells, slots_tell}
 use Rattle.slotlog.specs.State.{log_state_of}
-use Rattle.slotlog.proofs.admission.Goals.{After-miscounted, In-Admitted}
+use Rattle.slotlog.proofs.admission.Goals.{After-miscounted, In-Ok}
 use Rattle.slotlog.proofs.admission.Goals as goal
 
 -- The table is well-formed.
-well : (c : In-Admitted) → let t = c.args.t in (judged t ≡ Ok (measure t))
+well : (c : In-Ok) → let t = c.args.t in (judged t ≡ Ok (measure t))
 well c =
-    let (m, e) = admitted_is (judged _) (sym c.admit.ensures ∙ c.in-Admitted.is) in
+    let (m, e) = admitted_is (judged _) (sym c.admit.ensures ∙ c.in-Ok.is) in
     e ∙ ap Ok ((judged_iff _ m).0 e).2
 
 pub belonging-requires : goal.belonging-requires
-belonging-requires c = (well_formed _ _ (well (goal.at.belonging-requires c).In-Admitted)).ranged.few
+belonging-requires c = (well_formed _ _ (well (goal.at.belonging-requires c).In-Ok)).ranged.few
 
 -- The dispatcher is admitted, and what it counts is what it can count less the room.
 counts : (c : After-miscounted) → (admitted_by c.args.t c.args.log.state (Ok (measure c.args.t)) ≡ Ok tt)
@@ -33,8 +33,8 @@ counts c =
     (arith, room, (fitting c.args.t c.args.log.state (measure c.args.t) fits).room) in
     (fits, rw counted at c.miscounted.ensures)
 
-abbrev told : After-miscounted → In-Admitted
-told c = (goal.at.After-miscounted c).In-Admitted
+abbrev told : After-miscounted → In-Ok
+told c = (goal.at.After-miscounted c).In-Ok
 
 pub returns-then-miscounted : goal.returns-then-miscounted
 unfolding log_admitted admitted
@@ -45,17 +45,17 @@ returns-then-miscounted c = rw (
   c.if-miscounted.true,
 ) refl
 
-pub returns-in-Refused : goal.returns-in-Refused
+pub returns-in-Err : goal.returns-in-Err
 unfolding log_admitted admitted
-returns-in-Refused c = rw (refused_is (judged _) _ (sym c.admit.ensures ∙ c.in-Refused.is)) refl
+returns-in-Err c = rw (refused_is (judged _) _ (sym c.admit.ensures ∙ c.in-Err.is)) refl
 
-pub returns-in-Refused-belonging : goal.returns-in-Refused-belonging
+pub returns-in-Err-belonging : goal.returns-in-Err-belonging
 unfolding log_admitted admitted
-returns-in-Refused-belonging c =
+returns-in-Err-belonging c =
     rw (
-      well (goal.at.returns-in-Refused-belonging c).In-Admitted,
+      well (goal.at.returns-in-Err-belonging c).In-Ok,
       refused_tells (admitted_by c.args.t c.args.log.state (Ok (measure c.args.t))) _ _
-          (sym c.belonging.ensures ∙ c.in-Refused-belonging.is),
+          (sym c.belonging.ensures ∙ c.in-Err-belonging.is),
     ) refl
 
 pub returns-else-miscounted : goal.returns-else-miscounted

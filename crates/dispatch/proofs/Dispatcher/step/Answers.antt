@@ -8,16 +8,16 @@ use Rattle.dispatch.proofs.Dispatcher.step.Goals as goal
 
 pub step_well_formed-requires : goal.step_well_formed-requires
 step_well_formed-requires c =
-    let (m, well) = admitted_is (judged _) (sym c.admit.ensures ∙ c.in-Admitted.is) in
+    let (m, well) = admitted_is (judged _) (sym c.admit.ensures ∙ c.in-Ok.is) in
     (well_formed _ m well).ranged
 
-pub returns-in-Refused : goal.returns-in-Refused
+pub returns-in-Err : goal.returns-in-Err
 unfolding stepped_by admitted
-returns-in-Refused c =
-    rw (refused_is (judged _) _ (sym c.admit.ensures ∙ c.in-Refused.is)) c.handed_back.ensures
+returns-in-Err c =
+    rw (refused_is (judged _) _ (sym c.admit.ensures ∙ c.in-Err.is)) c.handed_back.ensures
 
-pub returns-in-Admitted : goal.returns-in-Admitted
+pub returns-in-Ok : goal.returns-in-Ok
 unfolding stepped_by admitted
-returns-in-Admitted c =
-    let (m, well) = admitted_is (judged _) (sym c.admit.ensures ∙ c.in-Admitted.is) in
+returns-in-Ok c =
+    let (m, well) = admitted_is (judged _) (sym c.admit.ensures ∙ c.in-Ok.is) in
     rw well c.step_well_formed.ensures

@@ -9,15 +9,15 @@ use Rattle.presses.proofs.Presses.start.Goals as goal
 
 pub offsets-requires : goal.offsets-requires
 offsets-requires c =
-    let (m, well) = admitted_is (judged_mixed _) (sym c.admit_mixed.ensures ∙ c.in-Admitted.is) in
+    let (m, well) = admitted_is (judged_mixed _) (sym c.admit_mixed.ensures ∙ c.in-Ok.is) in
     (well_mixed _ m well).ranged.few
 
-pub returns-in-Refused : goal.returns-in-Refused
+pub returns-in-Err : goal.returns-in-Err
 unfolding started_mixed
-returns-in-Refused c = rw (refused_is (judged_mixed _) _ (sym c.admit_mixed.ensures ∙ c.in-Refused.is))
+returns-in-Err c = rw (refused_is (judged_mixed _) _ (sym c.admit_mixed.ensures ∙ c.in-Err.is))
 
-pub returns-in-Admitted : goal.returns-in-Admitted
+pub returns-in-Ok : goal.returns-in-Ok
 unfolding started_mixed start_of
-returns-in-Admitted c =
-    let (m, well) = admitted_is (judged_mixed _) (sym c.admit_mixed.ensures ∙ c.in-Admitted.is) in
+returns-in-Ok c =
+    let (m, well) = admitted_is (judged_mixed _) (sym c.admit_mixed.ensures ∙ c.in-Ok.is) in
     rw (well, c.offsets.ensures)

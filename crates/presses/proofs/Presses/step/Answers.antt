@@ -8,17 +8,17 @@ use Rattle.presses.proofs.Presses.step.Goals as goal
 
 pub step_well_formed-requires : goal.step_well_formed-requires
 step_well_formed-requires c =
-    let (m, well) = admitted_is (judged_mixed _) (sym c.admit_mixed.ensures ∙ c.in-Admitted.is) in
+    let (m, well) = admitted_is (judged_mixed _) (sym c.admit_mixed.ensures ∙ c.in-Ok.is) in
     (well_mixed _ m well).ranged
 
-pub returns-in-Refused : goal.returns-in-Refused
+pub returns-in-Err : goal.returns-in-Err
 unfolding stepped_pressed admitted_mixed
-returns-in-Refused c =
-    rw (refused_is (judged_mixed _) _ (sym c.admit_mixed.ensures ∙ c.in-Refused.is))
+returns-in-Err c =
+    rw (refused_is (judged_mixed _) _ (sym c.admit_mixed.ensures ∙ c.in-Err.is))
     c.handed_back.ensures
 
-pub returns-in-Admitted : goal.returns-in-Admitted
+pub returns-in-Ok : goal.returns-in-Ok
 unfolding stepped_pressed admitted_mixed
-returns-in-Admitted c =
-    let (m, well) = admitted_is (judged_mixed _) (sym c.admit_mixed.ensures ∙ c.in-Admitted.is) in
+returns-in-Ok c =
+    let (m, well) = admitted_is (judged_mixed _) (sym c.admit_mixed.ensures ∙ c.in-Ok.is) in
     rw well c.step_well_formed.ensures

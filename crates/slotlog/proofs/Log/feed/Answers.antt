@@ -5,14 +5,14 @@ use Rattle.model.specs.Log.{Log, fed}
 use Rattle.slotlog.proofs.Log.feed.Goals as goal
 
 pub read_all-requires : goal.read_all-requires
-read_all-requires c = sym c.admission.ensures ∙ c.in-Admitted.is
+read_all-requires c = sym c.admission.ensures ∙ c.in-Ok.is
 
-pub returns-in-Refused : goal.returns-in-Refused
+pub returns-in-Err : goal.returns-in-Err
 unfolding fed
-returns-in-Refused c = rw (← c.admission.ensures, c.in-Refused.is) refl
+returns-in-Err c = rw (← c.admission.ensures, c.in-Err.is) refl
 
-pub returns-in-Admitted : goal.returns-in-Admitted
+pub returns-in-Ok : goal.returns-in-Ok
 unfolding fed
-returns-in-Admitted c =
-    rw (← c.admission.ensures, c.in-Admitted.is)
+returns-in-Ok c =
+    rw (← c.admission.ensures, c.in-Ok.is)
     (ap (λ (l : Log). record { admission = Ok tt; log = l }) c.read_all.ensures)

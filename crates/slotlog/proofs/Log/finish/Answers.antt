@@ -16,14 +16,14 @@ sizes c = record { waits = search rules; lefts = search rules; gives = search ru
 pub close-requires : goal.close-requires
 close-requires c =
     (readable c.args.t (log_state_of c.args.self) (sizes (goal.at.close-requires c).Start)
-    (sym c.admission.ensures ∙ c.in-Admitted.is)).fits.bytes_le
+    (sym c.admission.ensures ∙ c.in-Ok.is)).fits.bytes_le
 
-pub returns-in-Refused : goal.returns-in-Refused
+pub returns-in-Err : goal.returns-in-Err
 unfolding log_finished
-returns-in-Refused c = rw (← c.admission.ensures, c.in-Refused.is) refl
+returns-in-Err c = rw (← c.admission.ensures, c.in-Err.is) refl
 
-pub returns-in-Admitted : goal.returns-in-Admitted
+pub returns-in-Ok : goal.returns-in-Ok
 unfolding log_finished
-returns-in-Admitted c =
-    rw (← c.admission.ensures, c.in-Admitted.is)
+returns-in-Ok c =
+    rw (← c.admission.ensures, c.in-Ok.is)
     (ap (λ (l : Log). record { admission = Ok tt; log = l }) c.close.ensures)

@@ -20,14 +20,14 @@ first-state t d = go (judged t)
     go (Err r) e = let z : ◌≡◌ {A = ℕ} 0 1 = cc in absurd (omega arith)
     go (Ok m) e = refl
 
-pub returns-in-Refused : goal.returns-in-Refused
+pub returns-in-Err : goal.returns-in-Err
 unfolding log_started
-returns-in-Refused c =
-    rw (← c.start-started.ensures, c.in-Refused.is)
+returns-in-Err c =
+    rw (← c.start-started.ensures, c.in-Err.is)
 
-pub returns-in-Admitted : goal.returns-in-Admitted
+pub returns-in-Ok : goal.returns-in-Ok
 unfolding log_started
-returns-in-Admitted c =
+returns-in-Ok c =
     let same = c.start-started.ensures in
-    let admitted = ap (λ (x : Started). x.admission) (sym same) ∙ c.in-Admitted.is in
+    let admitted = ap (λ (x : Started). x.admission) (sym same) ∙ c.in-Ok.is in
     rw (admitted, c.unread.ensures, ← first-state c.args.t _ admitted, ← same)
