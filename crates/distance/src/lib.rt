@@ -10,7 +10,7 @@ ghost use Rattle.wellformed.specs.Ranges.{Ranged};
 ghost use Rattle.slots.specs.Columns.{column};
 
 use slots::Numbers;
-use values::{DistanceAnswer, Judgement, Measure, TASK_LIMIT, Table, Task};
+use values::{ByDistance, DistanceAnswer, Judgement, Measure, Table, Task, TASK_LIMIT};
 
 fn signed(x: u32) -> i64
     ensures { (result ≡ pos x) × (x < 2 ^ 32) }
@@ -140,14 +140,14 @@ pub fn test(t: Table) -> DistanceAnswer
     ensures { result ≡ distance_answer t }
 {
     match table::judge_mixed(t) {
-        Err(why) => DistanceAnswer::Refused(why),
+        Err(why) => Err(why),
         Ok(m) => {
             if m.round < m.load {
-                DistanceAnswer::Overload
+                Ok(ByDistance::Overload)
             } else if all_calm(t, m) {
-                DistanceAnswer::Pass
+                Ok(ByDistance::Pass)
             } else {
-                DistanceAnswer::NoAnswer
+                Ok(ByDistance::NoAnswer)
             }
         }
     }

@@ -9,7 +9,7 @@ ghost use Rattle.model.specs.Easing.{easing_number, eased_number, eased_exported
 ghost use Rattle.model.specs.Largest.{cost_number, largest_exported};
 ghost use Rattle.model.specs.Room.{room_exported};
 
-use values::{Admission, DistanceAnswer, Easing, LargestCost, QuickAnswer, Refusal, Table};
+use values::{Admission, ByDistance, DistanceAnswer, Easing, LargestCost, Limit, Quick, QuickAnswer, Refusal, Table};
 
 const LARGEST_TASK: u32 = 65535;
 
@@ -21,9 +21,9 @@ fn quick_number(answer: QuickAnswer) -> u64
     ensures { result ≡ quick_number answer }
 {
     match answer {
-        QuickAnswer::Refused(why) => numbers::refusal_number(why),
-        QuickAnswer::Pass => 1,
-        QuickAnswer::NoAnswer => 0,
+        Err(why) => numbers::refusal_number(why),
+        Ok(Quick::Pass) => 1,
+        Ok(Quick::NoAnswer) => 0,
     }
 }
 
@@ -46,10 +46,10 @@ fn distance_number(answer: DistanceAnswer) -> u64
     ensures { result ≡ distance_number answer }
 {
     match answer {
-        DistanceAnswer::Refused(why) => numbers::refusal_number(why),
-        DistanceAnswer::Overload => 2,
-        DistanceAnswer::Pass => 1,
-        DistanceAnswer::NoAnswer => 0,
+        Err(why) => numbers::refusal_number(why),
+        Ok(ByDistance::Overload) => 2,
+        Ok(ByDistance::Pass) => 1,
+        Ok(ByDistance::NoAnswer) => 0,
     }
 }
 
@@ -72,11 +72,11 @@ fn cost_number(answer: LargestCost) -> u64
     ensures { result ≡ cost_number answer }
 {
     match answer {
-        LargestCost::Refused(why) => numbers::refusal_number(why),
-        LargestCost::Overload => 60_001,
-        LargestCost::Undecided => 60_002,
-        LargestCost::Late => 60_003,
-        LargestCost::Cost(cost) => cost as u64,
+        Err(why) => numbers::refusal_number(why),
+        Ok(Limit::Overload) => 60_001,
+        Ok(Limit::Undecided) => 60_002,
+        Ok(Limit::Late) => 60_003,
+        Ok(Limit::At(cost)) => cost as u64,
     }
 }
 

@@ -1,8 +1,7 @@
 // The largest cost that one task of a table can take: the costs up to its deadline are halved by trials of the exact test.
 #![tactic(auto)]
 
-ghost use Rattle.std.specs.Prelude.{◌≡◌, ◌≤◌, ◌<◌, Ok};
-ghost use Rattle.values.specs.declared.LargestCost.{LargestCost};
+ghost use Rattle.std.specs.Prelude.{◌≡◌, ◌≤◌, ◌<◌, Ok, Err};
 ghost use Rattle.values.specs.declared.Verdict.{Verdict};
 ghost use Rattle.model.specs.Values.{refusal};
 ghost use Rattle.model.specs.Limits.{task_limit};
@@ -10,7 +9,7 @@ ghost use Rattle.model.specs.Tasks.{task, judged};
 ghost use Rattle.model.specs.Verdict.{verdict};
 ghost use Rattle.model.specs.Largest.{with_cost, is_pass, passes_with, largest_cost, cost_told, cost_answer};
 
-use values::{Fault, Judgement, LargestCost, Measure, Outcome, Refusal, Table, Verdict};
+use values::{Fault, Judgement, LargestCost, Limit, Measure, Outcome, Refusal, Table, Verdict};
 
 pub fn with_cost(t: Table, i: usize, cost: u32) -> Table
     requires { i < task_limit }
@@ -112,16 +111,16 @@ fn told(t: Table, m: Measure, i: usize, budget: u64) -> LargestCost
     let said = verdict_on(t, m, budget);
     match said {
         Verdict::Passes => LargestCost::Cost(search(t, m, i, budget)),
-        Verdict::Overload => LargestCost::Overload,
-        Verdict::Late { .. } => LargestCost::Late,
-        Verdict::Undecided => LargestCost::Undecided,
+        Verdict::Overload => Ok(Limit::Overload),
+        Verdict::Late { .. } => Ok(Limit::Late),
+        Verdict::Undecided => Ok(Limit::Undecided),
     }
 }
 
 fn refused_task(task: u32) -> LargestCost
-    ensures { result ≡ LargestCost.Refused (refusal 12 task) }
+    ensures { result ≡ Err (refusal 12 task) }
 {
-    LargestCost::Refused(Refusal::new(Fault::NoSuchTask, task))
+    Err(Refusal::new(Fault::NoSuchTask, task))
 }
 
 // The one permitted answer to any table, task number and budget.
@@ -129,7 +128,7 @@ pub fn largest_cost(t: Table, task: u32, budget: u64) -> LargestCost
     ensures { result ≡ cost_answer t task budget }
 {
     match table::judge(t) {
-        Err(why) => LargestCost::Refused(why),
+        Err(why) => Err(why),
         Ok(m) => {
             let i = task as usize;
             if i < t.count {

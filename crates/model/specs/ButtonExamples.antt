@@ -1,4 +1,5 @@
 -- Tables with buttons (T-13), by computing.
+use Rattle.values.specs.declared.ByDistance.{ByDistance}
 use Rattle.std.specs.Prelude.{◌≡◌, refl, List, [], ◌∷◌, ◌++◌, map, ◌||◌, true, false, ℕ, zero, suc, ◌+◌, ◌-◌, ◌*◌, eqb, get_or, replicate, Ok, Err}
 use Rattle.model.specs.Values.{Sort, Task, Table, QuickAnswer, DistanceAnswer, LargestCost, Admission, SlotAnswer}
 use Rattle.model.specs.Values.{judgement_said, refusal}
@@ -117,7 +118,7 @@ button_texts = (refl, refl, refl)
 button_distance :
     (map (distance (of 1 1 1 2)) (button 1 1 2 ∷ of 2 1 1 2 ∷ []) ≡ 0 ∷ 1 ∷ [])
     × (map distance_answer (table_of (of 0 1 1 2 ∷ button 1 1 2 ∷ []) ∷ table_of (of 0 1 1 2 ∷ of 1 1 1 2 ∷ []) ∷ [])
-    ≡ DistanceAnswer.NoAnswer ∷ DistanceAnswer.Pass ∷ [])
+    ≡ (Ok ByDistance.NoAnswer) ∷ (Ok ByDistance.Pass) ∷ [])
 unfolding distance_answer distance_pass distance common_divisor calm starting_at fill first_idle idle_at missed_at last
     judged_mixed first_faulty task_fault first round load horizon largest sum count served owner_of choose
 button_distance = (refl, refl)
@@ -127,7 +128,7 @@ button_distance = (refl, refl)
 buttons_decide :
     (map distance_answer (table_shutter ∷ table_of (button 1 2 2 ∷ button 1 2 3 ∷ [])
     ∷ table_of (button 1 1 2 ∷ button 1 1 3 ∷ []) ∷ table_of (of 0 1 1 2 ∷ button 2 2 2 ∷ []) ∷ [])
-    ≡ DistanceAnswer.Pass ∷ DistanceAnswer.Pass ∷ DistanceAnswer.NoAnswer ∷ DistanceAnswer.Overload ∷ [])
+    ≡ (Ok ByDistance.Pass) ∷ (Ok ByDistance.Pass) ∷ (Ok ByDistance.NoAnswer) ∷ (Ok ByDistance.Overload) ∷ [])
     × (calm (pattern table_shutter 2) ≡ false)
 unfolding distance_answer distance_pass distance common_divisor calm starting_at fill first_idle idle_at missed_at last
     judged_mixed first_faulty task_fault first round load horizon largest sum count served owner_of choose
@@ -137,7 +138,7 @@ buttons_decide = (refl, refl)
 -- and the two periodic tasks are no overload.
 buttons_weigh :
     let t = table_of (of 0 2 4 4 ∷ of 2 1 4 4 ∷ button 1 2 2 ∷ []) in
-    (distance_answer t ≡ DistanceAnswer.Overload) × (calm_patterns t ≡ true)
+    (distance_answer t ≡ Ok ByDistance.Overload) × (calm_patterns t ≡ true)
     × (light (table_of (of 0 2 4 4 ∷ of 2 1 4 4 ∷ [])) ≡ true)
 unfolding distance_answer distance common_divisor calm starting_at fill first_idle idle_at missed_at last judged_mixed
     first_faulty task_fault first round load horizon largest sum count served owner_of choose
@@ -146,8 +147,8 @@ buttons_weigh = (refl, refl, refl)
 -- The other tests and the dispatcher refuse the shutter's table by 11 at 2;
 -- a task that it does not have comes after that, and so does a state.
 only_periodic :
-    (quick_answer table_shutter ≡ QuickAnswer.Refused (refusal 11 2))
-    × (cost_answer table_shutter 9 1000 ≡ LargestCost.Refused (refusal 11 2))
+    (quick_answer table_shutter ≡ Err (refusal 11 2))
+    × (cost_answer table_shutter 9 1000 ≡ Err (refusal 11 2))
     × ((started table_shutter (start_of table_shutter)).admission ≡ at 11 2)
     × ((stepped table_shutter (uncounted (padded 99 []) (padded 9 []) 99) false).answer
     ≡ Err (refusal 11 2))

@@ -1,5 +1,6 @@
 -- What would fit (ours): the largest cost and the smallest deadline of one task, and the largest share of every cost, with which
 -- a table passes; and the one permitted answer to a table, a change and a budget.
+use Rattle.values.specs.declared.Limit.{Limit}
 use Rattle.std.specs.Prelude.{List, Bool, false, cond, ℕ, suc, ◌+◌, ◌-◌, ◌*◌, ◌/◌, min, ltb, set, Ok, Err}
 use Rattle.model.specs.Notation.{fill, first, last}
 use Rattle.model.specs.Values.{Task, Table, Judgement, Verdict, Change, Fit, refusal}
@@ -61,10 +62,10 @@ easiest t Change.Share = with_share t 1
 
 -- What is told, by the verdict on the table with the change at its easiest.
 abbrev pub fit_told : Table → Change → ℕ → Verdict → Fit
-fit_told t c budget Verdict.Overload = Fit.Overload
-fit_told t c budget (Verdict.Late from to asked) = Fit.Late
-fit_told t c budget Verdict.Undecided = Fit.Undecided
-fit_told t c budget Verdict.Passes = Fit.Number (fitting t c budget)
+fit_told t c budget Verdict.Overload = Ok Limit.Overload
+fit_told t c budget (Verdict.Late from to asked) = Ok Limit.Late
+fit_told t c budget Verdict.Undecided = Ok Limit.Undecided
+fit_told t c budget Verdict.Passes = Ok (Limit.At (fitting t c budget))
 
 -- The task that is asked for; with a share it is 0, which every table has.
 abbrev pub task_of : Change → ℕ
@@ -75,9 +76,9 @@ task_of Change.Share = 0
 -- By what the table is judged to be: its refusal; 12 for a number that is none of its tasks', at that number;
 -- or what is told.
 abbrev pub fit_judged : Table → Change → ℕ → Judgement → Fit
-fit_judged t c budget (Err r) = Fit.Refused r
+fit_judged t c budget (Err r) = Err r
 fit_judged t c budget (Ok m) =
-    cond (ltb (task_of c) t.count) (fit_told t c budget (verdict (easiest t c) budget)) (Fit.Refused (refusal 12 (task_of c)))
+    cond (ltb (task_of c) t.count) (fit_told t c budget (verdict (easiest t c) budget)) (Err (refusal 12 (task_of c)))
 
 -- The one permitted answer to any table, change and budget, refusals included.
 unfoldable pub fit_answer : Table → Change → ℕ → Fit
@@ -85,19 +86,19 @@ fit_answer t c budget = fit_judged t c budget (judged t)
 
 -- As a number: the cost or deadline; behind the largest one the verdict's number, where there is none; or the refusal.
 abbrev pub fit_number : Fit → ℕ
-fit_number (Fit.Refused r) = refusal_number r
-fit_number Fit.Overload = slot_limit + 1
-fit_number Fit.Undecided = slot_limit + 2
-fit_number Fit.Late = slot_limit + 3
-fit_number (Fit.Number n) = n
+fit_number (Err r) = refusal_number r
+fit_number (Ok Limit.Overload) = slot_limit + 1
+fit_number (Ok Limit.Undecided) = slot_limit + 2
+fit_number (Ok Limit.Late) = slot_limit + 3
+fit_number (Ok (Limit.At n)) = n
 
 -- A share stands above all of these, in the upper half of the number.
 abbrev pub share_number : Fit → ℕ
-share_number (Fit.Refused r) = refusal_number r
-share_number Fit.Overload = slot_limit + 1
-share_number Fit.Undecided = slot_limit + 2
-share_number Fit.Late = slot_limit + 3
-share_number (Fit.Number p) = p * word_limit
+share_number (Err r) = refusal_number r
+share_number (Ok Limit.Overload) = slot_limit + 1
+share_number (Ok Limit.Undecided) = slot_limit + 2
+share_number (Ok Limit.Late) = slot_limit + 3
+share_number (Ok (Limit.At p)) = p * word_limit
 
 -- The numbers that the exported calls return of any file and task number; no table has a task 65,535.
 abbrev pub fit_cost_exported : List ℕ → ℕ → ℕ

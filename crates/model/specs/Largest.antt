@@ -1,5 +1,6 @@
 -- The largest cost that one task of a table can take (T-12), and the one permitted answer to a table,
 -- a task number and a budget.
+use Rattle.values.specs.declared.Limit.{Limit}
 use Rattle.std.specs.Prelude.{List, Bool, true, false, cond, ℕ, suc, ◌+◌, min, ltb, set, Ok, Err}
 use Rattle.model.specs.Notation.{last}
 use Rattle.model.specs.Values.{Task, Table, Judgement, Verdict, LargestCost, refusal}
@@ -33,17 +34,17 @@ largest_cost t i budget = last (passes_with t i budget) (suc (task t i).deadline
 
 -- What is told, by the verdict on the table as it is.
 abbrev pub cost_told : Table → ℕ → ℕ → Verdict → LargestCost
-cost_told t i budget Verdict.Overload = LargestCost.Overload
-cost_told t i budget (Verdict.Late from to asked) = LargestCost.Late
-cost_told t i budget Verdict.Undecided = LargestCost.Undecided
-cost_told t i budget Verdict.Passes = LargestCost.Cost (largest_cost t i budget)
+cost_told t i budget Verdict.Overload = Ok Limit.Overload
+cost_told t i budget (Verdict.Late from to asked) = Ok Limit.Late
+cost_told t i budget Verdict.Undecided = Ok Limit.Undecided
+cost_told t i budget Verdict.Passes = Ok (Limit.At (largest_cost t i budget))
 
 -- By what the table is judged to be: its refusal; 12 for a number that is none of its tasks',
 -- at that number; or what is told.
 abbrev pub cost_judged : Table → ℕ → ℕ → Judgement → LargestCost
-cost_judged t i budget (Err r) = LargestCost.Refused r
+cost_judged t i budget (Err r) = Err r
 cost_judged t i budget (Ok m) =
-    cond (ltb i t.count) (cost_told t i budget (verdict t budget)) (LargestCost.Refused (refusal 12 i))
+    cond (ltb i t.count) (cost_told t i budget (verdict t budget)) (Err (refusal 12 i))
 
 -- The one permitted answer to any table, task number and budget, refusals included.
 unfoldable pub cost_answer : Table → ℕ → ℕ → LargestCost
@@ -51,11 +52,11 @@ cost_answer t i budget = cost_judged t i budget (judged t)
 
 -- As a number: the cost; behind the largest cost the verdict's number, where the table does not pass; or the refusal.
 abbrev pub cost_number : LargestCost → ℕ
-cost_number (LargestCost.Refused r) = refusal_number r
-cost_number LargestCost.Overload = slot_limit + 1
-cost_number LargestCost.Undecided = slot_limit + 2
-cost_number LargestCost.Late = slot_limit + 3
-cost_number (LargestCost.Cost c) = c
+cost_number (Err r) = refusal_number r
+cost_number (Ok Limit.Overload) = slot_limit + 1
+cost_number (Ok Limit.Undecided) = slot_limit + 2
+cost_number (Ok Limit.Late) = slot_limit + 3
+cost_number (Ok (Limit.At c)) = c
 
 -- The number that the exported call returns of any file and task number; no table has a task 65,535.
 abbrev pub largest_exported : List ℕ → ℕ → ℕ

@@ -1,5 +1,7 @@
 -- The quick test (T-03) and the distance test (T-05, T-13): tables with other offsets,
 -- each walked to its first idle instant.
+use Rattle.values.specs.declared.ByDistance.{ByDistance}
+use Rattle.values.specs.declared.Quick.{Quick}
 use Rattle.std.specs.Prelude.{Bool, cond, not, ◌&&◌, ◌||◌, ℕ, suc, ◌-◌, ◌%◌, ℤ, pos, negsuc, ◌-ℤ◌, leb, eqb, Ok, Err}
 use Rattle.model.specs.Notation.{some, every, last, fill}
 use Rattle.model.specs.Values.{Sort, Task, Table, Judgement, QuickAnswer, DistanceAnswer}
@@ -42,8 +44,8 @@ quick_pass t = light t && calm (simultaneous t)
 
 -- The one answer of the quick test to any table. Overload is no answer, and late is never said.
 abbrev pub quick_judged : Table → Judgement → QuickAnswer
-quick_judged t (Err r) = QuickAnswer.Refused r
-quick_judged t (Ok m) = cond (quick_pass t) QuickAnswer.Pass QuickAnswer.NoAnswer
+quick_judged t (Err r) = Err r
+quick_judged t (Ok m) = cond (quick_pass t) (Ok Quick.Pass) (Ok Quick.NoAnswer)
 
 unfoldable pub quick_answer : Table → QuickAnswer
 quick_answer t = quick_judged t (judged t)
@@ -82,9 +84,9 @@ distance_pass t = light t && calm_patterns t
 
 -- The one answer of the distance test to any table, of tasks of both sorts. Overload is said first.
 abbrev pub distance_judged : Table → Judgement → DistanceAnswer
-distance_judged t (Err r) = DistanceAnswer.Refused r
+distance_judged t (Err r) = Err r
 distance_judged t (Ok m) =
-    cond (light t) (cond (distance_pass t) DistanceAnswer.Pass DistanceAnswer.NoAnswer) DistanceAnswer.Overload
+    cond (light t) (cond (distance_pass t) (Ok ByDistance.Pass) (Ok ByDistance.NoAnswer)) (Ok ByDistance.Overload)
 
 unfoldable pub distance_answer : Table → DistanceAnswer
 distance_answer t = distance_judged t (judged_mixed t)

@@ -1,4 +1,6 @@
 -- The report on an answer, byte for byte; the exported calls on a file; the program's output.
+use Rattle.values.specs.declared.ByDistance.{ByDistance}
+use Rattle.values.specs.declared.Quick.{Quick}
 use Rattle.std.specs.Prelude.{List, [], ◌++◌, Bool, true, false, cond, ◌≡◌, ℕ, zero, suc, ◌+◌, ◌*◌, ltb, get_or, length, drop, Ok, Err}
 use Rattle.model.specs.Notation.{text, decimal}
 use Rattle.model.specs.Values.{Table, Refusal, Verdict, Outcome, Answer, QuickAnswer, DistanceAnswer, Admission}
@@ -104,19 +106,19 @@ file_number file tell = elim (form_of file).admission [
 
 -- Of the quick test: 1 for pass, 0 for no answer, or the refusal of the table.
 abbrev pub quick_number : QuickAnswer → ℕ
-quick_number (QuickAnswer.Refused r) = refusal_number r
-quick_number QuickAnswer.Pass = 1
-quick_number QuickAnswer.NoAnswer = 0
+quick_number (Err r) = refusal_number r
+quick_number (Ok Quick.Pass) = 1
+quick_number (Ok Quick.NoAnswer) = 0
 
 abbrev pub quick_exported : List ℕ → ℕ
 quick_exported file = file_number file (λ t. quick_number (quick_answer t))
 
 -- Of the distance test: 2 for overload, 1 for pass, 0 for no answer, or the refusal of the table.
 abbrev pub distance_number : DistanceAnswer → ℕ
-distance_number (DistanceAnswer.Refused r) = refusal_number r
-distance_number DistanceAnswer.Overload = 2
-distance_number DistanceAnswer.Pass = 1
-distance_number DistanceAnswer.NoAnswer = 0
+distance_number (Err r) = refusal_number r
+distance_number (Ok ByDistance.Overload) = 2
+distance_number (Ok ByDistance.Pass) = 1
+distance_number (Ok ByDistance.NoAnswer) = 0
 
 abbrev pub distance_exported : List ℕ → ℕ
 distance_exported file = file_number file (λ t. distance_number (distance_answer t))

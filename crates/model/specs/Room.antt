@@ -1,5 +1,6 @@
 -- The room of a table that may have buttons (ours): the largest cost of one task or button with which the distance test still
 -- passes, and the one permitted number for any table and task number.
+use Rattle.values.specs.declared.ByDistance.{ByDistance}
 use Rattle.std.specs.Prelude.{List, Bool, cond, ℕ, suc, ◌+◌, min, ltb, Ok, Err}
 use Rattle.model.specs.Notation.{last}
 use Rattle.model.specs.Values.{Table, Judgement, DistanceAnswer, refusal}
@@ -20,10 +21,10 @@ room t i = last (room_with t i) (suc (task t i).deadline)
 -- What is told, by the test's answer to the table as it is: the room, or behind the largest cost 1 for overload
 -- and 3 for no answer.
 abbrev pub room_told : Table → ℕ → DistanceAnswer → ℕ
-room_told t i (DistanceAnswer.Refused r) = refusal_number r
-room_told t i DistanceAnswer.Overload = slot_limit + 1
-room_told t i DistanceAnswer.Pass = room t i
-room_told t i DistanceAnswer.NoAnswer = slot_limit + 3
+room_told t i (Err r) = refusal_number r
+room_told t i (Ok ByDistance.Overload) = slot_limit + 1
+room_told t i (Ok ByDistance.Pass) = room t i
+room_told t i (Ok ByDistance.NoAnswer) = slot_limit + 3
 
 -- By what the table is judged to be: its refusal; 12 for a number that is none of its tasks', at that number;
 -- or what is told.

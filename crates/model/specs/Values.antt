@@ -7,13 +7,12 @@ pub use Rattle.values.specs.declared.Table.{Table}
 pub use Rattle.values.specs.declared.Refusal.{Refusal}
 pub use Rattle.values.specs.declared.Measure.{Measure}
 pub use Rattle.values.specs.declared.Verdict.{Verdict}
-pub use Rattle.values.specs.declared.LargestCost.{LargestCost}
+pub use Rattle.values.specs.declared.Limit.{Limit}
 pub use Rattle.values.specs.declared.Change.{Change}
-pub use Rattle.values.specs.declared.Fit.{Fit}
 pub use Rattle.values.specs.declared.Answer.{Answer}
 pub use Rattle.values.specs.declared.AnswerNumbers.{AnswerNumbers}
-pub use Rattle.values.specs.declared.QuickAnswer.{QuickAnswer}
-pub use Rattle.values.specs.declared.DistanceAnswer.{DistanceAnswer}
+pub use Rattle.values.specs.declared.Quick.{Quick}
+pub use Rattle.values.specs.declared.ByDistance.{ByDistance}
 pub use Rattle.values.specs.declared.Easing.{Easing}
 pub use Rattle.values.specs.declared.Contents.{Contents}
 pub use Rattle.values.specs.declared.Line.{Line}
@@ -21,7 +20,8 @@ pub use Rattle.values.specs.declared.State.{State}
 pub use Rattle.values.specs.declared.Turn.{Turn}
 pub use Rattle.values.specs.declared.Finding.{Finding}
 
--- The answers that may be a refusal: of a table's judge, of the exact test, of a file or a start, of a writer, of a step.
+-- The answers that may be a refusal: of a table's judge, of the exact test, of a file or a start, of a writer, of a step, of the
+-- quick test, of the distance test, of the largest cost, of what would fit.
 abbrev pub Judgement : Type 0
 Judgement = Result Measure Refusal
 
@@ -36,6 +36,18 @@ Writing = Result ℕ Refusal
 
 abbrev pub SlotAnswer : Type 0
 SlotAnswer = Result Turn Refusal
+
+abbrev pub QuickAnswer : Type 0
+QuickAnswer = Result Quick Refusal
+
+abbrev pub DistanceAnswer : Type 0
+DistanceAnswer = Result ByDistance Refusal
+
+abbrev pub LargestCost : Type 0
+LargestCost = Result Limit Refusal
+
+abbrev pub Fit : Type 0
+Fit = Result Limit Refusal
 
 -- A verdict: its number in the order in which they are said, and the slots that are settled; then the interval and demand
 -- of a late one, or of one that passes the first idle instant and the worst responses.
@@ -77,16 +89,16 @@ writing_said (Ok n) = 0 ∷ n ∷ []
 
 -- Of the quick test: a refusal, or 0 with 1 for pass, 0 with 0 for no answer.
 abbrev pub quick_said : QuickAnswer → List ℕ
-quick_said (QuickAnswer.Refused r) = refusal_said r
-quick_said QuickAnswer.Pass = 0 ∷ 1 ∷ []
-quick_said QuickAnswer.NoAnswer = 0 ∷ 0 ∷ []
+quick_said (Err r) = refusal_said r
+quick_said (Ok Quick.Pass) = 0 ∷ 1 ∷ []
+quick_said (Ok Quick.NoAnswer) = 0 ∷ 0 ∷ []
 
 -- Of the distance test: a refusal, or 0 with 2 for overload, 0 with 1 for pass, 0 with 0 for no answer.
 abbrev pub distance_said : DistanceAnswer → List ℕ
-distance_said (DistanceAnswer.Refused r) = refusal_said r
-distance_said DistanceAnswer.Overload = 0 ∷ 2 ∷ []
-distance_said DistanceAnswer.Pass = 0 ∷ 1 ∷ []
-distance_said DistanceAnswer.NoAnswer = 0 ∷ 0 ∷ []
+distance_said (Err r) = refusal_said r
+distance_said (Ok ByDistance.Overload) = 0 ∷ 2 ∷ []
+distance_said (Ok ByDistance.Pass) = 0 ∷ 1 ∷ []
+distance_said (Ok ByDistance.NoAnswer) = 0 ∷ 0 ∷ []
 
 abbrev pub slot_said : SlotAnswer → List ℕ
 slot_said (Err r) = refusal_said r
@@ -95,20 +107,20 @@ slot_said (Ok s) = 0 ∷ s.owner ∷ s.late ∷ s.closed ∷ s.lowest ∷ []
 -- Of the largest cost: a refusal, of two entries; the verdict's number alone,
 -- where the table does not pass; or 0 with that cost.
 abbrev pub cost_said : LargestCost → List ℕ
-cost_said (LargestCost.Refused r) = refusal_said r
-cost_said LargestCost.Overload = 1 ∷ []
-cost_said LargestCost.Undecided = 2 ∷ []
-cost_said LargestCost.Late = 3 ∷ []
-cost_said (LargestCost.Cost c) = 0 ∷ c ∷ []
+cost_said (Err r) = refusal_said r
+cost_said (Ok Limit.Overload) = 1 ∷ []
+cost_said (Ok Limit.Undecided) = 2 ∷ []
+cost_said (Ok Limit.Late) = 3 ∷ []
+cost_said (Ok (Limit.At c)) = 0 ∷ c ∷ []
 
 -- Of what would fit: a refusal, of two entries; the verdict's number alone, where there is no such number;
 -- or 0 with the number.
 abbrev pub fit_said : Fit → List ℕ
-fit_said (Fit.Refused r) = refusal_said r
-fit_said Fit.Overload = 1 ∷ []
-fit_said Fit.Undecided = 2 ∷ []
-fit_said Fit.Late = 3 ∷ []
-fit_said (Fit.Number n) = 0 ∷ n ∷ []
+fit_said (Err r) = refusal_said r
+fit_said (Ok Limit.Overload) = 1 ∷ []
+fit_said (Ok Limit.Undecided) = 2 ∷ []
+fit_said (Ok Limit.Late) = 3 ∷ []
+fit_said (Ok (Limit.At n)) = 0 ∷ n ∷ []
 
 -- Of a log: 0 for nothing found yet, 1 for good, 2 with the slot that differs, or a fault's number, from 40 on,
 -- with the place of its byte.

@@ -1,6 +1,7 @@
 -- DISTANCE PASS (`distance_passes`): it means that the exact test passes the table, with any budget that reaches the horizon. A button counts as
 -- periodic from 0 on there.
-use Rattle.model.specs.Values.{Judgement}
+use Rattle.values.specs.declared.ByDistance.{ByDistance}
+use Rattle.model.specs.Values.{DistanceAnswer, Judgement}
 use Rattle.std.specs.Prelude.{◌≡◌, Bool, cond, ◌||◌, eqb, Ok, Err}
 use Rattle.std.proofs.Math.Path.{refl}
 use Rattle.std.proofs.Common.{ap, ap₂, arith}
@@ -10,7 +11,6 @@ use Rattle.std.proofs.Math.Dec.{T}
 use Rattle.values.specs.declared.Table.{Table}
 use Rattle.values.specs.declared.Measure.{Measure}
 use Rattle.values.specs.declared.Verdict.{Verdict}
-use Rattle.values.specs.declared.DistanceAnswer.{DistanceAnswer}
 use Rattle.model.specs.Notation.{some, every}
 use Rattle.model.specs.Limits.{slot_limit}
 use Rattle.model.specs.Tasks.{task, is_button, release, round, load, horizon}
@@ -39,17 +39,17 @@ unfolding distance_pass
 distance_light t h = omega (tests, ((and_iff (light t) (calm_patterns t)).0 h).0)
 
 -- By the cases of the table and of the test: an answer of pass is a pass of a well-formed table, and the other way.
-pub distance_case : (t : Table) (j : Judgement) → distance_judged t j ≡ DistanceAnswer.Pass → ((m : Measure) × (j ≡ Ok m)) × T
+pub distance_case : (t : Table) (j : Judgement) → distance_judged t j ≡ Ok ByDistance.Pass → ((m : Measure) × (j ≡ Ok m)) × T
     (distance_pass t)
 distance_case t (Err r) e = let z : ◌≡◌ {A = ℕ} 0 1 = cc in absurd (omega arith)
 distance_case t (Ok m) e = ((m, refl), go (light t) (distance_pass t) e)
   where
-    go : (a b : Bool) → cond a (cond b DistanceAnswer.Pass DistanceAnswer.NoAnswer) DistanceAnswer.Overload ≡ DistanceAnswer.Pass → T b
+    go : (a b : Bool) → ◌≡◌ {A = DistanceAnswer} (cond a (cond b (Ok ByDistance.Pass) (Ok ByDistance.NoAnswer)) (Ok ByDistance.Overload)) (Ok ByDistance.Pass) → T b
     go true true e = tt
     go true false e = let z : ◌≡◌ {A = ℕ} 0 1 = cc in absurd (omega arith)
     go false b e = let z : ◌≡◌ {A = ℕ} 0 1 = cc in absurd (omega arith)
 
-pub distance_told : (t : Table) (m : Measure) → T (distance_pass t) → distance_judged t (Ok m) ≡ DistanceAnswer.Pass
+pub distance_told : (t : Table) (m : Measure) → T (distance_pass t) → distance_judged t (Ok m) ≡ Ok ByDistance.Pass
 distance_told t m h = rw (is_true (light t) (let l = distance_light t h in omega tests), is_true (distance_pass t) h) refl
 
 -- The jobs of periodic tasks come when they are released.

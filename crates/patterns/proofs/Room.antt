@@ -1,4 +1,5 @@
 -- THE ROOM OF A TABLE (`room_is`): a cost with which the distance test passes, while it does not with the next one, is the largest.
+use Rattle.values.specs.declared.ByDistance.{ByDistance}
 use Rattle.std.specs.Prelude.{◌≡◌, Bool, cond, ℕ, suc, ◌≤◌, ◌<◌, Ok}
 use Rattle.std.proofs.Math.Path.{refl}
 use Rattle.std.proofs.Math.Bool.{true, false}
@@ -6,7 +7,6 @@ use Rattle.std.proofs.Common.{arith}
 use Rattle.std.proofs.Math.Dec.{T}
 use Rattle.values.specs.declared.Table.{Table}
 use Rattle.values.specs.declared.Measure.{Measure}
-use Rattle.values.specs.declared.DistanceAnswer.{DistanceAnswer}
 use Rattle.model.specs.Tasks.{task, judged_mixed}
 use Rattle.model.specs.Patterns.{light, distance_pass, distance_answer}
 use Rattle.model.specs.Largest.{with_cost}
@@ -32,7 +32,7 @@ module _ (t : Table) (m : Measure) (well : judged_mixed t ≡ Ok m) (i : ℕ) (l
       rw (mixed_of (with_cost t i c) (ranged_with t ranged i l c a b) (omega (arith, short, round_with t ranged i l c a b)))
       (go (light (with_cost t i c)) (distance_pass (with_cost t i c)) (λ h. omega (tests, distance_light (with_cost t i c) h)))
     where
-      go : (a b : Bool) → (T b → T a) → is_passed (cond a (cond b DistanceAnswer.Pass DistanceAnswer.NoAnswer) DistanceAnswer.Overload) ≡ b
+      go : (a b : Bool) → (T b → T a) → is_passed (cond a (cond b (Ok ByDistance.Pass) (Ok ByDistance.NoAnswer)) (Ok ByDistance.Overload)) ≡ b
       go true true f = refl
       go true false f = refl
       go false true f = absurd (f tt)
@@ -44,7 +44,7 @@ module _ (t : Table) (m : Measure) (well : judged_mixed t ≡ Ok m) (i : ℕ) (l
       lowered_distance (with_cost t i more) (with_cost t i less) (ranged_with t ranged i l more (omega arith) c)
       (ranged_with t ranged i l less a (omega arith)) (lowered_with t ranged i l less more b)
 
-  pub own_room : distance_answer t ≡ DistanceAnswer.Pass → T (room_with t i (task t i).cost)
+  pub own_room : distance_answer t ≡ Ok ByDistance.Pass → T (room_with t i (task t i).cost)
   unfolding distance_answer
   own_room e = rw (own_cost t i) (distance_case t (judged_mixed t) e).1
 

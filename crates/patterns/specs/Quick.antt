@@ -1,11 +1,11 @@
 -- QUICK PASS (`quick_passes`): it means that the exact test passes the table, with any budget that reaches the horizon.
-use Rattle.model.specs.Values.{Judgement}
+use Rattle.values.specs.declared.Quick.{Quick}
+use Rattle.model.specs.Values.{QuickAnswer, Judgement}
 use Rattle.std.specs.Prelude.{◌≡◌, refl, ◌↔◌, Bool, true, false, cond, ℕ, ◌≤◌, T, Ok, Err}
 use Rattle.std.proofs.Common.{le_refl, arith}
 use Rattle.values.specs.declared.Table.{Table}
 use Rattle.values.specs.declared.Measure.{Measure}
 use Rattle.values.specs.declared.Verdict.{Verdict}
-use Rattle.values.specs.declared.QuickAnswer.{QuickAnswer}
 use Rattle.model.specs.Tasks.{task, release, round, load, horizon}
 use Rattle.model.specs.Verdict.{verdict}
 use Rattle.model.specs.Patterns.{starting_at, light, calm, simultaneous, quick_pass, quick_judged}
@@ -21,11 +21,11 @@ use Rattle.patterns.specs.Starting.{starting_round, starting_load, starting_rang
 use Rattle.patterns.specs.Calm.{calm_iff, calm_never}
 
 -- By the cases of the table and of the test: an answer of pass is a pass of a well-formed table.
-pub quick_case : (t : Table) (j : Judgement) → quick_judged t j ≡ QuickAnswer.Pass → ((m : Measure) × (j ≡ Ok m)) × T (quick_pass t)
+pub quick_case : (t : Table) (j : Judgement) → quick_judged t j ≡ Ok Quick.Pass → ((m : Measure) × (j ≡ Ok m)) × T (quick_pass t)
 quick_case t (Err r) e = let z : ◌≡◌ {A = ℕ} 0 1 = cc in absurd (omega arith)
 quick_case t (Ok m) e = ((m, refl), go (quick_pass t) e)
   where
-    go : (b : Bool) → cond b QuickAnswer.Pass QuickAnswer.NoAnswer ≡ QuickAnswer.Pass → T b
+    go : (b : Bool) → ◌≡◌ {A = QuickAnswer} (cond b (Ok Quick.Pass) (Ok Quick.NoAnswer)) (Ok Quick.Pass) → T b
     go true e = tt
     go false e = let z : ◌≡◌ {A = ℕ} 0 1 = cc in absurd (omega arith)
 

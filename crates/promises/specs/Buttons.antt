@@ -1,11 +1,11 @@
 -- TASKS THAT COME WHEN THEY LIKE (section 3.9 of the specification):
 -- pass is said only of tables that have a good schedule for all arrivals that respect them.
+use Rattle.values.specs.declared.ByDistance.{ByDistance}
 use Rattle.std.specs.Prelude.{◌≡◌, refl, ◌↔◌, List, true, cond, ◌&&◌, ℕ, ◌+◌, ◌-◌, ◌≤◌, ◌<◌, T, Ok, Err}
 use Rattle.std.proofs.Common.{sym, ◌∙◌, arith}
 use Rattle.values.specs.declared.Table.{Table}
 use Rattle.values.specs.declared.Measure.{Measure}
 use Rattle.values.specs.declared.Verdict.{Verdict}
-use Rattle.values.specs.declared.DistanceAnswer.{DistanceAnswer}
 use Rattle.model.specs.Notation.{every, Least}
 use Rattle.model.specs.Values.{refusal}
 use Rattle.model.specs.Tasks.{task, is_button, round, load, measure, judged_mixed, judged}
@@ -34,7 +34,7 @@ abbrev pub AlwaysGood : Table → Type 0
 AlwaysGood t = (a : Arrivals) → Respects t a → (σ : Schedule) × GoodFor t a σ
 
 -- Pass means that; so does 1 of the exported test; and it is not said on overload, in which buttons count.
-pub pass_always_good : (t : Table) → distance_answer t ≡ DistanceAnswer.Pass → AlwaysGood t
+pub pass_always_good : (t : Table) → distance_answer t ≡ Ok ByDistance.Pass → AlwaysGood t
 unfolding distance_answer
 pass_always_good t e =
     let ((m, well), p) = distance_case t (judged_mixed t) e in mixed_good t (well_mixed t m well).ranged p
@@ -42,14 +42,14 @@ pass_always_good t e =
 pub file_always_good : (file : List ℕ) → distance_exported file ≡ 1 → AlwaysGood (file_read file).table
 file_always_good file e = pass_always_good (file_read file).table (distance_file_pass file e)
 
-pub pass_no_overload : (t : Table) → distance_answer t ≡ DistanceAnswer.Pass → load t ≤ round t
+pub pass_no_overload : (t : Table) → distance_answer t ≡ Ok ByDistance.Pass → load t ≤ round t
 unfolding distance_answer
 pass_no_overload t e = distance_light t (distance_case t (judged_mixed t) e).1
 
 module _ (t : Table) (m : Measure) (well : judged_mixed t ≡ Ok m) where
   -- With buttons alone it is said exactly then.
   pub buttons_exactly : ((i : ℕ) → i < t.count → is_button (task t i) ≡ true)
-      → (distance_answer t ≡ DistanceAnswer.Pass) ↔ AlwaysGood t
+      → (distance_answer t ≡ Ok ByDistance.Pass) ↔ AlwaysGood t
   unfolding distance_answer
   buttons_exactly all =
       (pass_always_good t, λ h. rw well (distance_told t m ((buttons_iff t (well_mixed t m well).ranged all).1 h)))

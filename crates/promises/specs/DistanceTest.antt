@@ -1,5 +1,7 @@
 -- THE DISTANCE TEST (section 3.8 of the specification): quick pass is distance pass, and that is said of a table
 -- without buttons only if the exact test passes it. What it means of tables with buttons stands in `Buttons`.
+use Rattle.values.specs.declared.ByDistance.{ByDistance}
+use Rattle.values.specs.declared.Quick.{Quick}
 use Rattle.std.specs.Prelude.{◌≡◌, refl, ◌↔◌, List, [], ◌∷◌, true, false, cond, ℕ, ◌+◌, ◌≤◌, ◌<◌, Ok, Err}
 use Rattle.std.proofs.Common.{sym, ◌∙◌, inl, inr, arith}
 use Rattle.values.specs.declared.Task.{Task}
@@ -7,8 +9,6 @@ use Rattle.values.specs.declared.Table.{Table}
 use Rattle.values.specs.declared.Refusal.{Refusal}
 use Rattle.values.specs.declared.Measure.{Measure}
 use Rattle.values.specs.declared.Verdict.{Verdict}
-use Rattle.values.specs.declared.QuickAnswer.{QuickAnswer}
-use Rattle.values.specs.declared.DistanceAnswer.{DistanceAnswer}
 use Rattle.model.specs.Values.{refusal_said, distance_said}
 use Rattle.model.specs.Tasks.{task, is_button, release, round, load, horizon, judged_mixed, judged}
 use Rattle.model.specs.Verdict.{verdict}
@@ -61,7 +61,7 @@ pub button_distance : (one other : Task) → is_button other ≡ true → distan
 button_distance = distance_button
 
 -- The chain. Quick pass is distance pass,
-pub quick_means_distance : (t : Table) → quick_answer t ≡ QuickAnswer.Pass → distance_answer t ≡ DistanceAnswer.Pass
+pub quick_means_distance : (t : Table) → quick_answer t ≡ Ok Quick.Pass → distance_answer t ≡ Ok ByDistance.Pass
 unfolding quick_answer distance_answer
 quick_means_distance t e =
     let ((m, w), p) = quick_case t (judged t) e in
@@ -71,7 +71,7 @@ quick_means_distance t e =
 -- and distance pass means that the exact test passes the table, if it has no button,
 -- with every budget that reaches the horizon.
 pub distance_means_passes : (t : Table) (m : Measure)
-    → judged t ≡ Ok m → distance_answer t ≡ DistanceAnswer.Pass
+    → judged t ≡ Ok m → distance_answer t ≡ Ok ByDistance.Pass
     → (budget : ℕ) → horizon t ≤ budget → verdict t budget ≡ Verdict.Passes
 unfolding distance_answer
 distance_means_passes t m periodic e =
@@ -79,7 +79,7 @@ distance_means_passes t m periodic e =
 
 -- Overload is said exactly if the load is above 1, as by the exact test.
 pub distance_overload : (t : Table) (m : Measure) → judged_mixed t ≡ Ok m
-    → (distance_answer t ≡ DistanceAnswer.Overload) ↔ (round t < load t)
+    → (distance_answer t ≡ Ok ByDistance.Overload) ↔ (round t < load t)
 unfolding distance_answer
 distance_overload t m well =
     (distance_heavy t m well, λ h. rw (well, is_false (light t) (λ x. absurd (omega tests))) refl)
@@ -100,7 +100,7 @@ distance_file_apart file = file_apart file (λ t. distance_number (distance_answ
 
 -- And 1 means that the table passes, and so what this means.
 pub distance_file_pass : (file : List ℕ) → distance_exported file ≡ 1
-    → distance_answer (file_read file).table ≡ DistanceAnswer.Pass
+    → distance_answer (file_read file).table ≡ Ok ByDistance.Pass
 distance_file_pass file e = elim (distance_file_apart file) [
   | inr (r, h, q, (a, b)) ↦ absurd (omega arith)
   | inl (h, l) ↦ let (m, well) = well_table file {l = file_read file} refl h in

@@ -1,5 +1,6 @@
 -- HOW MUCH COST A TASK CAN TAKE (section 3.11 of the specification): the number told passes,
 -- and no larger one within the deadline does; where there is none to tell, why.
+use Rattle.values.specs.declared.Limit.{Limit}
 use Rattle.std.specs.Prelude.{◌≡◌, refl, ◌⊎◌, List, [], ◌∷◌, ℕ, ◌+◌, min, ◌≤◌, ◌<◌, Ok, Err}
 use Rattle.std.proofs.Common.{sym, ap, subst, ◌∙◌, inl, inr, arith}
 use Rattle.std.proofs.Math.Decide.{dec_lt}
@@ -9,7 +10,6 @@ use Rattle.values.specs.declared.Refusal.{Refusal}
 use Rattle.values.specs.declared.Measure.{Measure}
 use Rattle.values.specs.declared.Verdict.{Verdict}
 use Rattle.values.specs.declared.Answer.{Answer}
-use Rattle.values.specs.declared.LargestCost.{LargestCost}
 use Rattle.model.specs.Values.{refusal, cost_said}
 use Rattle.model.specs.Limits.{slot_limit}
 use Rattle.model.specs.Tasks.{task, judged}
@@ -29,12 +29,12 @@ use Rattle.promises.specs.FileNumbers.{read_file, refused_periodic}
 
 -- The table's refusal comes first, and then 12 for a number that is none of its tasks', at that number.
 pub cost_refused : (t : Table) (i budget : ℕ) (r : Refusal)
-    → judged t ≡ Err r → cost_answer t i budget ≡ LargestCost.Refused r
+    → judged t ≡ Err r → cost_answer t i budget ≡ Err r
 unfolding cost_answer
 cost_refused t i budget r e = rw e
 
 module _ (t : Table) (m : Measure) (well : judged t ≡ Ok m) (i budget : ℕ) where
-  pub no_such_task : t.count ≤ i → cost_answer t i budget ≡ LargestCost.Refused (refusal 12 i)
+  pub no_such_task : t.count ≤ i → cost_answer t i budget ≡ Err (refusal 12 i)
   unfolding cost_answer
   no_such_task l = rw (well, le-ltb i t.count l)
 
@@ -54,7 +54,7 @@ pub record LargestRight (t : Table) (i budget c : ℕ) : Type 0 where
       → (any : ℕ) (a : Answer) → Permitted (with_cost t i larger) any a → a.outcome ≡ Ok Verdict.Passes → ⊥
 
 -- A number is told only of a task of a table that passes, and it is right.
-pub cost_exactly : (t : Table) (i budget c : ℕ) → cost_answer t i budget ≡ LargestCost.Cost c
+pub cost_exactly : (t : Table) (i budget c : ℕ) → cost_answer t i budget ≡ Ok (Limit.At c)
     → (i < t.count) × (verdict t budget ≡ Verdict.Passes) × LargestRight t i budget c
 cost_exactly t i budget c e =
     let (l, pass, (m, well), same) = cost_case t i budget c e in
@@ -81,7 +81,7 @@ cost_exactly t i budget c e =
 
 -- It is told wherever there is one, and only one number is right.
 pub cost_told_lem : (t : Table) (m : Measure) → judged t ≡ Ok m → (i budget : ℕ) → i < t.count
-    → verdict t budget ≡ Verdict.Passes → cost_answer t i budget ≡ LargestCost.Cost (largest_cost t i budget)
+    → verdict t budget ≡ Verdict.Passes → cost_answer t i budget ≡ Ok (Limit.At (largest_cost t i budget))
 cost_told_lem t m well i budget l pass = cost_by_verdict t m well i budget l ∙ rw pass
 
 pub one_right : (t : Table) (i budget c d : ℕ) → LargestRight t i budget c → LargestRight t i budget d → c ≡ d
@@ -112,11 +112,11 @@ cost_said_lem t m well i budget l = ap cost_said (cost_by_verdict t m well i bud
 
 -- From C: a cost that is told is 1 to 60,000,
 -- and a task number below 65,536 has every refusal told apart from it by 65,536 · number + place.
-pub cost_fits : (t : Table) (i budget c : ℕ) → cost_answer t i budget ≡ LargestCost.Cost c → (1 ≤ c) × (c ≤ slot_limit)
+pub cost_fits : (t : Table) (i budget c : ℕ) → cost_answer t i budget ≡ Ok (Limit.At c) → (1 ≤ c) × (c ≤ slot_limit)
 cost_fits = cost_in_range
 
 pub cost_tellable : (t : Table) (i budget : ℕ) (r : Refusal)
-    → i < 65536 → cost_answer t i budget ≡ LargestCost.Refused r → (0 < r.number) × (r.place < 65536)
+    → i < 65536 → cost_answer t i budget ≡ Err r → (0 < r.number) × (r.place < 65536)
 cost_tellable t i budget r l = refusal_tellable t i budget l r
 
 -- A refused file is refused as by reading it, and one with a button by 11; of any other its table is answered for,

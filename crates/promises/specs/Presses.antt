@@ -1,5 +1,6 @@
 -- THE DISPATCHER OF TABLES WITH BUTTONS (ours, for T-13's tables): on a table that passes the distance test, under any presses and any done
 -- reports, every job that arrived is finished by its deadline; none is cut off, given too much or left waiting.
+use Rattle.values.specs.declared.ByDistance.{ByDistance}
 use Rattle.std.specs.Prelude.{◌≡◌, ◌↔◌, Bool, true, false, not, ◌&&◌, ℕ, suc, ◌+◌, ◌≤◌, ◌<◌, T, ltb, eqb, length, Ok, Err}
 use Rattle.std.proofs.Math.Path.{refl}
 use Rattle.std.proofs.Common.{sym, ◌∙◌, arith}
@@ -7,7 +8,6 @@ use borrow.Author.Tests.{eq-eqb, ne_eqb}
 use Rattle.values.specs.declared.Table.{Table}
 use Rattle.values.specs.declared.Refusal.{Refusal}
 use Rattle.values.specs.declared.Measure.{Measure}
-use Rattle.values.specs.declared.DistanceAnswer.{DistanceAnswer}
 use Rattle.model.specs.Limits.{task_limit, slot_count_limit}
 use Rattle.model.specs.Notation.{count, in_set}
 use Rattle.model.specs.Values.{refusal}
@@ -171,7 +171,7 @@ module _ (t : Table) (m : Measure) (well : judged_mixed t ≡ Ok m) (done : ℕ 
     press_none_after = none_after t ranged done pressed
 
     -- On a table that passes the distance test:
-    module _ (pass : distance_answer t ≡ DistanceAnswer.Pass) where
+    module _ (pass : distance_answer t ≡ Ok ByDistance.Pass) where
       passes : T (distance_pass t)
       unfolding distance_answer
       passes = (distance_case t (judged_mixed t) pass).1

@@ -1,11 +1,11 @@
 -- THE QUICK TEST (section 3.7 of the specification): pass is said only of tables that the exact test passes.
+use Rattle.values.specs.declared.Quick.{Quick}
 use Rattle.std.specs.Prelude.{◌≡◌, refl, ◌⊎◌, ◌↔◌, List, [], ◌∷◌, cond, ℕ, ◌≤◌, ◌<◌, T, Ok, Err}
 use Rattle.std.proofs.Common.{sym, ◌∙◌, inl, inr, arith}
 use Rattle.values.specs.declared.Table.{Table}
 use Rattle.values.specs.declared.Refusal.{Refusal}
 use Rattle.values.specs.declared.Measure.{Measure}
 use Rattle.values.specs.declared.Verdict.{Verdict}
-use Rattle.values.specs.declared.QuickAnswer.{QuickAnswer}
 use Rattle.model.specs.Limits.{slot_limit}
 use Rattle.model.specs.Values.{refusal_said, quick_said}
 use Rattle.model.specs.Tasks.{round, load, horizon, judged}
@@ -33,7 +33,7 @@ pub quick_said_lem : (t : Table) (m : Measure) → judged t ≡ Ok m
 quick_said_lem = quick_words
 
 -- Quick pass means that the exact test passes the table, with every budget that reaches the horizon.
-pub quick_means_passes : (t : Table) → quick_answer t ≡ QuickAnswer.Pass → (budget : ℕ) → horizon t ≤ budget
+pub quick_means_passes : (t : Table) → quick_answer t ≡ Ok Quick.Pass → (budget : ℕ) → horizon t ≤ budget
     → verdict t budget ≡ Verdict.Passes
 unfolding quick_answer
 quick_means_passes t e =
@@ -45,7 +45,7 @@ pub quick_word_means : (t : Table) (m : Measure) → judged t ≡ Ok m
 quick_word_means t m well = quick_passes t (well_formed t m well).ranged
 
 -- Offsets do not matter to it: with any others, each in its range, the table passes too.
-pub quick_any_offsets : (t : Table) → quick_answer t ≡ QuickAnswer.Pass → (start : ℕ → ℕ)
+pub quick_any_offsets : (t : Table) → quick_answer t ≡ Ok Quick.Pass → (start : ℕ → ℕ)
     → ((i : ℕ) → i < t.count → start i ≤ slot_limit)
     → let s = starting_at t start in (budget : ℕ) → horizon s ≤ budget → verdict s budget ≡ Verdict.Passes
 unfolding quick_answer
@@ -56,15 +56,15 @@ quick_any_offsets t e start low =
 
 -- On overload there is no answer.
 pub quick_overload : (t : Table) (m : Measure)
-    → judged t ≡ Ok m → round t < load t → quick_answer t ≡ QuickAnswer.NoAnswer
+    → judged t ≡ Ok m → round t < load t → quick_answer t ≡ Ok Quick.NoAnswer
 unfolding quick_answer
 quick_overload t m well h = rw (well, is_false (quick_pass t) (λ p. absurd (omega (arith, quick_light t p)))) refl
 
 -- Exactly: it is said if the table with all offsets 0 has a good schedule, and then only.
 -- Else there is no answer: late is never said.
 pub quick_exactly : (t : Table) (m : Measure) → judged t ≡ Ok m
-    → ((quick_answer t ≡ QuickAnswer.Pass) ↔ ((σ : Schedule) × Good (simultaneous t) σ))
-    × ((quick_answer t ≡ QuickAnswer.Pass) ⊎ (quick_answer t ≡ QuickAnswer.NoAnswer))
+    → ((quick_answer t ≡ Ok Quick.Pass) ↔ ((σ : Schedule) × Good (simultaneous t) σ))
+    × ((quick_answer t ≡ Ok Quick.Pass) ⊎ (quick_answer t ≡ Ok Quick.NoAnswer))
 unfolding quick_answer
 quick_exactly t m well =
     let exact = quick_iff t (well_formed t m well).ranged in (

@@ -1,5 +1,6 @@
 -- THE ROOM OF A TABLE WITH BUTTONS (section 3.12 of the specification): the number told passes the distance test, and no larger
 -- one within the deadline does; with lower costs the test still passes.
+use Rattle.values.specs.declared.ByDistance.{ByDistance}
 use Rattle.std.specs.Prelude.{◌≡◌, ◌⊎◌, List, ℕ, ◌+◌, min, ◌≤◌, ◌<◌, Ok, Err}
 use Rattle.std.proofs.Common.{◌∙◌, inl, inr, arith}
 use Rattle.std.proofs.Math.Decide.{dec_lt}
@@ -7,7 +8,6 @@ use borrow.Author.Tests.{le-ltb, lt-ltb}
 use Rattle.values.specs.declared.Table.{Table}
 use Rattle.values.specs.declared.Refusal.{Refusal}
 use Rattle.values.specs.declared.Measure.{Measure}
-use Rattle.values.specs.declared.DistanceAnswer.{DistanceAnswer}
 use Rattle.model.specs.Limits.{slot_limit}
 use Rattle.model.specs.Values.{refusal}
 use Rattle.model.specs.Tasks.{task, judged_mixed}
@@ -28,7 +28,7 @@ use Rattle.promises.specs.FileNumbers.{refused_file_lem, read_file}
 -- What the distance test passes it passes with costs alone lowered.
 pub lower_costs_pass : (t t' : Table) (m m' : Measure)
     → judged_mixed t ≡ Ok m → judged_mixed t' ≡ Ok m' → Lowered t t'
-    → distance_answer t ≡ DistanceAnswer.Pass → distance_answer t' ≡ DistanceAnswer.Pass
+    → distance_answer t ≡ Ok ByDistance.Pass → distance_answer t' ≡ Ok ByDistance.Pass
 unfolding distance_answer
 lower_costs_pass t t' m m' well well' e pass =
     let p = (distance_case t (judged_mixed t) pass).1 in
@@ -44,9 +44,9 @@ room_refused t i r e = rw e
 pub record RoomRight (t : Table) (i c : ℕ) : Type 0 where
   pub at_least : (task t i).cost ≤ c
   pub at_most : c ≤ (task t i).deadline
-  pub passes : distance_answer (with_cost t i c) ≡ DistanceAnswer.Pass
+  pub passes : distance_answer (with_cost t i c) ≡ Ok ByDistance.Pass
   pub none_larger : (larger : ℕ) → c < larger → larger ≤ (task t i).deadline
-      → distance_answer (with_cost t i larger) ≡ DistanceAnswer.Pass → ⊥
+      → distance_answer (with_cost t i larger) ≡ Ok ByDistance.Pass → ⊥
 
 module _ (t : Table) (m : Measure) (well : judged_mixed t ≡ Ok m) (i : ℕ) where
   pub room_no_such_task : t.count ≤ i → room_answer t i ≡ refusal_number (refusal 12 i)
@@ -58,7 +58,7 @@ module _ (t : Table) (m : Measure) (well : judged_mixed t ≡ Ok m) (i : ℕ) wh
   unfolding room_answer
   room_by_answer l = rw (well, lt-ltb i t.count l)
 
-  pub room_exactly : i < t.count → distance_answer t ≡ DistanceAnswer.Pass → RoomRight t i (room_answer t i)
+  pub room_exactly : i < t.count → distance_answer t ≡ Ok ByDistance.Pass → RoomRight t i (room_answer t i)
   room_exactly l pass =
       let is : room_answer t i ≡ room t i = room_by_answer l ∙ rw pass in
       let (low, high, passes, none) = rooms.room_right t m well i l pass in

@@ -1,12 +1,12 @@
 -- THE HEADLINE OF TABLES WITH BUTTONS: where the exported distance test returns 1, a camera's loop over the same file finishes
 -- every job by its deadline, whenever its buttons are pressed and whatever is reported done, and tells the presses that it
 -- did not take.
+use Rattle.values.specs.declared.ByDistance.{ByDistance}
 use Rattle.std.specs.Prelude.{◌≡◌, refl, ◌↔◌, List, [], ◌∷◌, ◌++◌, Bool, true, ℕ, suc, ◌+◌, ◌*◌, ◌/◌, ◌≤◌, ◌<◌, T, length, Ok}
 use Rattle.std.proofs.Common.{sym, ap, ◌∙◌, inl, inr, arith}
 use Rattle.values.specs.declared.Table.{Table}
 use Rattle.values.specs.declared.Measure.{Measure}
 use Rattle.values.specs.declared.Contents.{Contents}
-use Rattle.values.specs.declared.DistanceAnswer.{DistanceAnswer}
 use Rattle.model.specs.Limits.{task_limit, word_limit, slot_count_limit}
 use Rattle.model.specs.Notation.{in_set, sum, largest, count, first, last, fill}
 use Rattle.model.specs.Tasks.{task, is_button, task_fault, first_faulty, round, load, horizon, judged_mixed}
@@ -86,7 +86,7 @@ module _ (file : List ℕ) (one : distance_exported file ≡ 1)
   well : (m : Measure) × (judged_mixed table ≡ Ok m)
   well = well_table file {l = file_read file} refl read
 
-  pass : distance_answer table ≡ DistanceAnswer.Pass
+  pass : distance_answer table ≡ Ok ByDistance.Pass
   pass = distance_file_pass file one
 
   formed : (form_of file).admission ≡ Ok tt

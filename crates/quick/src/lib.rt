@@ -12,7 +12,7 @@ ghost use Rattle.patterns.specs.Asked.{due_by, asked};
 ghost use Rattle.patterns.specs.Decided.{enough, EnoughBeyond};
 ghost use Rattle.patterns.specs.Slack.{slack as slackTotal, slack_of};
 
-use values::{Judgement, Measure, QuickAnswer, SLOT_LIMIT, Table, Task};
+use values::{Judgement, Measure, Quick, QuickAnswer, SLOT_LIMIT, Table, Task};
 
 // How far up from 0 the search looks: some sixteen of the longest periods.
 const EARLY: u64 = 1_000_000;
@@ -135,12 +135,12 @@ pub fn test(t: Table) -> QuickAnswer
     ensures { result ≡ quick_answer t }
 {
     match table::judge(t) {
-        Err(why) => QuickAnswer::Refused(why),
+        Err(why) => Err(why),
         Ok(m) => {
             if passes(t, m) {
-                QuickAnswer::Pass
+                Ok(Quick::Pass)
             } else {
-                QuickAnswer::NoAnswer
+                Ok(Quick::NoAnswer)
             }
         }
     }

@@ -1,9 +1,9 @@
 -- What holds of the range of costs before each trial.
+use Rattle.values.specs.declared.ByDistance.{ByDistance}
 use Rattle.std.specs.Prelude.{◌≡◌, true, false, ℕ, suc, ◌+◌, ◌≤◌, ◌<◌, T, Ok}
 use Rattle.std.proofs.Common.{sym, arith}
 use Rattle.values.specs.declared.Table.{Table}
 use Rattle.values.specs.declared.Measure.{Measure}
-use Rattle.values.specs.declared.DistanceAnswer.{DistanceAnswer}
 use Rattle.model.specs.Tasks.{task, judged_mixed}
 use Rattle.model.specs.Patterns.{distance_answer}
 use Rattle.model.specs.Room.{room_with, room}
@@ -28,7 +28,7 @@ pub record Halving (t : Table) (i passes fails : ℕ) : Type 0 where
 
 module _ (t : Table) (w : Well t) (i : ℕ) (l : i < t.count) where
   -- At the start: the present cost, and the first past the deadline.
-  pub halving_start : distance_answer t ≡ DistanceAnswer.Pass → (fails : ℕ) → fails ≡ (task t i).deadline + 1 → Halving t i (task t i).cost fails
+  pub halving_start : distance_answer t ≡ Ok ByDistance.Pass → (fails : ℕ) → fails ≡ (task t i).deadline + 1 → Halving t i (task t i).cost fails
   halving_start pass fails e =
       record {
         least = omega arith;

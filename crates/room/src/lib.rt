@@ -1,24 +1,24 @@
 // The room of a table that may have buttons: the costs of one task up to its deadline are halved by trials of the distance test.
 #![tactic(auto)]
 
-ghost use Rattle.std.specs.Prelude.{◌≡◌, ◌≤◌, ◌<◌};
-ghost use Rattle.values.specs.declared.DistanceAnswer.{DistanceAnswer};
+ghost use Rattle.values.specs.declared.ByDistance.{ByDistance};
+ghost use Rattle.std.specs.Prelude.{◌≡◌, ◌≤◌, ◌<◌, Ok};
 ghost use Rattle.model.specs.Tasks.{task};
 ghost use Rattle.model.specs.Patterns.{distance_answer};
 ghost use Rattle.model.specs.Room.{room_with, room as roomOf, room_told, room_answer};
 ghost use Rattle.patterns.specs.Room.{is_passed};
 ghost use Rattle.room.specs.Halving.{Well};
 
-use values::{Admission, DistanceAnswer, Fault, Refusal, Table};
+use values::{Admission, ByDistance, DistanceAnswer, Fault, Refusal, Table};
 
 fn is_pass(said: DistanceAnswer) -> bool
     ensures { result ≡ is_passed said }
 {
     match said {
-        DistanceAnswer::Refused(_) => false,
-        DistanceAnswer::Overload => false,
-        DistanceAnswer::Pass => true,
-        DistanceAnswer::NoAnswer => false,
+        Err(_) => false,
+        Ok(ByDistance::Overload) => false,
+        Ok(ByDistance::Pass) => true,
+        Ok(ByDistance::NoAnswer) => false,
     }
 }
 
@@ -36,7 +36,7 @@ fn passes_with(t: Table, i: usize, cost: u32) -> bool
 fn search(t: Table, i: usize) -> u32
     requires well { Well t }
     requires i_lt_count { i < t.count }
-    requires t_value { distance_answer t ≡ DistanceAnswer.Pass }
+    requires t_value { distance_answer t ≡ Ok ByDistance.Pass }
     ensures { result ≡ roomOf t i }
 {
     let task = t.tasks[i];
@@ -60,10 +60,10 @@ fn told(t: Table, i: usize) -> u64
 {
     let said = distance::test(t);
     match said {
-        DistanceAnswer::Refused(why) => numbers::refusal_number(why),
-        DistanceAnswer::Overload => 60_001,
-        DistanceAnswer::Pass => search(t, i) as u64,
-        DistanceAnswer::NoAnswer => 60_003,
+        Err(why) => numbers::refusal_number(why),
+        Ok(ByDistance::Overload) => 60_001,
+        Ok(ByDistance::Pass) => search(t, i) as u64,
+        Ok(ByDistance::NoAnswer) => 60_003,
     }
 }
 

@@ -1,5 +1,6 @@
 -- THE DISTANCE ANSWER (`distance_words`): to a well-formed table it is overload, pass or no answer,
 -- and is told so in words and as a number.
+use Rattle.values.specs.declared.ByDistance.{ByDistance}
 use Rattle.std.specs.Prelude.{◌≡◌, [], ◌∷◌, Bool, true, false, cond, ℕ, ◌≤◌, ◌<◌, T, Ok, Err}
 use Rattle.std.proofs.Math.Path.{refl}
 use Rattle.std.proofs.Math.Decide.{dec_lt}
@@ -7,8 +8,7 @@ use Rattle.std.proofs.Common.{arith}
 use Rattle.values.specs.declared.Table.{Table}
 use Rattle.values.specs.declared.Refusal.{Refusal}
 use Rattle.values.specs.declared.Measure.{Measure}
-use Rattle.values.specs.declared.DistanceAnswer.{DistanceAnswer}
-use Rattle.model.specs.Values.{distance_said}
+use Rattle.model.specs.Values.{distance_said, DistanceAnswer}
 use Rattle.model.specs.Tasks.{round, load, judged_mixed}
 use Rattle.model.specs.Patterns.{light, distance_pass, distance_answer}
 use Rattle.model.specs.Report.{refusal_number, distance_number}
@@ -16,7 +16,7 @@ use Rattle.counting.specs.Count.{tests}
 
 -- The answer to a well-formed table, by its load and its patterns.
 abbrev told : Bool → Bool → DistanceAnswer
-told light pass = cond light (cond pass DistanceAnswer.Pass DistanceAnswer.NoAnswer) DistanceAnswer.Overload
+told light pass = cond light (cond pass (Ok ByDistance.Pass) (Ok ByDistance.NoAnswer)) (Ok ByDistance.Overload)
 
 said_by : (a b : Bool) → distance_said (told a b) ≡ cond a (cond b (0 ∷ 1 ∷ []) (0 ∷ 0 ∷ [])) (0 ∷ 2 ∷ [])
 said_by true true = refl
@@ -28,12 +28,12 @@ low_by true true = omega arith
 low_by true false = omega arith
 low_by false b = omega arith
 
-one_by : (a b : Bool) → distance_number (told a b) ≡ 1 → told a b ≡ DistanceAnswer.Pass
+one_by : (a b : Bool) → distance_number (told a b) ≡ 1 → told a b ≡ Ok ByDistance.Pass
 one_by true true n = refl
 one_by true false n = absurd (omega arith)
 one_by false b n = absurd (omega arith)
 
-heavy_by : (t : Table) (a : Bool) → light t ≡ a → (b : Bool) → told a b ≡ DistanceAnswer.Overload → round t < load t
+heavy_by : (t : Table) (a : Bool) → light t ≡ a → (b : Bool) → told a b ≡ Ok ByDistance.Overload → round t < load t
 heavy_by t true q true e = let z : ◌≡◌ {A = ℕ} 0 1 = cc in absurd (omega arith)
 heavy_by t true q false e = let z : ◌≡◌ {A = ℕ} 0 1 = cc in absurd (omega arith)
 heavy_by t false q b e = elim (dec_lt (round t) (load t)) [
@@ -57,11 +57,11 @@ module _ (t : Table) (m : Measure) (well : judged_mixed t ≡ Ok m) where
   distance_low = rw well (low_by (light t) (distance_pass t))
 
   -- The number 1 is that of pass alone.
-  pub distance_one : distance_number (distance_answer t) ≡ 1 → distance_answer t ≡ DistanceAnswer.Pass
+  pub distance_one : distance_number (distance_answer t) ≡ 1 → distance_answer t ≡ Ok ByDistance.Pass
   unfolding distance_answer
   distance_one e = rw well (one_by (light t) (distance_pass t) (rw well at e))
 
   -- Overload is said only of a load above 1.
-  pub distance_heavy : distance_answer t ≡ DistanceAnswer.Overload → round t < load t
+  pub distance_heavy : distance_answer t ≡ Ok ByDistance.Overload → round t < load t
   unfolding distance_answer
   distance_heavy e = heavy_by t (light t) refl (distance_pass t) (rw well at e)

@@ -1,5 +1,6 @@
 -- THE ROOM TOLD (`room_right`): where the distance test passes a table, the room of a task is a cost with which it passes, and no larger one up to the
 -- deadline is.
+use Rattle.values.specs.declared.ByDistance.{ByDistance}
 use Rattle.std.proofs.Math.Path.{◌≡◌, refl}
 use Rattle.std.specs.Prelude.{◌⊎◌, ◌↔◌, T, ltb, Ok, Err}
 use Rattle.std.proofs.Math.Logic.{inl}
@@ -11,9 +12,8 @@ use native.Mathlib.Omega.{arith}
 use Rattle.values.specs.declared.Table.{Table}
 use Rattle.values.specs.declared.Refusal.{Refusal}
 use Rattle.values.specs.declared.Measure.{Measure}
-use Rattle.values.specs.declared.DistanceAnswer.{DistanceAnswer}
 use Rattle.model.specs.Limits.{slot_limit}
-use Rattle.model.specs.Values.{refusal, Judgement}
+use Rattle.model.specs.Values.{refusal, Judgement, DistanceAnswer}
 use Rattle.model.specs.Notation.{last}
 use Rattle.model.specs.Tasks.{task, measure, judged_mixed}
 use Rattle.model.specs.Patterns.{light, distance_pass, distance_judged, distance_answer}
@@ -32,7 +32,7 @@ module _ (t : Table) (m : Measure) (well : judged_mixed t ≡ Ok m) (i : ℕ) (l
   ranged : Ranged t
   ranged = ((mixed_iff t m).0 well).0
 
-  answer_with : (c : ℕ) → 1 ≤ c → c ≤ (task t i).deadline → (distance_answer (with_cost t i c) ≡ DistanceAnswer.Pass) ↔ T (room_with t i c)
+  answer_with : (c : ℕ) → 1 ≤ c → c ≤ (task t i).deadline → (distance_answer (with_cost t i c) ≡ Ok ByDistance.Pass) ↔ T (room_with t i c)
   unfolding distance_answer
   answer_with c a b = (
     λ e. (distance_case (with_cost t i c) (judged_mixed (with_cost t i c)) e).1,
@@ -40,9 +40,9 @@ module _ (t : Table) (m : Measure) (well : judged_mixed t ≡ Ok m) (i : ℕ) (l
         (distance_told (with_cost t i c) (measure (with_cost t i c)) h),
   )
 
-  pub room_right : distance_answer t ≡ DistanceAnswer.Pass → let c = room t i in
-      ((task t i).cost ≤ c) × (c ≤ (task t i).deadline) × (distance_answer (with_cost t i c) ≡ DistanceAnswer.Pass)
-      × ((larger : ℕ) → c < larger → larger ≤ (task t i).deadline → distance_answer (with_cost t i larger) ≡ DistanceAnswer.Pass → ⊥)
+  pub room_right : distance_answer t ≡ Ok ByDistance.Pass → let c = room t i in
+      ((task t i).cost ≤ c) × (c ≤ (task t i).deadline) × (distance_answer (with_cost t i c) ≡ Ok ByDistance.Pass)
+      × ((larger : ℕ) → c < larger → larger ≤ (task t i).deadline → distance_answer (with_cost t i larger) ≡ Ok ByDistance.Pass → ⊥)
   unfolding room
   room_right pass = (
     low,
@@ -79,21 +79,21 @@ module _ (t : Table) (i : ℕ) (below : i < 65536) where
 
   by_answer : (m : Measure) → judged_mixed t ≡ Ok m → i < t.count → (a : DistanceAnswer) → distance_answer t ≡ a → Apart (room_told t i a)
   unfolding distance_answer
-  by_answer m well l (DistanceAnswer.Refused r) e = absurd (none (rw well at e))
+  by_answer m well l (Err r) e = absurd (none (rw well at e))
     where
-      none : distance_judged t (Ok m) ≡ DistanceAnswer.Refused r → ⊥
+      none : distance_judged t (Ok m) ≡ Err r → ⊥
       none = unrefused (light t) (distance_pass t) r
         where
           unrefused : (a b : Bool) (r : Refusal)
-              → cond a (cond b DistanceAnswer.Pass DistanceAnswer.NoAnswer) DistanceAnswer.Overload ≡ DistanceAnswer.Refused r → ⊥
+              → cond a (cond b (Ok ByDistance.Pass) (Ok ByDistance.NoAnswer)) (Ok ByDistance.Overload) ≡ Err r → ⊥
           unrefused true true r q = let z : ◌≡◌ {A = ℕ} 0 1 = cc in omega arith
           unrefused true false r q = let z : ◌≡◌ {A = ℕ} 0 1 = cc in omega arith
           unrefused false b r q = let z : ◌≡◌ {A = ℕ} 0 1 = cc in omega arith
-  by_answer m well l DistanceAnswer.Overload e = inl (omega arith)
-  by_answer m well l DistanceAnswer.Pass e =
+  by_answer m well l (Ok ByDistance.Overload) e = inl (omega arith)
+  by_answer m well l (Ok ByDistance.Pass) e =
       let k = ((mixed_iff t m).0 well).0.each i l in
       inl (omega (arith, (room_right t m well i l e).1, k.deadline_le, k.period_le))
-  by_answer m well l DistanceAnswer.NoAnswer e = inl (omega arith)
+  by_answer m well l (Ok ByDistance.NoAnswer) e = inl (omega arith)
 
   by_judgement : (j : Judgement) → judged_mixed t ≡ j → JudgementTellable j → Apart (room_judged t i j)
   by_judgement (Err r) e n = inr (r, refl, n)

@@ -155,15 +155,17 @@ impl Verdict {
 // The answer of the exact test: a verdict or a refusal.
 pub type Outcome = Result<Verdict, Refusal>;
 
-// The largest cost of a task with which its table passes: a refusal, why the table does not pass as it is, or that cost.
+// How far a number of a table may go: why the table does not pass with it at its easiest, or the last number with which it does.
 #[derive(Clone, Copy)]
-pub enum LargestCost {
-    Refused(Refusal),
+pub enum Limit {
     Overload,
     Late,
     Undecided,
-    Cost(u32),
+    At(u32),
 }
+
+// The largest cost of a task with which its table passes, or a refusal.
+pub type LargestCost = Result<Limit, Refusal>;
 
 // What is changed in a table: the cost or the deadline of the task of this number, or every cost by one share of it.
 #[derive(Clone, Copy)]
@@ -173,15 +175,8 @@ pub enum Change {
     Share,
 }
 
-// What would fit: a refusal, why the table does not pass with the change at its easiest, or the number.
-#[derive(Clone, Copy)]
-pub enum Fit {
-    Refused(Refusal),
-    Overload,
-    Late,
-    Undecided,
-    Number(u32),
-}
+// What would fit, or a refusal.
+pub type Fit = Result<Limit, Refusal>;
 
 // All that the exact test says: the first idle instant after 0 stands last. What the outcome leaves nothing to say of is 0.
 #[derive(Clone, Copy)]
@@ -211,22 +206,24 @@ pub struct AnswerNumbers {
     pub worst: [u32; TASK_LIMIT],
 }
 
-// What the quick test says: a refusal, pass, or no answer.
+// What the quick test says: pass, or no answer.
 #[derive(Clone, Copy)]
-pub enum QuickAnswer {
-    Refused(Refusal),
+pub enum Quick {
     Pass,
     NoAnswer,
 }
 
-// What the distance test says: a refusal, overload, pass, or no answer.
+pub type QuickAnswer = Result<Quick, Refusal>;
+
+// What the distance test says: overload, pass, or no answer.
 #[derive(Clone, Copy)]
-pub enum DistanceAnswer {
-    Refused(Refusal),
+pub enum ByDistance {
     Overload,
     Pass,
     NoAnswer,
 }
+
+pub type DistanceAnswer = Result<ByDistance, Refusal>;
 
 // Whether one table is an easing of another: the first of its tasks that is none, or the tasks of the other that are kept, as a
 // set of bits.
