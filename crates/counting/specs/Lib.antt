@@ -9,3 +9,5 @@ pub mod Put
 pub mod Bits
 pub mod Divisors
 pub mod Enumerate
+pub mod FromFn
+pub mod Position

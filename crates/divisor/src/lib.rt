@@ -22,16 +22,14 @@ fn odd_part(n: u64) -> u64
     requires { 0 < n }
     ensures { OddPart n result (twos n) }
 {
-    n >> u64::trailing_zeros(n)
+    n >> n.trailing_zeros()
 }
 
 // How often both numbers can be halved.
 fn shared_twos(a: u64, b: u64) -> u32
     ensures { result ≡ min (twos a) (twos b) }
 {
-    let left = u64::trailing_zeros(a);
-    let right = u64::trailing_zeros(b);
-    if left < right { left } else { right }
+    a.trailing_zeros().min(b.trailing_zeros())
 }
 
 // The difference of two odd numbers is even, so the larger one falls to less than half of itself in each turn.

@@ -1,5 +1,5 @@
--- How many bytes stand before the first that is looked for.
-use Rattle.std.specs.Prelude.{◌≡◌, Bool, not, get_or, drop}
+-- How many bytes stand before the first that passes a test.
+use Rattle.std.specs.Prelude.{◌≡◌, Bool, get_or, drop}
 use Rattle.std.proofs.Math.Path.{refl}
 use Rattle.std.proofs.Math.Bool.{true, false, cond}
 use mathlib.Core.List.{List, [], ◌∷◌}
@@ -7,16 +7,12 @@ use Prim.Native.Nat.{ℕ, suc, ◌+◌, ◌≤◌, ◌<◌}
 use native.Mathlib.Omega.{arith}
 use Rattle.std.proofs.Math.ListN.{length}
 use Rattle.std.proofs.Math.Seq.{drop-cons}
-use Rattle.model.specs.PlainText.{is_line_feed, is_hash, is_gap, is_digit}
-use Rattle.pieces.specs.declared.Mark.{Mark}
+use Rattle.std.specs.List.{position_or_len}
+use Rattle.std.proofs.lemmas.List.Recursion.{is_position_or_len}
 
--- The test of what is looked for.
-abbrev pub is_mark : Mark → ℕ → Bool
-is_mark Mark.LineEnd x = is_line_feed x
-is_mark Mark.Comment x = is_hash x
-is_mark Mark.Gap x = is_gap x
-is_mark Mark.Word x = not (is_gap x)
-is_mark Mark.Stranger x = not (is_digit x)
+-- What computes this test answers as it does.
+abbrev pub Computes : (ℕ → Bool → Type 0) → (ℕ → Bool) → Type 0
+Computes answers test = (x : ℕ) (answer : Bool) → answers x answer → answer ≡ test x
 
 -- The bytes before the first that passes, or all of them.
 unfoldable pub length_to : (ℕ → Bool) → List ℕ → ℕ
@@ -24,6 +20,11 @@ length_to p [] = 0
 length_to p (x ∷ s) = cond (p x) 0 (suc (length_to p s))
 
 module _ (p : ℕ → Bool) where
+  -- It is std's word for the place of the first that passes.
+  pub length_to_is : (s : List ℕ) → length_to p s ≡ position_or_len p s
+  unfolding length_to
+  length_to_is s = is_position_or_len (length_to p) p refl (λ x t. let next : 1 + length_to p t ≡ suc (length_to p t) = omega arith in rw next) s
+
   pub length_to_le : (s : List ℕ) → length_to p s ≤ length s
   unfolding length_to
   length_to_le [] = omega arith

@@ -1,12 +1,21 @@
 -- Two words compared byte by byte.
-use Rattle.std.specs.Prelude.{◌≡◌, refl, ◌≢◌, true, false, List, [], ◌∷◌, length, get_or, drop}
+use Rattle.std.specs.Prelude.{◌≡◌, refl, ◌≢◌, eqb, true, false, List, [], ◌∷◌, length, get_or, drop}
 use Prim.Native.Nat.{ℕ, suc, ◌+◌, ◌<◌}
 use Rattle.std.proofs.Math.Decide.{ℕ_discrete}
 use native.Mathlib.Omega.{arith}
 use borrow.Author.Tests.{eq-eqb, ne_eqb}
 use Rattle.std.proofs.Math.ListN.{drop_of_length-le}
 use Rattle.std.proofs.Math.Seq.{drop-cons}
+use lib.Pointwise.{pointwise}
 use Rattle.model.specs.PlainText.{same}
+
+-- It is std's word for the equality of two lists.
+pub same_is : (w v : List ℕ) → same w v ≡ pointwise eqb w v
+unfolding same
+same_is [] [] = refl
+same_is [] (y ∷ v) = refl
+same_is (x ∷ w) [] = refl
+same_is (x ∷ w) (y ∷ v) = rw (same_is w v)
 
 -- Words of different lengths.
 pub other_length : (w v : List ℕ) → length w ≢ length v → same w v ≡ false

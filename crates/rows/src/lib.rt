@@ -1,13 +1,14 @@
 // A table handed over as words, five for each task.
 #![tactic(auto)]
 
-ghost use Rattle.std.specs.Prelude.{◌≡◌, cond, not, ◌/◌, ◌%◌, ◌<◌, min, eqb};
+ghost use Rattle.std.specs.Prelude.{◌≡◌, cond, not, ◌/◌, ◌%◌, ◌<◌, min, eqb, ltb, [], length, slice_index_or};
 ghost use Rattle.model.specs.Limits.{task_limit};
 ghost use Rattle.values.specs.declared.Sort.{Sort};
 ghost use Rattle.model.specs.Tasks.{no_task};
 ghost use Rattle.model.specs.TableFile.{button_kind};
 ghost use Rattle.model.specs.Writer.{row_words, rows, row_task, is_task, first_stranger, table_in};
 
+use std::array;
 use values::{Sort, TASK_LIMIT, Table, Task};
 
 const ROW_WORDS: usize = 5;
@@ -15,6 +16,8 @@ const ROW_WORDS: usize = 5;
 const TASK: u32 = 2;
 
 const BUTTON: u32 = 4;
+
+type Row = [u32; ROW_WORDS];
 
 // Words that do not make whole rows.
 pub fn broken(words: usize) -> bool
@@ -33,36 +36,36 @@ pub fn count(words: usize) -> usize
 pub fn first_stranger(words: &[u32]) -> usize
     ensures { result ≡ first_stranger words.now }
 {
-    let count = words.len() / ROW_WORDS;
-    for i in 0..count {
-        if !is_task(words, i) {
-            return i;
-        }
-    }
-    count
+    let (rows, _) = words.as_chunks::<ROW_WORDS>();
+    rows.iter()
+        .position(|row| !is_task(row))
+        .unwrap_or(rows.len())
 }
 
 // A row of a button has 0 where a task has its offset.
-fn is_task(words: &[u32], i: usize) -> bool
-    requires { i < rows words.now }
-    ensures { result ≡ is_task words.now i }
+fn is_task(row: &Row) -> bool
+    ensures { result ≡ is_task row.now 0 }
 {
-    let kind = words[ROW_WORDS * i];
-    if kind == TASK {
-        return true;
-    }
-    kind == BUTTON && words[ROW_WORDS * i + 1] == 0
+    let [kind, offset, ..] = *row;
+    kind == TASK || kind == BUTTON && offset == 0
 }
 
+// A table holds no more rows than it has places.
 pub fn table_in(words: &[u32]) -> Table
     ensures { result ≡ table_in words.now }
 {
-    let count = words.len() / ROW_WORDS;
-    let mut tasks = [no_task(); TASK_LIMIT];
-    for i in 0..held(count) {
-        tasks[i] = row_task(words, i);
+    let (rows, _) = words.as_chunks::<ROW_WORDS>();
+    Table {
+        count: rows.len(),
+        tasks: array::from_fn(|i| task_at(rows, i)),
     }
-    Table { count, tasks }
+}
+
+// The task of a row, or none behind the last row.
+fn task_at(rows: &[Row], i: usize) -> Task
+    ensures { result ≡ cond (ltb i (length rows.now)) (row_task (slice_index_or rows.now i []) 0) no_task }
+{
+    rows.get(i).map_or(no_task(), row_task)
 }
 
 fn no_task() -> Task
@@ -76,14 +79,16 @@ fn no_task() -> Task
     }
 }
 
-// A table holds no more rows than this.
-fn held(count: usize) -> usize
-    ensures { result ≡ min count task_limit }
+fn row_task(row: &Row) -> Task
+    ensures { result ≡ row_task row.now 0 }
 {
-    if count < TASK_LIMIT {
-        return count;
+    let [kind, offset, cost, deadline, period] = *row;
+    Task {
+        sort: sort_of(kind, offset),
+        cost,
+        deadline,
+        period,
     }
-    TASK_LIMIT
 }
 
 fn sort_of(kind: u32, offset: u32) -> Sort
@@ -93,17 +98,4 @@ fn sort_of(kind: u32, offset: u32) -> Sort
         return Sort::Button;
     }
     Sort::Periodic(offset)
-}
-
-fn row_task(words: &[u32], i: usize) -> Task
-    requires { i < rows words.now }
-    ensures { result ≡ row_task words.now i }
-{
-    let at = ROW_WORDS * i;
-    Task {
-        sort: sort_of(words[at], words[at + 1]),
-        cost: words[at + 2],
-        deadline: words[at + 3],
-        period: words[at + 4],
-    }
 }

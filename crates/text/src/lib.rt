@@ -30,7 +30,7 @@ pub fn put_line(buffer: &mut [u8], at: usize, name: &[u8], number: u64) -> usize
     ensures upper_bound { result ≤ at + length name.now + number_bytes + 1 }
 {
     let at = put_number(buffer, at, name, number);
-    put_byte(buffer, at, b'\n')
+    words::put(buffer, at, b"\n")
 }
 
 pub fn put_number(buffer: &mut [u8], at: usize, name: &[u8], number: u64) -> usize
@@ -38,18 +38,8 @@ pub fn put_number(buffer: &mut [u8], at: usize, name: &[u8], number: u64) -> usi
     ensures put { Put (name.now ++ decimal number) at buffer.old buffer.new result }
     ensures upper_bound { result ≤ at + length name.now + number_bytes }
 {
-    let at = put_text(buffer, at, name);
+    let at = words::put(buffer, at, name);
     put_decimal(buffer, at, number)
-}
-
-pub fn put_text(buffer: &mut [u8], at: usize, bytes: &[u8]) -> usize
-    requires { at + length bytes.now ≤ length buffer.old }
-    ensures { Put bytes.now at buffer.old buffer.new result }
-{
-    for i in 0..bytes.len() {
-        buffer[at + i] = bytes[i];
-    }
-    at + bytes.len()
 }
 
 fn put_decimal(buffer: &mut [u8], at: usize, number: u64) -> usize
@@ -68,13 +58,5 @@ fn put_digit(buffer: &mut [u8], at: usize, digit: u64) -> usize
     requires at_in_bounds { at < length buffer.old }
     ensures { Put ((48 + digit) ∷ []) at buffer.old buffer.new result }
 {
-    put_byte(buffer, at, b'0' + digit as u8)
-}
-
-fn put_byte(buffer: &mut [u8], at: usize, byte: u8) -> usize
-    requires { at < length buffer.old }
-    ensures { Put (byte ∷ []) at buffer.old buffer.new result }
-{
-    buffer[at] = byte;
-    at + 1
+    words::put(buffer, at, &[b'0' + digit as u8])
 }

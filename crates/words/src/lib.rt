@@ -6,21 +6,11 @@ ghost use Rattle.model.specs.Limits.{word_limit};
 ghost use Rattle.model.specs.TableFile.{four, eight, word_bytes, two_words, bytes_of};
 ghost use Rattle.counting.specs.Put.{Put};
 
-// A cast by a function of its own: who reads a byte has nothing to show of its width.
-fn to_u32(x: u8) -> u32
-    ensures { (result ≡ x) × (x < 256) }
-{
-    x as u32
-}
-
 pub fn word_at(s: &[u8], at: usize) -> u32
     requires { at + 4 ≤ length s.now }
     ensures { result ≡ four s.now at }
 {
-    to_u32(s[at])
-        + 256 * to_u32(s[at + 1])
-        + 65536 * to_u32(s[at + 2])
-        + 16777216 * to_u32(s[at + 3])
+    u32::from_le_bytes(*s[at..].first_chunk().unwrap())
 }
 
 pub fn put_word(buffer: &mut [u8], at: usize, word: u32) -> usize
@@ -28,29 +18,19 @@ pub fn put_word(buffer: &mut [u8], at: usize, word: u32) -> usize
     ensures put { Put (word_bytes word) at buffer.old buffer.new result }
     ensures value { result ≡ at + 4 }
 {
-    buffer[at] = low_byte(word);
-    buffer[at + 1] = low_byte(word / 256);
-    buffer[at + 2] = low_byte(word / 65536);
-    buffer[at + 3] = low_byte(word / 16777216);
-    at + 4
-}
-
-fn low_byte(word: u32) -> u8
-    ensures { result ≡ word % 256 }
-{
-    (word % 256) as u8
+    put(buffer, at, &word.to_le_bytes())
 }
 
 pub fn to_u64(x: u32) -> u64
     ensures { (result ≡ x) × (x < 2 ^ 32) }
 {
-    x as u64
+    u64::from(x)
 }
 
 pub fn smaller(x: u64, y: u64) -> u64
     ensures { result ≡ min x y }
 {
-    if x < y { x } else { y }
+    x.min(y)
 }
 
 // Any word but 0 is yes.
@@ -64,7 +44,7 @@ pub fn long_at(s: &[u8], at: usize) -> u64
     requires { at + 8 ≤ length s.now }
     ensures { result ≡ eight s.now at }
 {
-    to_u64(word_at(s, at)) + 4294967296 * to_u64(word_at(s, at + 4))
+    u64::from_le_bytes(*s[at..].first_chunk().unwrap())
 }
 
 pub fn put_long(buffer: &mut [u8], at: usize, number: u64) -> usize
@@ -72,18 +52,15 @@ pub fn put_long(buffer: &mut [u8], at: usize, number: u64) -> usize
     ensures put { Put (bytes_of (two_words number)) at buffer.old buffer.new result }
     ensures value { result ≡ at + 8 }
 {
-    let next = put_word(buffer, at, low_word(number));
-    put_word(buffer, next, high_word(number))
+    put(buffer, at, &number.to_le_bytes())
 }
 
-fn low_word(number: u64) -> u32
-    ensures { result ≡ number % word_limit }
+// The bytes from a place on; the result is the place behind them.
+pub fn put(buffer: &mut [u8], at: usize, bytes: &[u8]) -> usize
+    requires { at + length bytes.now ≤ length buffer.old }
+    ensures { Put bytes.now at buffer.old buffer.new result }
 {
-    (number % 4294967296) as u32
-}
-
-fn high_word(number: u64) -> u32
-    ensures { result ≡ number / word_limit }
-{
-    (number / 4294967296) as u32
+    let next = at + bytes.len();
+    buffer[at..next].copy_from_slice(bytes);
+    next
 }

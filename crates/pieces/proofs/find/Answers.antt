@@ -1,29 +1,14 @@
--- None of the bytes passed is looked for.
-use mathlib.Core.Path.{refl, sym, ◌∙◌}
-use native.Mathlib.Omega.{arith}
-use Rattle.pieces.specs.Marks.{is_mark, here, not_here, length_to_le}
+-- The place of the first that passes, whatever test the closure computes.
+use Rattle.std.proofs.Common.{sym, ◌∙◌, rules}
+use Rattle.std.proofs.lemmas.Iterator.{YieldsList-from_slice}
+use Rattle.std.proofs.lemmas.Iterator.Search.{position_from_yields_List}
+use Rattle.counting.specs.Position.{position_or_length}
+use Rattle.pieces.specs.Marks.{length_to_is}
 use Rattle.pieces.proofs.find.Goals as goal
 
-pub loop-i-init : goal.loop-i-init
-loop-i-init c = (refl, omega arith, omega arith)
-
-pub returns-then-is : goal.returns-then-is
-returns-then-is c = record {
-  value = omega (arith, here (is_mark c.args.mark) c.args.s.now c.loop-i.i (omega arith) (sym c.is.ensures ∙ c.if-is.true));
-  upper_bound = omega arith;
-}
-
-pub loop-i-preserved : goal.loop-i-preserved
-loop-i-preserved c = (
-  omega arith,
-  omega arith,
-  omega (
-    arith,
-    not_here (is_mark c.args.mark) c.args.s.now c.loop-i.i (omega arith)
-        (sym c.is.ensures ∙ c.if-is.false),
-  ),
-)
-
-pub returns : goal.returns
-returns c =
-    record { value = omega (arith, length_to_le (is_mark c.args.mark) c.args.s.now); upper_bound = omega arith }
+pub returns-clause-value : goal.returns-clause-value
+returns-clause-value g c = λ test computes.
+    let s = c.args.s.now in
+    let place = position_from_yields_List test _ _ c.position.result c.position.ensures.ran
+    (YieldsList-from_slice s cc) (λ x b q k. (search rules, computes x.now b (search rules))) in
+    c.unwrap_or.ensures ∙ rw (place, position_or_length test s) (sym (length_to_is test s))

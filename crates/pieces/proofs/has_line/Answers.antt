@@ -1,50 +1,37 @@
--- What is left has the line exactly if the text has it. The measure is what is left of it.
-use mathlib.Core.Path.{◌≡◌, refl, sym, ap, ◌∙◌}
-use mathlib.Core.Bool.{Bool}
-use mathlib.Core.List.{List}
-use Prim.Native.Nat.{ℕ, ◌<◌}
-use native.Mathlib.Omega.{arith}
+-- What is left has the line exactly if the text has it.
+use Rattle.std.proofs.Common.{◌≡◌, ◌<◌, Bool, sym, ◌∙◌, length, take, length-drop, arith, rules}
 use borrow.Author.Rules.{part_to_end}
-use lib.ListN.{length, take, length-drop}
-use Rattle.model.specs.PlainText.{same}
-use Rattle.pieces.specs.Pieces.{from_front}
+use Rattle.model.specs.PlainText.{is_line_feed, same}
+use Rattle.pieces.specs.Marks.{length_to}
+use Rattle.pieces.specs.Same.{same_is}
 use Rattle.pieces.specs.HasLine.{first_line_is, no_line_left, later_lines}
-use Rattle.pieces.proofs.has_line.Goals.{After-same}
+use Rattle.pieces.proofs.has_line.Goals.{After-find-end, After-eq}
 use Rattle.pieces.proofs.has_line.Goals as goal
 
-pub loop-left-init : goal.loop-left-init
-loop-left-init c = (omega arith, refl)
+-- The line is found by the byte that ends it.
+ended : (c : After-find-end) → c.find-end.result ≡ length_to is_line_feed c.loop-line.left.now
+ended c = c.find-end.ensures.value is_line_feed (λ x answer k. search rules)
 
 -- The line that was compared.
-compared : (c : After-same) (b : Bool) → c.same.result ≡ b
-    → same (take c.find-end.result c.loop-left.left.now) c.args.line.now ≡ b
-compared c b e =
-    let left = c.loop-left.left.now in
-    ap (λ (w : List ℕ). same w c.args.line.now) (sym (from_front left c.find-end.result))
-    ∙ sym c.same.ensures ∙ e
+compared : (c : After-eq) (b : Bool) → c.eq.result ≡ b → same (take c.find-end.result c.loop-line.left.now) c.args.line.now ≡ b
+compared c b e = same_is _ _ ∙ sym c.eq.ensures ∙ e
 
-pub returns-then-same : goal.returns-then-same
-returns-then-same c =
-    sym (sym c.loop-left.invariant.1 ∙ first_line_is c.loop-left.left.now c.args.line.now c.find-end.ensures.value
-    (compared (goal.at.returns-then-same c).After-same _ c.if-same.true))
+pub returns-then-eq : goal.returns-then-eq
+returns-then-eq c =
+    let place = goal.at.returns-then-eq c in
+    sym (sym c.loop-line.invariant.1 ∙ first_line_is c.loop-line.left.now c.args.line.now (ended place.After-find-end)
+    (compared place.After-eq _ c.if-eq.true))
 
 pub returns-then-end-left : goal.returns-then-end-left
 returns-then-end-left c =
-    let differs = compared (goal.at.returns-then-end-left c).After-same _ c.if-same.false in
-    sym (sym c.loop-left.invariant.1 ∙ no_line_left c.loop-left.left.now c.args.line.now c.find-end.ensures.value differs (omega (arith, c.if-end-left.true)))
+    let place = goal.at.returns-then-end-left c in
+    sym (sym c.loop-line.invariant.1 ∙ no_line_left c.loop-line.left.now c.args.line.now (ended place.After-find-end)
+    (compared place.After-eq _ c.if-eq.false) (omega arith))
 
-pub overflow_add-left : goal.overflow_add-left
-overflow_add-left c =
-    omega (arith, c.find-end.ensures.upper_bound, c.if-end-left.false, c.loop-left.invariant.0)
-
-pub loop-left-smaller : goal.loop-left-smaller
-loop-left-smaller c =
-    simp (part_to_end, length-drop) (omega (arith, c.find-end.ensures.upper_bound, c.if-end-left.false))
-
-pub loop-left-preserved : goal.loop-left-preserved
-loop-left-preserved c =
-    let left = c.loop-left.left.now in
-    let differs = compared (goal.at.loop-left-preserved c).After-same _ c.if-same.false in
-    let inside : c.find-end.result < length left = omega (arith, c.find-end.ensures.upper_bound, c.if-end-left.false) in
-    let rest = later_lines left c.args.line.now c.find-end.ensures.value differs inside in
-    rw part_to_end (simp length-drop (omega (arith, c.loop-left.invariant.0)), sym rest ∙ c.loop-left.invariant.1)
+pub loop-line-preserved : goal.loop-line-preserved
+loop-line-preserved c =
+    let place = goal.at.loop-line-preserved c in
+    let left = c.loop-line.left.now in
+    let inside : c.find-end.result < length left = omega arith in
+    let rest = later_lines left c.args.line.now (ended place.After-find-end) (compared place.After-eq _ c.if-eq.false) inside in
+    rw part_to_end (simp length-drop (omega arith), sym rest ∙ c.loop-line.invariant.1)

@@ -6,4 +6,4 @@ use Rattle.text.proofs.put_line.Goals as goal
 pub returns : goal.returns
 unfolding text
 returns c =
-    record { put = join c.put_number-at.ensures.put c.put_byte.ensures; upper_bound = omega arith }
+    record { put = join c.put_number-at.ensures.put c.put.ensures; upper_bound = omega arith }

@@ -11,4 +11,4 @@ put_decimal-requires c =
 pub returns : goal.returns
 returns c =
     let number = c.args.number in
-    record { put = join c.put_text-at.ensures c.put_decimal.ensures; upper_bound = omega (arith, wide number (omega arith)) }
+    record { put = join c.put-at.ensures c.put_decimal.ensures; upper_bound = omega (arith, wide number (omega arith)) }

@@ -1,12 +1,20 @@
--- The lower word, and behind it the upper one.
-use native.Mathlib.Omega.{arith}
-use Rattle.model.specs.TableFile.{bytes_of}
-use Rattle.counting.specs.Put.{join}
+-- The eight bytes are those of the lower word, and then those of the upper one.
+use Rattle.std.proofs.Common.{◌≡◌, ℕ, ◌/◌, ◌%◌, arith}
+use Rattle.std.specs.Int.{w64, to_le_bytes}
+use Rattle.model.specs.Limits.{word_limit}
+use Rattle.model.specs.TableFile.{bytes_of, two_words}
 use Rattle.words.proofs.put_long.Goals as goal
 
-pub returns : goal.returns
+long_bytes : (n : ℕ) → to_le_bytes w64 n ≡ bytes_of (two_words n)
 unfolding bytes_of
-returns c = record {
-  put = rw (← c.low_word.ensures, ← c.high_word.ensures) (join c.put_word-next.ensures.put c.put_word.ensures.put);
-  value = omega arith;
-}
+long_bytes n =
+    let lower : (n % word_limit % 256 ≡ n % 256) × (n % word_limit / 256 % 256 ≡ n / 256 % 256)
+    × (n % word_limit / 65536 % 256 ≡ n / 65536 % 256) × (n % word_limit / 16777216 % 256 ≡ n / 16777216 % 256) =
+    (omega arith, omega arith, omega arith, omega arith) in
+    let upper : (n / word_limit / 256 ≡ n / 1099511627776) × (n / word_limit / 65536 ≡ n / 281474976710656)
+    × (n / word_limit / 16777216 ≡ n / 72057594037927936) =
+    (omega arith, omega arith, omega arith) in
+    rw (lower.0, lower.1, lower.2, lower.3, upper.0, upper.1, upper.2)
+
+pub returns-clause-put : goal.returns-clause-put
+returns-clause-put c = rw (← long_bytes c.args.number, ← c.to_le_bytes.ensures) c.put.ensures

@@ -1,8 +1,0 @@
-use borrow.Author.Tests.{le-leb, lt-leb}
-use Rattle.pieces.proofs.is_digit.Goals as goal
-
-pub returns-then-byte-ge48 : goal.returns-then-byte-ge48
-returns-then-byte-ge48 c = rw (le-leb _ _ c.if-byte-ge48.true)
-
-pub returns-else-byte-ge48 : goal.returns-else-byte-ge48
-returns-else-byte-ge48 c = rw (lt-leb _ _ c.if-byte-ge48.false)

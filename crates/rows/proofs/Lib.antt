@@ -1,0 +1,2 @@
+-- The rows of a list of words.
+pub mod Rows
