@@ -9,3 +9,4 @@ pub mod Put
 pub mod Bits
 pub mod Divisors
 pub mod Enumerate
+pub mod Listed

@@ -5,7 +5,7 @@ use Rattle.values.specs.declared.Task.{Task}
 use Rattle.values.specs.declared.Table.{Table}
 use Rattle.model.specs.Tasks.{no_task}
 use Rattle.model.specs.Easing.{eases, next_eased}
-use Rattle.easing.proofs.Listed.{first_taken, position_some, position_none}
+use Rattle.counting.specs.Listed.{first_taken, position_some, position_none}
 
 module _ (old : Table) (k : Task) (from : ℕ) (few : old.count ≤ length old.tasks) (within : from ≤ old.count) {r : Option ℕ}
     (e : r ≡ position (λ j. eases j k) (take (old.count - from) (drop from old.tasks))) where

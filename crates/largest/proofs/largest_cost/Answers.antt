@@ -6,10 +6,6 @@ use borrow.Author.Tests.{lt-ltb, le-ltb}
 use Rattle.model.specs.Largest.{cost_answer}
 use Rattle.largest.proofs.largest_cost.Goals as goal
 
-pub told-requires : goal.told-requires
-told-requires c =
-    record { t_value = sym c.judge.ensures ∙ c.in-WellFormed.is; i_lt_count = omega arith }
-
 pub returns-in-Refused : goal.returns-in-Refused
 unfolding cost_answer
 returns-in-Refused c = rw (← c.judge.ensures, c.in-Refused.is)
