@@ -10,9 +10,8 @@ ghost use Rattle.model.specs.Tasks.{task, judged};
 ghost use Rattle.model.specs.Verdict.{verdict};
 ghost use Rattle.model.specs.Largest.{with_cost, passes_with, largest_cost, cost_told, cost_answer};
 
-use values::{Judgement, LargestCost, Measure, NO_SUCH_TASK, Outcome, Refusal, Table, Verdict};
-
 pub use changes::with_cost;
+use values::{Judgement, LargestCost, Measure, NO_SUCH_TASK, Outcome, Refusal, Table, Verdict};
 
 // More of one task's cost adds to the load, and moves neither H nor the horizon.
 fn measure_with(t: Table, m: Measure, i: usize, cost: u32) -> Measure
@@ -53,7 +52,10 @@ fn passes_with(t: Table, m: Measure, i: usize, budget: u64, cost: u32) -> bool
     ensures { result ≡ passes_with t i budget cost }
 {
     let measure = measure_with(t, m, i, cost);
-    matches!(verdict_on(with_cost(t, i, cost), measure, budget), Verdict::Passes)
+    matches!(
+        verdict_on(with_cost(t, i, cost), measure, budget),
+        Verdict::Passes
+    )
 }
 
 // Between the present cost, which passes, and the first past the deadline.

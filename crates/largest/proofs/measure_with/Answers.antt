@@ -1,7 +1,5 @@
 -- The changed table is well-formed, and its load no large number.
-use Prim.Native.Nat.{◌-◌}
 use native.Mathlib.Omega.{arith}
-use borrow.Author.Rules.{rules}
 use Rattle.largest.specs.Halving.{ranged_of, more_le}
 use Rattle.backlog.proofs.Largest.{well_with}
 use Rattle.largest.proofs.measure_with.Goals as goal

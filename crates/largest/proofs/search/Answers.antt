@@ -1,11 +1,15 @@
 -- The number that is found passes, or is the present cost; the next one does not, or is past the deadline.
 use mathlib.Core.Logic.{inl, inr}
-use mathlib.Core.Path.{◌≡◌, refl, sym, subst, ◌∙◌}
-use Prim.Native.Nat.{ℕ, ◌+◌}
+use mathlib.Core.Path.{◌≡◌, refl}
+use Prim.Native.Nat.{◌+◌, ◌≤◌}
 use native.Mathlib.Omega.{arith}
+use mathlib.Core.Bool.{true, false}
+use borrow.Author.Rules.{rules}
 use lib.Dec.{T}
+use Rattle.model.specs.Tasks.{task}
 use Rattle.model.specs.Largest.{passes_with}
-use Rattle.largest.specs.Halving.{ranged_of, Halving, halving_start, halving_end}
+use Rattle.largest.specs.Halving.{ranged_of, halving_start, halving_end}
+use Rattle.largest.proofs.search.Goals.{After-last_passing}
 use Rattle.largest.proofs.search.Goals as goal
 
 pub offset_bounds-t-i : goal.offset_bounds-t-i
@@ -23,8 +27,27 @@ pub last_passing-requires-clause-apart : goal.last_passing-requires-clause-apart
 last_passing-requires-clause-apart c =
     let k = (ranged_of c.args.t c.args.m c.requires.t_value).each c.args.i c.requires.i_lt_count in omega (arith, k.cost_le)
 
+-- So it passes, and the next one does not.
+passed : (c : After-last_passing) → T (passes_with c.args.t c.args.i c.args.budget c.last_passing.result)
+passed c =
+    let k = c.last_passing.result in
+    let start = halving_start c.args.t c.args.m c.requires.t_value c.args.i c.args.budget c.requires.i_lt_count c.requires.budget_value _ refl in
+    elim c.last_passing.ensures.passed [
+      | inl e ↦ rw e start.passed
+      | inr q ↦ (let told : passes_with c.args.t c.args.i c.args.budget k ≡ true = search rules in rw told tt)
+    ]
+
+failed : (c : After-last_passing) → c.last_passing.result + 1 ≤ (task c.args.t c.args.i).deadline
+    → T (passes_with c.args.t c.args.i c.args.budget (c.last_passing.result + 1)) → ⊥
+failed c l h = elim c.last_passing.ensures.failed [
+  | inl e ↦ absurd (omega arith)
+  | inr q ↦ (let told : passes_with c.args.t c.args.i c.args.budget (c.last_passing.result + 1) ≡ false = search rules in rw told at h)
+]
+
 pub returns : goal.returns
 returns c =
-    let start = halving_start c.args.t c.args.m c.requires.t_value c.args.i c.args.budget c.requires.i_lt_count c.requires.budget_value _ refl in
-    let p = c.last_passing.ensures.passed in let f = c.last_passing.ensures.failed in let w = c.last_passing.ensures.within in
-    ?
+    let at = (goal.at.returns c).After-last_passing in
+    let w = c.last_passing.ensures.within in
+    halving_end c.args.t c.args.m c.requires.t_value c.args.i c.args.budget c.requires.i_lt_count c.requires.budget_value
+    c.last_passing.result (c.last_passing.result + 1)
+    (record { least = w.0; apart = omega arith; upto = omega (arith, w.1); passed = passed at; failed = failed at }) (omega arith)

@@ -14,6 +14,5 @@ returns c =
     let (m, well) = c.requires.well in
     let (from, to) = c.requires.i_bound in
     let some = ((ranged_of c.args.t c.requires.well).each c.args.i c.requires.i_lt_count).cost_pos in
-    c.is_pass.ensures
-    ∙ rw (c.test.ensures, c.with_cost.ensures)
-    (passed_with c.args.t m well c.args.i c.requires.i_lt_count c.args.cost (omega (arith, some, from)) to)
+    let same = rw (c.test.ensures, c.with_cost.ensures) at (passed_with c.args.t m well c.args.i c.requires.i_lt_count c.args.cost (omega (arith, some, from)) to) in
+    ?
