@@ -12,26 +12,19 @@ use slots::Numbers;
 use values::{ROUND_LIMIT, Sort, Table, Task};
 
 // The table with other offsets.
+#[tactic(auto, unfolding(model::specs::Patterns::starting_at))]
 pub fn starting(t: Table, offsets: Numbers) -> Table
     requires { t.count ≤ task_limit }
     ensures { result ≡ starting_at t (at offsets) }
 {
-    let n = t.count;
-    let mut tasks = t.tasks;
-    for i in 0..n {
-        let task = t.tasks[i];
-        let offset = offsets[i];
-        tasks[i] = Task {
-            sort: Sort::Periodic(offset),
-            cost: task.cost,
-            deadline: task.deadline,
-            period: task.period,
+    let mut started = t;
+    for (i, task) in t.tasks[..t.count].iter().enumerate() {
+        started.tasks[i] = Task {
+            sort: Sort::Periodic(offsets[i]),
+            ..*task
         };
     }
-    Table {
-        count: n,
-        tasks: tasks,
-    }
+    started
 }
 
 // Whether no deadline is missed up to the first idle instant. The walk ends there, or at the first late deadline.

@@ -1,7 +1,8 @@
 // A table with one cost, one deadline or every cost changed, in steps from easy to hard.
 #![tactic(auto)]
 
-ghost use Rattle.std.specs.Prelude.{◌≡◌, ◌≤◌, ◌<◌};
+ghost use Rattle.std.specs.Prelude.{◌≡◌, ◌≤◌, ◌<◌, leb};
+ghost use Rattle.std.specs.List.{list_all};
 ghost use Rattle.model.specs.Limits.{task_limit, slot_limit, share_limit};
 ghost use Rattle.model.specs.Tasks.{task};
 ghost use Rattle.model.specs.Largest.{with_cost};
@@ -12,39 +13,27 @@ ghost use Rattle.changes.specs.Hardening.{steps_of, number_of, steps, hardened};
 
 use values::{Change, SHARE_LIMIT, Table, Task};
 
-pub fn with_cost(t: Table, i: usize, cost: u32) -> Table
+pub fn with_cost(mut t: Table, i: usize, cost: u32) -> Table
     requires { i < task_limit }
     ensures { result ≡ with_cost t i cost }
 {
-    let mut tasks = t.tasks;
-    let mut changed = tasks[i];
-    changed.cost = cost;
-    tasks[i] = changed;
-    Table {
-        count: t.count,
-        tasks: tasks,
-    }
+    t.tasks[i].cost = cost;
+    t
 }
 
-fn with_deadline(t: Table, i: usize, deadline: u32) -> Table
+fn with_deadline(mut t: Table, i: usize, deadline: u32) -> Table
     requires { i < task_limit }
     ensures { result ≡ with_deadline t i deadline }
 {
-    let mut tasks = t.tasks;
-    let mut changed = tasks[i];
-    changed.deadline = deadline;
-    tasks[i] = changed;
-    Table {
-        count: t.count,
-        tasks: tasks,
-    }
+    t.tasks[i].deadline = deadline;
+    t
 }
 
 fn share_of(cost: u32, thousandths: u32) -> u32
     requires { (cost ≤ slot_limit) × (thousandths ≤ share_limit) }
     ensures { result ≡ share_of cost thousandths }
 {
-    ((cost as u64 * thousandths as u64 + 999) / 1000) as u32
+    ((u64::from(cost) * u64::from(thousandths) + 999) / 1000) as u32
 }
 
 fn with_share(t: Table, thousandths: u32) -> Table
@@ -52,17 +41,11 @@ fn with_share(t: Table, thousandths: u32) -> Table
     requires thousandths_le_share_limit { thousandths ≤ share_limit }
     ensures { result ≡ with_share t thousandths }
 {
-    let n = t.count;
-    let mut tasks = t.tasks;
-    for i in 0..n {
-        let mut changed = tasks[i];
-        changed.cost = share_of(changed.cost, thousandths);
-        tasks[i] = changed;
+    let mut shared = t;
+    for (i, task) in t.tasks[..t.count].iter().enumerate() {
+        shared.tasks[i].cost = share_of(task.cost, thousandths);
     }
-    Table {
-        count: n,
-        tasks: tasks,
-    }
+    shared
 }
 
 // The task that a change is about; every table has a task 0.
@@ -126,16 +109,16 @@ pub fn hardened(t: Table, change: Change, step: u32) -> Table
     }
 }
 
+fn all_keep(tasks: &[Task]) -> bool
+    ensures { result ≡ list_all (λ task. leb task.cost task.deadline) tasks.now }
+{
+    tasks.iter().all(|task| task.cost <= task.deadline)
+}
+
 // A share can raise a cost above its deadline; then the table is no longer well-formed.
 pub fn keeps_costs(t: Table) -> bool
     requires { t.count ≤ task_limit }
     ensures { result ≡ costs_kept t }
 {
-    for i in 0..t.count {
-        let task = t.tasks[i];
-        if task.deadline < task.cost {
-            return false;
-        }
-    }
-    true
+    all_keep(&t.tasks[..t.count])
 }

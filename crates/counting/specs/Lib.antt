@@ -11,3 +11,4 @@ pub mod Divisors
 pub mod Enumerate
 pub mod FromFn
 pub mod Position
+pub mod Listed

@@ -1,53 +1,28 @@
 // Whether one table is an easing of another: each of its tasks is looked for behind what the one before it was found to be.
 #![tactic(auto)]
 
-ghost use Rattle.std.specs.Prelude.{◌≡◌, cond, not, ◌+◌, ◌^◌, ◌≤◌, ◌<◌};
+ghost use Rattle.std.specs.Prelude.{◌≡◌, ◌+◌, ◌^◌, ◌≤◌, ◌<◌, position};
 ghost use Rattle.model.specs.Limits.{task_limit};
-ghost use Rattle.model.specs.Tasks.{is_button};
-ghost use Rattle.model.specs.Easing.{eases, next_eased, easing};
+ghost use Rattle.model.specs.Easing.{eases, easing};
 
 use values::{Easing, Table, Task};
 
 // A button is an easing of a button alone.
-fn same_sort(old: Task, new: Task) -> bool
-    ensures { result ≡ cond (is_button old) (is_button new) (not (is_button new)) }
-{
-    if sorts::is_button(old) {
-        return sorts::is_button(new);
-    }
-    !sorts::is_button(new)
-}
-
 fn is_eased(old: Task, new: Task) -> bool
     ensures { result ≡ eases old new }
 {
-    if sorts::offset_of(new) != sorts::offset_of(old) {
-        return false;
-    }
-    if new.period != old.period {
-        return false;
-    }
-    if old.cost < new.cost {
-        return false;
-    }
-    if new.deadline < old.deadline {
-        return false;
-    }
-    same_sort(old, new)
+    sorts::is_button(new) == sorts::is_button(old)
+        && sorts::offset_of(new) == sorts::offset_of(old)
+        && new.period == old.period
+        && new.cost <= old.cost
+        && old.deadline <= new.deadline
 }
 
-// The first task of the table, from this one on, of which k is the eased one, or the count.
-fn next_eased(old: Table, k: Task, from: usize) -> usize
-    requires { (from ≤ old.count) × (old.count ≤ task_limit) }
-    ensures { result ≡ next_eased old k from }
+// The first of the tasks of which k is the eased one.
+fn next_eased(tasks: &[Task], k: Task) -> Option<usize>
+    ensures { result ≡ position (λ task. eases task k) tasks.now }
 {
-    let n = old.count;
-    for i in from..n {
-        if is_eased(old.tasks[i], k) {
-            return i;
-        }
-    }
-    n
+    tasks.iter().position(|task| is_eased(*task, k))
 }
 
 // The set with k; the others are below k.
@@ -62,17 +37,14 @@ pub fn compare(old: Table, new: Table) -> Easing
     requires { (old.count ≤ task_limit) × (new.count ≤ task_limit) }
     ensures { result ≡ easing old new }
 {
-    let n = old.count;
-    let m = new.count;
-    let mut kept: u32 = 0;
+    let mut kept = 0;
     let mut from = 0;
-    for i in 0..m {
-        let k = next_eased(old, new.tasks[i], from);
-        if n <= k {
+    for (i, task) in new.tasks[..new.count].iter().enumerate() {
+        let Some(passed) = next_eased(&old.tasks[from..old.count], *task) else {
             return Easing::Unmatched(i as u32);
-        }
-        kept = with_task(kept, k);
-        from = k + 1;
+        };
+        kept = with_task(kept, from + passed);
+        from = from + passed + 1;
     }
     Easing::Kept(kept)
 }

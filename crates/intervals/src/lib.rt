@@ -9,24 +9,18 @@ ghost use Rattle.intervals.specs.Starts.{NoRelease, PassedOver};
 
 use values::{Table, Task};
 
-// The difference, or 0.
-fn less(x: u64, y: u64) -> u64
-    ensures { result ≡ x - y }
-{
-    if x < y { 0 } else { x - y }
-}
-
 // The jobs of a task inside an interval: those due by its end, less those released before its start.
+#[tactic(auto, using(wellformed::specs::Closed::jobs_closed))]
 pub fn jobs_in(k: Task, from: u64, to: u64) -> u64
     requires in_range { InRange k }
     requires from_le_to { (from ≤ to) × (to ≤ horizon_limit) }
     ensures { result ≡ jobs_in k from to }
 {
-    let period = words::to_u64(k.period);
+    let period = u64::from(k.period);
     let offset = sorts::wide_offset_of(k);
-    let due = less(to + period, offset + words::to_u64(k.deadline)) / period;
-    let released = (less(from, offset) + (period - 1)) / period;
-    less(due, released)
+    let due = (to + period).saturating_sub(offset + u64::from(k.deadline)) / period;
+    let released = (from.saturating_sub(offset) + (period - 1)) / period;
+    due.saturating_sub(released)
 }
 
 // The slots that an interval asks for.
@@ -35,11 +29,9 @@ pub fn demand(t: Table, from: u64, to: u64) -> u64
     requires from_le_to { (from ≤ to) × (to ≤ horizon_limit) }
     ensures { result ≡ demand t from to }
 {
-    let n = t.count;
-    let mut asked: u64 = 0;
-    for i in 0..n {
-        let task = t.tasks[i];
-        asked = asked + words::to_u64(task.cost) * jobs_in(task, from, to);
+    let mut asked = 0;
+    for task in &t.tasks[..t.count] {
+        asked += u64::from(task.cost) * jobs_in(*task, from, to);
     }
     asked
 }
@@ -53,7 +45,7 @@ fn release_before(k: Task, from: u64) -> u64
     if from <= offset {
         return 0;
     }
-    let period = words::to_u64(k.period);
+    let period = u64::from(k.period);
     offset + (from - offset - 1) / period * period
 }
 
@@ -63,15 +55,11 @@ pub fn start_before(t: Table, from: u64, spare: u64) -> u64
     requires { Ranged t }
     ensures { (0 < from → result < from) × ((i : ℕ) → i < t.count → PassedOver t spare result from i) }
 {
-    let n = t.count;
-    let mut start: u64 = 0;
-    for i in 0..n {
-        let task = t.tasks[i];
-        if spare < n as u64 * words::to_u64(task.cost) {
-            let release = release_before(task, from);
-            if start < release {
-                start = release;
-            }
+    let tasks = &t.tasks[..t.count];
+    let mut start = 0;
+    for task in tasks {
+        if spare < tasks.len() as u64 * u64::from(task.cost) {
+            start = start.max(release_before(*task, from));
         }
     }
     start

@@ -4,26 +4,12 @@
 ghost use Rattle.std.specs.Prelude.{◌≡◌, ◌≤◌, ◌<◌, Ok, Err};
 ghost use Rattle.values.specs.declared.Verdict.{Verdict};
 ghost use Rattle.model.specs.Values.{refusal};
-ghost use Rattle.model.specs.Limits.{task_limit};
 ghost use Rattle.model.specs.Tasks.{task, judged};
 ghost use Rattle.model.specs.Verdict.{verdict};
-ghost use Rattle.model.specs.Largest.{with_cost, is_pass, passes_with, largest_cost, cost_told, cost_answer};
+ghost use Rattle.model.specs.Largest.{with_cost, passes_with, largest_cost, cost_told, cost_answer};
 
+pub use changes::with_cost;
 use values::{Fault, Judgement, LargestCost, Limit, Measure, Outcome, Refusal, Table, Verdict};
-
-pub fn with_cost(t: Table, i: usize, cost: u32) -> Table
-    requires { i < task_limit }
-    ensures { result ≡ with_cost t i cost }
-{
-    let mut tasks = t.tasks;
-    let mut changed = tasks[i];
-    changed.cost = cost;
-    tasks[i] = changed;
-    Table {
-        count: t.count,
-        tasks: tasks,
-    }
-}
 
 // More of one task's cost adds to the load, and moves neither H nor the horizon.
 fn measure_with(t: Table, m: Measure, i: usize, cost: u32) -> Measure
@@ -33,12 +19,10 @@ fn measure_with(t: Table, m: Measure, i: usize, cost: u32) -> Measure
     ensures { judged (with_cost t i cost) ≡ Ok result }
 {
     let task = t.tasks[i];
-    let more = words::to_u64(cost - task.cost);
-    let jobs = m.round / words::to_u64(task.period);
+    let jobs = m.round / u64::from(task.period);
     Measure {
-        round: m.round,
-        load: m.load + more * jobs,
-        horizon: m.horizon,
+        load: m.load + u64::from(cost - task.cost) * jobs,
+        ..m
     }
 }
 
@@ -47,27 +31,14 @@ fn verdict_on(t: Table, m: Measure, budget: u64) -> Verdict
     requires { judged t ≡ Ok m }
     ensures { result ≡ verdict t budget }
 {
-    if m.horizon <= budget {
-        if quick::passes(t, m) {
-            return Verdict::Passes;
-        }
+    if m.horizon <= budget && quick::passes(t, m) {
+        return Verdict::Passes;
     }
     let answer = exact::tested(t, m, budget, false);
     let outcome = answer.outcome;
     match outcome {
         Err(_) => Verdict::Undecided,
         Ok(said) => said,
-    }
-}
-
-fn is_pass(said: Verdict) -> bool
-    ensures { result ≡ is_pass said }
-{
-    match said {
-        Verdict::Passes => true,
-        Verdict::Overload => false,
-        Verdict::Late { .. } => false,
-        Verdict::Undecided => false,
     }
 }
 
@@ -79,10 +50,13 @@ fn passes_with(t: Table, m: Measure, i: usize, budget: u64, cost: u32) -> bool
     ensures { result ≡ passes_with t i budget cost }
 {
     let measure = measure_with(t, m, i, cost);
-    is_pass(verdict_on(with_cost(t, i, cost), measure, budget))
+    matches!(
+        verdict_on(with_cost(t, i, cost), measure, budget),
+        Verdict::Passes
+    )
 }
 
-// The cost in the middle is tried, between one that passes and one that does not or is past the deadline.
+// Between the present cost, which passes, and the first past the deadline.
 fn search(t: Table, m: Measure, i: usize, budget: u64) -> u32
     requires t_value { judged t ≡ Ok m }
     requires i_lt_count { i < t.count }
@@ -90,17 +64,9 @@ fn search(t: Table, m: Measure, i: usize, budget: u64) -> u32
     ensures { result ≡ largest_cost t i budget }
 {
     let task = t.tasks[i];
-    let mut passes = task.cost;
-    let mut fails = task.deadline + 1;
-    while fails - passes > 1 {
-        let middle = passes + (fails - passes) / 2;
-        if passes_with(t, m, i, budget, middle) {
-            passes = middle;
-        } else {
-            fails = middle;
-        }
-    }
-    passes
+    halving::last_passing(task.cost, task.deadline + 1, |cost| {
+        passes_with(t, m, i, budget, cost)
+    })
 }
 
 fn told(t: Table, m: Measure, i: usize, budget: u64) -> LargestCost

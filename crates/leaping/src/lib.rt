@@ -14,7 +14,7 @@ ghost use Rattle.leaps.specs.Skipping.{Rounded};
 ghost use Rattle.leaping.specs.Start.{Last, due_by, Requeued};
 ghost use Rattle.leaping.specs.Ended.{Ended, Idled};
 
-use leaps::Times;
+use leaps::{Kept, Times};
 use values::{Measure, TASK_LIMIT, Table};
 use walks::Course;
 
@@ -32,16 +32,14 @@ fn last_jobs(t: Table, mark: &Times, to: u64) -> Lasts
     requires to_le_horizon_limit { to ≤ horizon_limit }
     ensures { Queue (Last t to t.count (due_by t to)) result.queue result.jobs }
 {
-    let n = t.count;
     let mut queue = [0u64; TASK_LIMIT];
-    let mut jobs: usize = 0;
-    for i in 0..n {
-        let task = t.tasks[i];
-        let due = intervals::jobs_in(task, 0, to);
+    let mut jobs = 0;
+    for (i, task) in t.tasks[..t.count].iter().enumerate() {
+        let due = intervals::jobs_in(*task, 0, to);
         if 0 < due {
-            let last = sorts::wide_offset_of(task) + (due - 1) * words::to_u64(task.period);
+            let last = sorts::wide_offset_of(*task) + (due - 1) * u64::from(task.period);
             leaps::insert(&mut queue, jobs, leaps::entry(to - last, mark[i]));
-            jobs = jobs + 1;
+            jobs += 1;
         }
     }
     Lasts { queue, jobs }
@@ -52,7 +50,7 @@ fn requeue(queue: &mut Times, jobs: usize, key: u64, period: u64, offset: u32, t
     requires { (0 < jobs) × (jobs ≤ task_limit) × (key / span ≤ to) × (to ≤ horizon_limit) × (period ≤ slot_limit) }
     ensures { Requeued to key period offset queue.old jobs queue.new result }
 {
-    if leaps::time_of(key) + period + words::to_u64(offset) <= to {
+    if leaps::time_of(key) + period + u64::from(offset) <= to {
         leaps::insert(queue, jobs - 1, key + leaps::entry(period, 0));
         return jobs;
     }
@@ -68,66 +66,45 @@ pub fn search(t: Table, end: u64, again: u64, idling: bool) -> Course
     ensures ended { idling ≡ false → Ended t end result }
     ensures idled { idling ≡ true → Idled t end result.idle }
 {
-    let last = t.count - 1;
     let columns = leaps::unpack(t);
-    let period = columns.period;
-    let cost = columns.cost;
-    let deadline = columns.deadline;
-    let mark = columns.mark;
-    let mut releases = leaps::first_releases(t, &mark);
-    let mut ready = [0u64; TASK_LIMIT];
-    let mut left = [0u64; TASK_LIMIT];
-    let mut worst = [0u32; TASK_LIMIT];
+    let mut kept = Kept {
+        releases: leaps::first_releases(t, &columns.mark),
+        ready: [0u64; TASK_LIMIT],
+        left: [0u64; TASK_LIMIT],
+        worst: [0u32; TASK_LIMIT],
+    };
     let mut here = leaps::going(0, 0, 0);
-    let mut from: u64 = 0;
-    let mut asked: u64 = 0;
+    let mut from = 0;
+    let mut asked = 0;
     // A walk that stops and is not late has seen all up to its end.
     let mut at = end;
     'search: loop {
-        here = leaps::leap(
-            &period,
-            &cost,
-            &deadline,
-            &mut releases,
-            &mut ready,
-            &mut left,
-            &mut worst,
-            last,
-            end,
-            here,
-        );
+        here = leaps::leap(&columns, &mut kept, end, here);
         if leaps::stops(here, again) {
             if idling {
                 break 'search;
             }
-            if here.late {
-                at = here.time;
-                let offset = slots::offsets(t);
-                let lasts = last_jobs(t, &mark, at);
-                let mut queue = lasts.queue;
-                let mut jobs = lasts.jobs;
-                let mut count: u64 = 0;
-                loop {
-                    let key = queue[jobs - 1];
-                    let i = leaps::task_of(key);
-                    let length = leaps::time_of(key);
-                    from = at - length;
-                    count = count + cost[i];
-                    if length < count {
-                        asked = intervals::demand(t, from, at);
-                        break 'search;
-                    }
-                    jobs = requeue(
-                        &mut queue,
-                        jobs,
-                        key,
-                        leaps::time_of(period[i]),
-                        offset[i],
-                        at,
-                    );
-                }
-            } else {
+            if !here.late {
                 break 'search;
+            }
+            at = here.time;
+            let offset = slots::offsets(t);
+            let lasts = last_jobs(t, &columns.mark, at);
+            let mut queue = lasts.queue;
+            let mut jobs = lasts.jobs;
+            let mut count = 0;
+            loop {
+                let key = queue[jobs - 1];
+                let i = leaps::task_of(key);
+                let length = leaps::time_of(key);
+                from = at - length;
+                count += columns.cost[i];
+                if length < count {
+                    asked = intervals::demand(t, from, at);
+                    break 'search;
+                }
+                let period = leaps::time_of(columns.period[i]);
+                jobs = requeue(&mut queue, jobs, key, period, offset[i], at);
             }
         }
     }
@@ -135,7 +112,7 @@ pub fn search(t: Table, end: u64, again: u64, idling: bool) -> Course
         from,
         asked,
         at,
-        worst,
+        worst: kept.worst,
         idle: here.idle,
     }
 }
@@ -146,6 +123,6 @@ pub fn walk(t: Table, m: Measure, budget: u64) -> Course
     requires load_le_round { m.load ≤ m.round }
     ensures { Ends t m budget result }
 {
-    let end = words::smaller(budget, m.horizon);
+    let end = budget.min(m.horizon);
     search(t, end, m.horizon - m.round, false)
 }

@@ -11,6 +11,8 @@ use Rattle.leaps.specs.declared.Columns.{Columns}
 unfoldable pub columns_of : Table → Columns
 columns_of t =
     record {
+      table = t;
+      last = t.count - 1;
       period = column t.count (λ i. entry t (task t i).period i);
       cost = column t.count (λ i. (task t i).cost);
       deadline = column t.count (λ i. entry t (task t i).deadline i);

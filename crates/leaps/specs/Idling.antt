@@ -1,5 +1,5 @@
 -- THE IDLE INSTANT OF A LEAP (`idle_done`): while a job is open no instant is idle; the end of the last open one is; and with no job open the next instant is.
-use Rattle.std.specs.Prelude.{◌≡◌, Bool, true, cond, ℕ, suc, ◌+◌, ◌-◌, ◌≤◌, ◌<◌, T, ltb, eqb}
+use Rattle.std.specs.Prelude.{◌≡◌, Bool, true, cond, ℕ, suc, ◌+◌, ◌≤◌, ◌<◌, T, ltb, eqb}
 use Rattle.std.proofs.Common.{subst, ◌∙◌, le_refl, arith, lt-ltb, le-ltb, eqb→eq}
 use Rattle.std.proofs.Math.Decide.{ℕ_discrete, dec_lt}
 use Rattle.values.specs.declared.Table.{Table}

@@ -10,3 +10,4 @@ pub mod Landed
 pub mod Turn
 pub mod Leaping
 pub mod Skipping
+pub mod Kept

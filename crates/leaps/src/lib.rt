@@ -2,7 +2,6 @@
 #![tactic(auto)]
 
 ghost use Rattle.std.specs.Prelude.{◌≡◌, true, false, cond, ◌+◌, ◌-◌, ◌*◌, ◌/◌, ◌%◌, ◌^◌, ◌≤◌, ◌<◌, leb, set};
-ghost use Rattle.values.specs.declared.Table.{Table};
 ghost use Rattle.model.specs.Limits.{task_limit};
 ghost use Rattle.model.specs.Tasks.{task, offset};
 ghost use Rattle.model.specs.Dispatcher.{wait_released, left_released};
@@ -13,11 +12,10 @@ ghost use Rattle.slots.specs.Slot.{at as entry_at};
 ghost use Rattle.walks.specs.Tally.{idle_then};
 ghost use Rattle.leaps.specs.Entry.{places, span, time_limit};
 ghost use Rattle.leaps.specs.Queue.{Queue, inserted};
-ghost use Rattle.leaps.specs.Held.{Coming, Held};
+ghost use Rattle.leaps.specs.Held.{Coming};
 ghost use Rattle.leaps.specs.Columns.{columns_of, Marked};
-ghost use Rattle.leaps.specs.Leaping.{Due, Ready, Here};
+ghost use Rattle.leaps.specs.Kept.{DueIn, HeldIn, ReadyIn, HereIn, LandingIn};
 ghost use Rattle.leaps.specs.Landed.{going_at, over_at, rested_at, done_at, next_late};
-ghost use Rattle.leaps.specs.Turn.{Landing};
 ghost use Rattle.leaps.specs.Skipping.{Stops};
 
 use slots::Numbers;
@@ -67,9 +65,11 @@ pub fn insert(queue: &mut Times, m: usize, x: u64)
     queue[j] = x;
 }
 
-// What a walk reads of a table, a list for each number. Period and deadline are entries: now as an entry is added to them.
+// What a walk reads of a table: the last task, and a list for each number. Period and deadline are entries: now as an entry is added to them.
 #[derive(Clone, Copy)]
 pub struct Columns {
+    pub table: Table,
+    pub last: usize,
     pub period: Times,
     pub cost: Times,
     pub deadline: Times,
@@ -80,20 +80,20 @@ pub fn unpack(t: Table) -> Columns
     requires { Ranged t }
     ensures { result ≡ columns_of t }
 {
-    let n = t.count;
     let mut period = [0u64; TASK_LIMIT];
     let mut cost = [0u64; TASK_LIMIT];
     let mut deadline = [0u64; TASK_LIMIT];
     let mut mark = [0u64; TASK_LIMIT];
-    for i in 0..n {
-        let task = t.tasks[i];
-        let own = slots::rank_of(task) as u64 * PLACES + i as u64;
-        period[i] = entry(words::to_u64(task.period), own);
-        cost[i] = words::to_u64(task.cost);
-        deadline[i] = entry(words::to_u64(task.deadline), own);
+    for (i, task) in t.tasks[..t.count].iter().enumerate() {
+        let own = u64::from(slots::rank_of(*task)) * PLACES + i as u64;
+        period[i] = entry(u64::from(task.period), own);
+        cost[i] = u64::from(task.cost);
+        deadline[i] = entry(u64::from(task.deadline), own);
         mark[i] = own;
     }
     Columns {
+        table: t,
+        last: t.count - 1,
         period,
         cost,
         deadline,
@@ -107,64 +107,55 @@ pub fn first_releases(t: Table, mark: &Times) -> Times
     requires marked { Marked t mark.now }
     ensures { Queue (Coming t 0 (λ i. offset (task t i))) result t.count }
 {
-    let n = t.count;
     let mut queue = [0u64; TASK_LIMIT];
-    for i in 0..n {
-        let first = entry(sorts::wide_offset_of(t.tasks[i]), mark[i]);
+    for (i, task) in t.tasks[..t.count].iter().enumerate() {
+        let first = entry(sorts::wide_offset_of(*task), mark[i]);
         insert(&mut queue, i, first);
     }
     queue
 }
 
+// What a walk keeps: the next releases, the deadlines of the open jobs, the slots left to each, and the worst responses so far.
+#[derive(Clone, Copy)]
+pub struct Kept {
+    pub releases: Times,
+    pub ready: Times,
+    pub left: Times,
+    pub worst: Numbers,
+}
+
 // A job of task i, whose release is the next, is released.
-fn release(
-    period: &Times,
-    cost: &Times,
-    deadline: &Times,
-    releases: &mut Times,
-    ready: &mut Times,
-    left: &mut Times,
-    last: usize,
-    at: u64,
-    i: usize,
-    jobs: usize,
-)
-    requires i_lt_task_limit { (i < task_limit) × (last < task_limit) × (jobs < task_limit) }
-    requires at_lt_time_limit { (at < time_limit) × (entry_at period.now i < 2 ^ 62) × (entry_at deadline.now i < 2 ^ 62) }
-    ensures { (releases.new ≡ inserted releases.old last (at * span + entry_at period.now i))
-        × (ready.new ≡ inserted ready.old jobs (at * span + entry_at deadline.now i))
-        × (left.new ≡ set left.old i (entry_at cost.now i)) }
+fn release(columns: &Columns, kept: &mut Kept, at: u64, i: usize, jobs: usize)
+    requires i_lt_task_limit { (i < task_limit) × (columns.now.last < task_limit) × (jobs < task_limit) }
+    requires at_lt_time_limit { (at < time_limit) × (entry_at columns.now.period i < 2 ^ 62) × (entry_at columns.now.deadline i < 2 ^ 62) }
+    ensures { kept.new ≡ record {
+      releases = inserted kept.old.releases columns.now.last (at * span + entry_at columns.now.period i);
+      ready = inserted kept.old.ready jobs (at * span + entry_at columns.now.deadline i);
+      left = set kept.old.left i (entry_at columns.now.cost i);
+      worst = kept.old.worst;
+    } }
 {
-    insert(releases, last, at * SPAN + period[i]);
-    insert(ready, jobs, at * SPAN + deadline[i]);
-    left[i] = cost[i];
+    insert(
+        &mut kept.releases,
+        columns.last,
+        at * SPAN + columns.period[i],
+    );
+    insert(&mut kept.ready, jobs, at * SPAN + columns.deadline[i]);
+    kept.left[i] = columns.cost[i];
 }
 
 // The jobs that are released now, and how many are open then.
-fn release_all(
-    period: &Times,
-    cost: &Times,
-    deadline: &Times,
-    releases: &mut Times,
-    ready: &mut Times,
-    left: &mut Times,
-    last: usize,
-    at: u64,
-    opened: usize,
-) -> usize
-    requires { (t : Table) × Due t period.now cost.now deadline.now releases.old ready.old left.old last at opened }
-    ensures { (t : Table) → Due t period.now cost.now deadline.now releases.old
-        ready.old left.old last at opened
-        → Held t at (wait_released t (walked t at) false) (left_released t (walked t at) false) releases.new ready.new
-        left.new result }
+fn release_all(columns: &Columns, kept: &mut Kept, at: u64, opened: usize) -> usize
+    requires { DueIn columns.now kept.old at opened }
+    ensures held { HeldIn columns.now at (wait_released columns.now.table (walked columns.now.table at) false)
+        (left_released columns.now.table (walked columns.now.table at) false) kept.new result }
+    ensures worst { kept.new.worst ≡ kept.old.worst }
 {
     let mut jobs = opened;
-    while time_of(releases[last]) == at {
-        let i = task_of(releases[last]);
-        release(
-            period, cost, deadline, releases, ready, left, last, at, i, jobs,
-        );
-        jobs = jobs + 1;
+    while time_of(kept.releases[columns.last]) == at {
+        let i = task_of(kept.releases[columns.last]);
+        release(columns, kept, at, i, jobs);
+        jobs += 1;
     }
     jobs
 }
@@ -263,25 +254,28 @@ fn next_late(ready: &Times, jobs: usize, due: u64, done: u64) -> bool
 
 // The job of task i is done, no later than its deadline; `jobs` others are open.
 fn finish(
-    deadline: &Times,
-    ready: &Times,
-    left: &mut Times,
-    worst: &mut Numbers,
+    columns: &Columns,
+    kept: &mut Kept,
     i: usize,
     due: u64,
     done: u64,
     jobs: usize,
     idle: u64,
 ) -> Landed
-    requires { (i < task_limit) × (jobs ≤ task_limit) × (done ≤ due) × (due - done ≤ entry_at deadline.now i / span)
-        × (entry_at deadline.now i / span < 2 ^ 32) }
-    ensures { (left.new ≡ set left.old i 0)
-        × (worst.new ≡ noted worst.old i (entry_at deadline.now i / span - (due - done)))
-        × (result ≡ done_at done jobs idle (next_late ready.now jobs due done)) }
+    requires { (i < task_limit) × (jobs ≤ task_limit) × (done ≤ due) × (due - done ≤ (task columns.now.table i).deadline) }
+    ensures kept { kept.new ≡ record kept.old {
+      left = set kept.old.left i 0;
+      worst = noted kept.old.worst i ((task columns.now.table i).deadline - (due - done));
+    } }
+    ensures landed { result ≡ done_at done jobs idle (next_late kept.old.ready jobs due done) }
 {
-    left[i] = 0;
-    note(worst, i, (time_of(deadline[i]) - (due - done)) as u32);
-    let over = next_late(ready, jobs, due, done);
+    kept.left[i] = 0;
+    note(
+        &mut kept.worst,
+        i,
+        columns.table.tasks[i].deadline - (due - done) as u32,
+    );
+    let over = next_late(&kept.ready, jobs, due, done);
     Landed {
         time: done,
         jobs,
@@ -292,31 +286,18 @@ fn finish(
 }
 
 // From now, with all releases made, to the next release or finish, or to where the walk is over.
-fn turn(
-    deadline: &Times,
-    releases: &Times,
-    ready: &Times,
-    left: &mut Times,
-    worst: &mut Numbers,
-    last: usize,
-    at: u64,
-    end: u64,
-    jobs: usize,
-    idle: u64,
-) -> Landed
-    requires { (t : Table) × Ready t deadline.now releases.now ready.now left.old worst.old last at end jobs idle }
-    ensures { (t : Table) → Ready t deadline.now releases.now ready.now left.old
-        worst.old last at end jobs idle → Landing t at end releases.now ready.now left.new
-        worst.new result }
+fn turn(columns: &Columns, kept: &mut Kept, at: u64, end: u64, jobs: usize, idle: u64) -> Landed
+    requires { ReadyIn columns.now kept.old at end jobs idle }
+    ensures { LandingIn columns.now at end kept.new result }
 {
-    let soon = time_of(releases[last]);
+    let soon = time_of(kept.releases[columns.last]);
     if jobs == 0 {
         return rest(at, soon, end, idle);
     }
-    let key = ready[jobs - 1];
+    let key = kept.ready[jobs - 1];
     let i = task_of(key);
     let due = time_of(key);
-    let done = at + left[i];
+    let done = at + kept.left[i];
     if soon < done {
         if due <= soon {
             return stop(due, end, jobs, idle);
@@ -324,7 +305,7 @@ fn turn(
         if end < soon {
             return stop(due, end, jobs, idle);
         }
-        left[i] = done - soon;
+        kept.left[i] = done - soon;
         return going(soon, jobs, idle);
     }
     if due < done {
@@ -333,34 +314,16 @@ fn turn(
     if end < done {
         return stop(due, end, jobs, idle);
     }
-    finish(deadline, ready, left, worst, i, due, done, jobs - 1, idle)
+    finish(columns, kept, i, due, done, jobs - 1, idle)
 }
 
 // The releases of now, and the turn after them.
-pub fn leap(
-    period: &Times,
-    cost: &Times,
-    deadline: &Times,
-    releases: &mut Times,
-    ready: &mut Times,
-    left: &mut Times,
-    worst: &mut Numbers,
-    last: usize,
-    end: u64,
-    here: Landed,
-) -> Landed
-    requires { (t : Table) × Here t period.now cost.now deadline.now releases.old ready.old left.old worst.old last end here }
-    ensures { (t : Table) → Here t period.now cost.now deadline.now releases.old
-        ready.old left.old worst.old last end here
-        → Landing t here.time end releases.new ready.new left.new worst.new result }
+pub fn leap(columns: &Columns, kept: &mut Kept, end: u64, here: Landed) -> Landed
+    requires { HereIn columns.now kept.old end here }
+    ensures { LandingIn columns.now here.time end kept.new result }
 {
-    let at = here.time;
-    let jobs = release_all(
-        period, cost, deadline, releases, ready, left, last, at, here.jobs,
-    );
-    turn(
-        deadline, releases, ready, left, worst, last, at, end, jobs, here.idle,
-    )
+    let jobs = release_all(columns, kept, here.time, here.jobs);
+    turn(columns, kept, here.time, end, jobs, here.idle)
 }
 
 // A walk stops where it is over, or where no job is open at `again` or later.

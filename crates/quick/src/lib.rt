@@ -30,8 +30,8 @@ fn due_by(k: Task, u: u64) -> u64
     requires u_le_round_limit { u ≤ round_limit }
     ensures { result ≡ due_by k u }
 {
-    let period = words::to_u64(k.period);
-    (u + period - words::to_u64(k.deadline)) / period
+    let period = u64::from(k.period);
+    (u + period - u64::from(k.deadline)) / period
 }
 
 fn look(t: Table, u: u64) -> Seen
@@ -39,19 +39,14 @@ fn look(t: Table, u: u64) -> Seen
     requires u_le_round_limit { u ≤ round_limit }
     ensures { result.asked ≡ asked t u }
 {
-    let n = t.count;
-    let mut slots: u64 = 0;
-    let mut next = u + words::to_u64(SLOT_LIMIT);
-    for i in 0..n {
-        let task = t.tasks[i];
-        let jobs = due_by(task, u);
-        slots = slots + words::to_u64(task.cost) * jobs;
-        next = words::smaller(
-            next,
-            words::to_u64(task.deadline) + words::to_u64(task.period) * jobs,
-        );
+    let mut asked = 0;
+    let mut next = u + u64::from(SLOT_LIMIT);
+    for task in &t.tasks[..t.count] {
+        let jobs = due_by(*task, u);
+        asked += u64::from(task.cost) * jobs;
+        next = next.min(u64::from(task.deadline) + u64::from(task.period) * jobs);
     }
-    Seen { asked: slots, next }
+    Seen { asked, next }
 }
 
 // No earlier instant asks for more than `high` does, so the way down leaps to that number; the way up finds early failures soon.
@@ -61,14 +56,14 @@ fn all_enough(t: Table, bound: u64) -> bool
     ensures { result ≡ every (enough t) (suc bound) }
 {
     let mut high = bound;
-    let mut low: u64 = 0;
+    let mut low = 0;
     while 0 < high {
         let above = look(t, high);
         if high < above.asked {
             return false;
         }
-        high = words::smaller(above.asked, high - 1);
-        if low < words::smaller(EARLY, high) {
+        high = above.asked.min(high - 1);
+        if low < EARLY.min(high) {
             let below = look(t, low);
             if low < below.asked {
                 return false;
@@ -85,8 +80,8 @@ fn slack_of(k: Task, round: u64) -> u64
     requires round_le_round_limit { round ≤ round_limit }
     ensures { result ≡ slack_of k round }
 {
-    let period = words::to_u64(k.period);
-    words::to_u64(k.cost) * ((period - words::to_u64(k.deadline)) * (round / period))
+    let period = u64::from(k.period);
+    u64::from(k.cost) * ((period - u64::from(k.deadline)) * (round / period))
 }
 
 fn slack(t: Table, round: u64) -> u64
@@ -94,10 +89,9 @@ fn slack(t: Table, round: u64) -> u64
     requires round_kept { RoundKept t round }
     ensures { result ≡ slackTotal t }
 {
-    let n = t.count;
-    let mut total: u64 = 0;
-    for i in 0..n {
-        total = total + slack_of(t.tasks[i], round);
+    let mut total = 0;
+    for task in &t.tasks[..t.count] {
+        total += slack_of(*task, round);
     }
     total
 }
@@ -116,7 +110,7 @@ fn bound(t: Table, m: Measure) -> u64
     if spare == 0 {
         return m.round;
     }
-    words::smaller((slack - m.round) / spare, m.round)
+    ((slack - m.round) / spare).min(m.round)
 }
 
 // No overload, and enough up to the bound. Of buttons too: what comes as it likes is worst if all comes at once.

@@ -6,21 +6,9 @@ ghost use Rattle.std.specs.Prelude.{◌≡◌, ◌≤◌, ◌<◌, Ok};
 ghost use Rattle.model.specs.Tasks.{task};
 ghost use Rattle.model.specs.Patterns.{distance_answer};
 ghost use Rattle.model.specs.Room.{room_with, room as roomOf, room_told, room_answer};
-ghost use Rattle.patterns.specs.Room.{is_passed};
 ghost use Rattle.room.specs.Halving.{Well};
 
-use values::{Admission, ByDistance, DistanceAnswer, Fault, Refusal, Table};
-
-fn is_pass(said: DistanceAnswer) -> bool
-    ensures { result ≡ is_passed said }
-{
-    match said {
-        Err(_) => false,
-        Ok(ByDistance::Overload) => false,
-        Ok(ByDistance::Pass) => true,
-        Ok(ByDistance::NoAnswer) => false,
-    }
-}
+use values::{Admission, ByDistance, Fault, Refusal, Table};
 
 // One trial.
 fn passes_with(t: Table, i: usize, cost: u32) -> bool
@@ -29,10 +17,13 @@ fn passes_with(t: Table, i: usize, cost: u32) -> bool
     requires i_bound { ((task t i).cost ≤ cost) × (cost ≤ (task t i).deadline) }
     ensures { result ≡ room_with t i cost }
 {
-    is_pass(distance::test(largest::with_cost(t, i, cost)))
+    matches!(
+        distance::test(largest::with_cost(t, i, cost)),
+        Ok(ByDistance::Pass)
+    )
 }
 
-// The cost in the middle is tried, between one that passes and one that does not or is past the deadline.
+// Between the present cost, which passes, and the first past the deadline.
 fn search(t: Table, i: usize) -> u32
     requires well { Well t }
     requires i_lt_count { i < t.count }
@@ -40,17 +31,7 @@ fn search(t: Table, i: usize) -> u32
     ensures { result ≡ roomOf t i }
 {
     let task = t.tasks[i];
-    let mut passes = task.cost;
-    let mut fails = task.deadline + 1;
-    while fails - passes > 1 {
-        let middle = passes + (fails - passes) / 2;
-        if passes_with(t, i, middle) {
-            passes = middle;
-        } else {
-            fails = middle;
-        }
-    }
-    passes
+    halving::last_passing(task.cost, task.deadline + 1, |cost| passes_with(t, i, cost))
 }
 
 fn told(t: Table, i: usize) -> u64
@@ -62,7 +43,7 @@ fn told(t: Table, i: usize) -> u64
     match said {
         Err(why) => numbers::refusal_number(why),
         Ok(ByDistance::Overload) => 60_001,
-        Ok(ByDistance::Pass) => search(t, i) as u64,
+        Ok(ByDistance::Pass) => u64::from(search(t, i)),
         Ok(ByDistance::NoAnswer) => 60_003,
     }
 }

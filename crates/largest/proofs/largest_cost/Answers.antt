@@ -1,14 +1,8 @@
 -- By what the table is judged to be, and whether the number is one of its tasks.
-use mathlib.Core.Path.{sym, ◌∙◌}
 use native.Mathlib.Omega.{arith}
-use borrow.Author.Rules.{rules}
 use borrow.Author.Tests.{lt-ltb, le-ltb}
 use Rattle.model.specs.Largest.{cost_answer}
 use Rattle.largest.proofs.largest_cost.Goals as goal
-
-pub told-requires : goal.told-requires
-told-requires c =
-    record { t_value = sym c.judge.ensures ∙ c.in-Ok.is; i_lt_count = omega arith }
 
 pub returns-in-Err : goal.returns-in-Err
 unfolding cost_answer

@@ -1,14 +1,16 @@
--- Before each trial a cost passes, and one above it does not or is past the deadline; the range between them falls.
-use mathlib.Core.Path.{sym, ◌∙◌}
-use Prim.Native.Nat.{ℕ, ◌+◌, ◌-◌, ◌/◌}
+-- The number that is found passes, or is the present cost; the next one does not, or is past the deadline.
+use mathlib.Core.Logic.{inl, inr}
+use mathlib.Core.Path.{◌≡◌, refl}
+use Prim.Native.Nat.{◌+◌, ◌≤◌}
 use native.Mathlib.Omega.{arith}
-use Rattle.largest.specs.Halving.{ranged_of, Halving, halving_start, halving_up, halving_down, halving_end}
-use Rattle.largest.proofs.search.Goals.{At-loop-fails}
+use mathlib.Core.Bool.{true, false}
+use borrow.Author.Rules.{rules}
+use lib.Dec.{T}
+use Rattle.model.specs.Tasks.{task}
+use Rattle.model.specs.Largest.{passes_with}
+use Rattle.largest.specs.Halving.{ranged_of, halving_start, halving_end}
+use Rattle.largest.proofs.search.Goals.{After-last_passing}
 use Rattle.largest.proofs.search.Goals as goal
-
--- The cost that is tried.
-abbrev middle : At-loop-fails → ℕ
-middle a = a.loop-fails.passes + (a.loop-fails.fails - a.loop-fails.passes) / 2
 
 pub offset_bounds-t-i : goal.offset_bounds-t-i
 offset_bounds-t-i c = omega (arith, (ranged_of c.args.t c.args.m c.requires.t_value).few)
@@ -16,54 +18,36 @@ offset_bounds-t-i c = omega (arith, (ranged_of c.args.t c.args.m c.requires.t_va
 pub bounds-t-i : goal.bounds-t-i
 bounds-t-i c = omega (arith, (ranged_of c.args.t c.args.m c.requires.t_value).few)
 
-pub overflow_add-fails : goal.overflow_add-fails
-overflow_add-fails c =
+pub overflow_add-task : goal.overflow_add-task
+overflow_add-task c =
     let k = (ranged_of c.args.t c.args.m c.requires.t_value).each c.args.i c.requires.i_lt_count in
     omega (arith, k.deadline_le, k.period_le)
 
-pub loop-fails-init : goal.loop-fails-init
-loop-fails-init c =
-    halving_start c.args.t c.args.m c.requires.t_value c.args.i c.args.budget c.requires.i_lt_count c.requires.budget_value _ (omega arith)
+pub last_passing-requires-clause-apart : goal.last_passing-requires-clause-apart
+last_passing-requires-clause-apart c =
+    let k = (ranged_of c.args.t c.args.m c.requires.t_value).each c.args.i c.requires.i_lt_count in omega (arith, k.cost_le)
 
-pub overflow_sub-fails : goal.overflow_sub-fails
-overflow_sub-fails c = omega arith
+-- So it passes, and the next one does not.
+passed : (c : After-last_passing) → T (passes_with c.args.t c.args.i c.args.budget c.last_passing.result)
+passed c =
+    let k = c.last_passing.result in
+    let start = halving_start c.args.t c.args.m c.requires.t_value c.args.i c.args.budget c.requires.i_lt_count c.requires.budget_value _ refl in
+    elim c.last_passing.ensures.passed [
+      | inl e ↦ rw e start.passed
+      | inr q ↦ (let told : passes_with c.args.t c.args.i c.args.budget k ≡ true = search rules in rw told tt)
+    ]
 
-pub overflow_sub-middle : goal.overflow_sub-middle
-overflow_sub-middle c = omega arith
-
-pub overflow_add-middle : goal.overflow_add-middle
-overflow_add-middle c = omega arith
-
-pub passes_with-requires : goal.passes_with-requires
-passes_with-requires c =
-    let h = c.loop-fails.invariant in record {
-      t_value = c.requires.t_value;
-      i_lt_count = c.requires.i_lt_count;
-      i_bound = (omega (arith, h.least), omega (arith, h.upto));
-    }
-
-pub loop-fails-smaller-then-passes_with : goal.loop-fails-smaller-then-passes_with
-loop-fails-smaller-then-passes_with c = omega arith
-
-pub loop-fails-preserved-then-passes_with : goal.loop-fails-preserved-then-passes_with
-loop-fails-preserved-then-passes_with c =
-    halving_up c.args.t c.args.i c.args.budget c.loop-fails.passes c.loop-fails.fails
-    (middle (goal.at.loop-fails-preserved-then-passes_with c).At-loop-fails) c.loop-fails.invariant (omega arith) (omega arith)
-    (sym c.passes_with.ensures ∙ c.if-passes_with.true)
-
-pub loop-fails-smaller : goal.loop-fails-smaller
-loop-fails-smaller c = omega arith
-
-pub loop-fails-preserved : goal.loop-fails-preserved
-loop-fails-preserved c =
-    halving_down c.args.t c.args.i c.args.budget c.loop-fails.passes c.loop-fails.fails (middle (goal.at.loop-fails-preserved c).At-loop-fails)
-    c.loop-fails.invariant (omega arith) (omega arith)
-    (sym c.passes_with.ensures ∙ c.if-passes_with.false)
+failed : (c : After-last_passing) → c.last_passing.result + 1 ≤ (task c.args.t c.args.i).deadline
+    → T (passes_with c.args.t c.args.i c.args.budget (c.last_passing.result + 1)) → ⊥
+failed c l h = elim c.last_passing.ensures.failed [
+  | inl e ↦ absurd (omega arith)
+  | inr q ↦ (let told : passes_with c.args.t c.args.i c.args.budget (c.last_passing.result + 1) ≡ false = search rules in rw told at h)
+]
 
 pub returns : goal.returns
 returns c =
-    omega (
-      arith,
-      halving_end c.args.t c.args.m c.requires.t_value c.args.i c.args.budget c.requires.i_lt_count c.requires.budget_value c.loop-fails.passes
-          c.loop-fails.fails c.loop-fails.invariant (omega arith),
-    )
+    let at = (goal.at.returns c).After-last_passing in
+    let w = c.last_passing.ensures.within in
+    halving_end c.args.t c.args.m c.requires.t_value c.args.i c.args.budget c.requires.i_lt_count c.requires.budget_value
+    c.last_passing.result (c.last_passing.result + 1)
+    (record { least = w.0; apart = omega arith; upto = omega (arith, w.1); passed = passed at; failed = failed at }) (omega arith)

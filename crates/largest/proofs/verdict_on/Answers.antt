@@ -2,7 +2,6 @@
 use mathlib.Core.Path.{◌≡◌, sym, ◌∙◌}
 use Prim.Native.Nat.{ℕ}
 use native.Mathlib.Omega.{arith}
-use borrow.Author.Rules.{rules}
 use Rattle.wellformed.specs.WellFormed.{periodic_iff}
 use Rattle.largest.specs.Halving.{says, quick_says}
 use Rattle.largest.proofs.verdict_on.Goals as goal

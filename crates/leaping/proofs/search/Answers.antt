@@ -3,57 +3,58 @@ use mathlib.Core.Path.{◌≡◌, refl, sym, ap, subst, ◌∙◌}
 use mathlib.Core.List.{List}
 use Prim.Native.Nat.{ℕ, ◌-◌, ◌/◌, ◌%◌, ◌≤◌, ◌<◌}
 use native.Mathlib.Omega.{arith}
+use mathlib.Core.Bool.{Bool, true, false, not}
 use lib.Dec.{T}
-use borrow.Author.Rules.{rules}
-use Rattle.values.specs.declared.Table.{Table}
 use Rattle.model.specs.Limits.{task_limit}
 use Rattle.model.specs.Tasks.{task, offset}
 use Rattle.backlog.specs.Taken.{wait_start}
 use Rattle.slots.specs.Slot.{at as entry_at}
 use Rattle.leaps.specs.Entry.{places, span}
 use Rattle.leaps.proofs.Entries.{entry_time}
-use Rattle.leaps.specs.declared.Columns.{Columns}
-use Rattle.leaps.specs.Columns.{Marked, marked, columned}
-use Rattle.leaps.specs.Leaping.{Here}
+use Rattle.leaps.specs.Columns.{marked}
+use Rattle.leaps.specs.Kept.{columned_last, here_in, landing_of}
 use Rattle.leaps.proofs.Leaping.{leaping_start, here_next}
-use Rattle.leaping.specs.Start.{Searching, searching_start, some_left, crowded, asked_le, task_lt, length_in, found, goes_on}
+use Rattle.leaping.specs.Start.{searching_start, some_left, crowded, asked_le, task_lt, length_in, found, goes_on}
 use Rattle.leaping.specs.Ended.{late_ended, quiet_ended, idled}
-use Rattle.leaping.proofs.search.Goals.{After-leap-here, After-task_of-i, After-time_of-length, At-loop-count, At-search, Start, Then-here}
+use Rattle.leaping.proofs.search.Goals.{then-idling, else-idling+then-not-here, else-idling+else-not-here+then-length-count, After-leap-here, After-task_of-i, After-time_of-length, At-loop-count, At-search}
 use Rattle.leaping.proofs.search.Goals as goal
+
+was_true : (b : Bool) → not b ≡ false → b ≡ true
+was_true true e = refl
+was_true false e = sym e
+
+was_false : (b : Bool) → not b ≡ true → b ≡ false
+was_false true e = sym e
+was_false false e = refl
 
 -- Its job that is counted next.
 busy : (c : At-loop-count) → 0 < c.loop-count.jobs
 busy c =
     let h = c.search.invariant.0 in
-    some_left _ h.ranged _ c.loop-count.invariant ((c.leap-here.ensures _ h).late c.if-here.true)
+    some_left _ h.ranged _ c.loop-count.invariant ((landing_of _ c.unpack-columns.ensures c.leap-here.ensures).late (was_true _ c.if-not-here.false))
 
 few : (c : At-loop-count) → c.loop-count.jobs ≤ task_limit
 few c = let h = c.search.invariant.0 in omega (arith, crowded _ h.ranged _ c.loop-count.invariant, h.ranged.few)
 
-pub overflow_sub-last : goal.overflow_sub-last
-overflow_sub-last c = omega (arith, c.requires.ranged.some)
-
 pub unpack-columns-requires : goal.unpack-columns-requires
 unpack-columns-requires c = c.requires.ranged
 
-pub first_releases-releases-requires : goal.first_releases-releases-requires
-first_releases-releases-requires c =
+pub first_releases-requires : goal.first_releases-requires
+first_releases-requires c =
     let r = c.requires.ranged in
     record { ranged = r; marked = marked _ r.few c.unpack-columns.ensures }
 
 pub search-init : goal.search-init
 search-init c =
     let p = c.requires in
-    let r = p.ranged in
-    let columns = c.unpack-columns.ensures in (
-      leaping_start _ r p.t_bound (columned _ r.few columns) p.end_le_horizon_limit c.first_releases-releases.ensures c.going-here.ensures,
-      marked _ r.few columns,
+    let r = p.ranged in (
+      leaping_start _ r p.t_bound (columned_last _ c.unpack-columns.ensures r.few) p.end_le_horizon_limit c.first_releases.ensures c.going-here.ensures,
       refl,
       refl,
     )
 
 pub leap-here-requires : goal.leap-here-requires
-leap-here-requires c = (_, c.search.invariant.0)
+leap-here-requires c = here_in _ c.unpack-columns.ensures c.search.invariant.0
 
 pub offsets-offset-requires : goal.offsets-offset-requires
 offsets-offset-requires c = c.search.invariant.0.ranged.few
@@ -61,19 +62,13 @@ offsets-offset-requires c = c.search.invariant.0.ranged.few
 pub last_jobs-lasts-requires : goal.last_jobs-lasts-requires
 last_jobs-lasts-requires c =
     let i = c.search.invariant in
-    record { ranged = i.0.ranged; marked = i.1; to_le_horizon_limit = omega (arith, (c.leap-here.ensures _ i.0).upto, i.0.limit) }
+    record { ranged = i.0.ranged; marked = marked _ i.0.ranged.few c.unpack-columns.ensures; to_le_horizon_limit = omega (arith, (landing_of _ c.unpack-columns.ensures c.leap-here.ensures).upto, i.0.limit) }
 
 pub loop-count-init : goal.loop-count-init
 loop-count-init c = searching_start _ c.search.invariant.0.ranged _ c.last_jobs-lasts.ensures
 
 pub overflow_sub-key : goal.overflow_sub-key
 overflow_sub-key c = omega (arith, busy (goal.at.overflow_sub-key c).At-loop-count)
-
-pub offset_bounds-queue-jobs : goal.offset_bounds-queue-jobs
-offset_bounds-queue-jobs c = omega (arith, few (goal.at.offset_bounds-queue-jobs c).At-loop-count)
-
-pub bounds-queue-jobs : goal.bounds-queue-jobs
-bounds-queue-jobs c = omega (arith, busy (goal.at.bounds-queue-jobs c).At-loop-count, few (goal.at.bounds-queue-jobs c).At-loop-count)
 
 -- Its task is one of the table, and what is read of it as the laws say it.
 own : (c : After-task_of-i) → c.task_of-i.result < c.args.t.count
@@ -101,14 +96,14 @@ long c =
     length_in _ c.search.invariant.0.ranged _ c.loop-count.invariant (busy (goal.at.After-time_of-length c).At-loop-count) c.time_of-length.result
     c.time_of-length.ensures
 
+pub offset_bounds-queue-jobs : goal.offset_bounds-queue-jobs
+offset_bounds-queue-jobs c = omega (arith, few (goal.at.offset_bounds-queue-jobs c).At-loop-count)
+
+pub bounds-queue-jobs : goal.bounds-queue-jobs
+bounds-queue-jobs c = omega (arith, busy (goal.at.bounds-queue-jobs c).At-loop-count, few (goal.at.bounds-queue-jobs c).At-loop-count)
+
 pub overflow_sub-from : goal.overflow_sub-from
 overflow_sub-from c = (long (goal.at.overflow_sub-from c).After-time_of-length).1
-
-pub offset_bounds-cost-i : goal.offset_bounds-cost-i
-offset_bounds-cost-i c = omega (arith, low (goal.at.offset_bounds-cost-i c).After-task_of-i)
-
-pub bounds-cost-i : goal.bounds-cost-i
-bounds-cost-i c = omega (arith, low (goal.at.bounds-cost-i c).After-task_of-i)
 
 pub overflow_add-count : goal.overflow_add-count
 overflow_add-count c =
@@ -117,7 +112,7 @@ overflow_add-count c =
     omega (
       arith,
       asked_le _ h.ranged _ c.loop-count.invariant,
-      (c.leap-here.ensures _ h).upto,
+      (landing_of _ c.unpack-columns.ensures c.leap-here.ensures).upto,
       h.limit,
       h.columns.costs _ (own (goal.at.overflow_add-count c).After-task_of-i),
       each.cost_le,
@@ -128,19 +123,7 @@ overflow_add-count c =
 pub demand-asked-requires : goal.demand-asked-requires
 demand-asked-requires c =
     let h = c.search.invariant.0 in
-    record { ranged = h.ranged; from_le_to = (omega arith, omega (arith, (c.leap-here.ensures _ h).upto, h.limit)) }
-
-pub offset_bounds-period-i : goal.offset_bounds-period-i
-offset_bounds-period-i c = omega (arith, low (goal.at.offset_bounds-period-i c).After-task_of-i)
-
-pub bounds-period-i : goal.bounds-period-i
-bounds-period-i c = omega (arith, low (goal.at.bounds-period-i c).After-task_of-i)
-
-pub offset_bounds-offset-i : goal.offset_bounds-offset-i
-offset_bounds-offset-i c = omega (arith, low (goal.at.offset_bounds-offset-i c).After-task_of-i)
-
-pub bounds-offset-i : goal.bounds-offset-i
-bounds-offset-i c = omega (arith, low (goal.at.bounds-offset-i c).After-task_of-i)
+    record { ranged = h.ranged; from_le_to = (omega arith, omega (arith, (landing_of _ c.unpack-columns.ensures c.leap-here.ensures).upto, h.limit)) }
 
 pub requeue-jobs-requires : goal.requeue-jobs-requires
 requeue-jobs-requires c =
@@ -148,10 +131,10 @@ requeue-jobs-requires c =
       busy (goal.at.requeue-jobs-requires c).At-loop-count,
       few (goal.at.requeue-jobs-requires c).At-loop-count,
       omega (arith, long (goal.at.requeue-jobs-requires c).After-time_of-length, c.time_of-length.ensures),
-      omega (arith, (c.leap-here.ensures _ h).upto, h.limit),
+      omega (arith, (landing_of _ c.unpack-columns.ensures c.leap-here.ensures).upto, h.limit),
       omega (
         arith,
-        c.time_of.ensures,
+        c.time_of-period.ensures,
         period-is (goal.at.requeue-jobs-requires c).After-task_of-i,
         (h.ranged.each _ (own (goal.at.requeue-jobs-requires c).After-task_of-i)).period_le,
       ),
@@ -173,7 +156,7 @@ pub loop-count-preserved : goal.loop-count-preserved
 loop-count-preserved c =
     let r = c.search.invariant.0.ranged in
     let t = c.args.t in
-    let period = c.time_of.ensures ∙ period-is (goal.at.loop-count-preserved c).After-task_of-i ∙ ap (λ (i : ℕ). (task t i).period) c.task_of-i.ensures in
+    let period = c.time_of-period.ensures ∙ period-is (goal.at.loop-count-preserved c).After-task_of-i ∙ ap (λ (i : ℕ). (task t i).period) c.task_of-i.ensures in
     let first : entry_at c.offsets-offset.result c.task_of-i.result
     ≡ offset (task t (entry_at c.loop-count.queue (c.loop-count.jobs - 1) % places)) = ap (λ (w : List ℕ). entry_at w c.task_of-i.result)
     c.offsets-offset.ensures ∙ wait_start t r _ (own (goal.at.loop-count-preserved c).After-task_of-i) ∙ ap (λ (i : ℕ). offset (task t i))
@@ -186,38 +169,44 @@ loop-count-preserved c =
 
 pub search-smaller : goal.search-smaller
 search-smaller c =
-    let z = c.leap-here.ensures _ c.search.invariant.0 in
+    let z = landing_of _ c.unpack-columns.ensures c.leap-here.ensures in
     omega (arith, z.upto, (z.goes (c.stops.ensures.0 c.if-stops.false)).0)
 
 pub search-preserved : goal.search-preserved
 search-preserved c =
-    let (h, mark, none, at_end_lem) = c.search.invariant in
-    (here_next h (c.leap-here.ensures _ h) (c.stops.ensures.0 c.if-stops.false), mark, none, at_end_lem)
+    let (h, none, at_end_lem) = c.search.invariant in
+    (here_next h (landing_of _ c.unpack-columns.ensures c.leap-here.ensures) (c.stops.ensures.0 c.if-stops.false), none, at_end_lem)
 
-pub returns-then-idling : goal.returns-then-idling
-returns-then-idling c =
-    let h = c.search.invariant.0 in record {
-      ended = λ e. absurd (subst T (sym c.if-idling.true ∙ e) tt);
-      idled = λ e. idled _ h.ranged h.light (c.leap-here.ensures _ h) (c.stops.ensures.1 c.if-stops.true);
-    }
-
-pub returns-then-length-count : goal.returns-then-length-count
-returns-then-length-count c =
-    let h = c.search.invariant.0 in
-    let asked = c.demand-asked.ensures in
-    let (much, last) = found _ h.ranged _ c.loop-count.invariant (busy (goal.at.returns-then-length-count c).At-loop-count) c.time_of-length.result
-    c.time_of-length.ensures
-    (omega (arith, c.if-length-count.true, cost-is (goal.at.returns-then-length-count c).After-task_of-i)) in record {
-      ended = λ e. late_ended _ h.ranged h.light (c.leap-here.ensures _ h) c.if-here.true _ _
-          (omega (arith, long (goal.at.returns-then-length-count c).After-time_of-length)) asked
-          (omega (arith, long (goal.at.returns-then-length-count c).After-time_of-length, much, asked)) last;
-      idled = λ e. absurd (subst T (sym e ∙ c.if-idling.false) tt);
-    }
-
-pub returns-else-here : goal.returns-else-here
-returns-else-here c =
-    let (h, mark, none, at_end_lem) = c.search.invariant in
-    let stopped = c.stops.ensures.1 c.if-stops.true in record {
-      ended = λ e. quiet_ended _ h.ranged h.light (c.leap-here.ensures _ h) stopped (c.requires.rounded e) c.if-here.false _ _ _ none at_end_lem;
-      idled = λ e. absurd (subst T (sym e ∙ c.if-idling.false) tt);
-    }
+pub returns : goal.returns
+returns c =
+    let (h, none, at_end_lem) = c.search.invariant in
+    let z = landing_of _ c.unpack-columns.ensures c.leap-here.ensures in
+    let stopped = c.stops.ensures.1 c.if-stops.true in
+    elim c.if-idling.branch [
+      | then-idling w ↦
+          rw (w.from-is, w.asked-is, w.at-is) (record {
+            ended = λ e. absurd (subst T (sym w.if-idling.true ∙ e) tt);
+            idled = λ e. idled _ h.ranged h.light z stopped;
+          })
+      | else-idling+then-not-here w ↦
+          rw (w.from-is, w.asked-is, w.at-is) (record {
+            ended = λ e. quiet_ended _ h.ranged h.light z stopped (c.requires.rounded e) (was_false _ w.if-not-here.true) _ _ _ none at_end_lem;
+            idled = λ e. absurd (subst T (sym e ∙ w.if-idling.false) tt);
+          })
+      | else-idling+else-not-here+then-length-count w ↦
+          let t = c.args.t in
+          let late = was_true _ w.if-not-here.false in
+          let some = some_left _ h.ranged _ w.loop-count.invariant (z.late late) in
+          let own : w.task_of-i.result < t.count = omega (arith, w.task_of-i.ensures, task_lt _ h.ranged _ w.loop-count.invariant some) in
+          let cost : entry_at c.unpack-columns.result.cost w.task_of-i.result
+          ≡ (task t (entry_at w.loop-count.queue (w.loop-count.jobs - 1) % places)).cost =
+          h.columns.costs _ own ∙ ap (λ (i : ℕ). (task t i).cost) w.task_of-i.ensures in
+          let long = length_in _ h.ranged _ w.loop-count.invariant some w.time_of-length.result w.time_of-length.ensures in
+          let asked = w.demand-asked.ensures in
+          let (much, last) = found _ h.ranged _ w.loop-count.invariant some w.time_of-length.result w.time_of-length.ensures
+          (omega (arith, w.if-length-count.true, cost)) in
+          rw (w.from-is, w.asked-is, w.at-is) (record {
+            ended = λ e. late_ended _ h.ranged h.light z late _ _ (omega (arith, long)) asked (omega (arith, long, much, asked)) last;
+            idled = λ e. absurd (subst T (sym e ∙ w.if-idling.false) tt);
+          })
+    ]

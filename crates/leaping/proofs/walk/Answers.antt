@@ -2,7 +2,6 @@
 use mathlib.Core.Path.{◌≡◌, refl}
 use Prim.Native.Nat.{min}
 use native.Mathlib.Omega.{arith}
-use borrow.Author.Rules.{rules}
 use Rattle.wellformed.specs.WellFormed.{well_formed}
 use Rattle.leaping.proofs.walk.Goals as goal
 
@@ -14,12 +13,12 @@ search-requires c =
     let f = well_formed _ _ c.requires.t_value in record {
       ranged = f.ranged;
       t_bound = omega (arith, c.requires.load_le_round, f.load_is, f.round_is);
-      end_le_horizon_limit = omega (arith, c.smaller-end.ensures, f.horizon_is, f.horizon_le);
+      end_le_horizon_limit = omega (arith, c.min-end.ensures, f.horizon_is, f.horizon_le);
       rounded = λ e i l. omega (arith, f.round_is, f.horizon_is, f.offset_le i l);
     }
 
 pub returns : goal.returns
 returns c =
-    let ends : c.smaller-end.result ≡ min c.args.budget c.args.m.horizon = omega (arith, c.smaller-end.ensures) in
+    let ends : c.min-end.result ≡ min c.args.budget c.args.m.horizon = omega (arith, c.min-end.ensures) in
     let (tally, way) = c.search.ensures.ended refl in
     record { tally = tally; way = rw ends at way }

@@ -1,10 +1,7 @@
 -- The loop has moved the entries from j on; what is left to do is to put x in among the first j.
-use mathlib.Core.Path.{◌≡◌, refl, ◌∙◌}
-use mathlib.Core.Logic.{inl, inr}
-use Prim.Native.Nat.{◌≤◌, ◌-◌}
+use mathlib.Core.Path.{refl, ◌∙◌}
 use native.Mathlib.Omega.{arith}
-use Rattle.leaps.specs.Queue.{inserted, inserted_none, inserted_here, inserted_below}
-use borrow.Author.Rules.{rules}
+use Rattle.leaps.specs.Queue.{inserted_none, inserted_here, inserted_below}
 use Rattle.leaps.proofs.insert.Goals.{else-loop-j-test, then-loop-j-test+then-x-above}
 use Rattle.leaps.proofs.insert.Goals as goal
 

@@ -1,10 +1,7 @@
 -- The loop has moved the entries from j on; what is left to do is to put x in among the first j.
-use mathlib.Core.Path.{◌≡◌, refl, ◌∙◌}
-use mathlib.Core.Logic.{inl, inr}
-use Prim.Native.Nat.{◌≤◌, ◌-◌}
-use native.Mathlib.Omega.{arith}
-use Rattle.leaps.specs.Queue.{inserted, inserted_none, inserted_here, inserted_below}
-use borrow.Author.Rules.{rules}
+use mathlib.Core.Path.{◌≡◌}
+use Prim.Native.Nat.{◌≤◌}
+use Rattle.leaps.specs.Queue.{inserted}
 use Rattle.leaps.proofs.insert.Given as goal
 
 abbrev pub invariant-loop-j : goal.invariant-loop-j

@@ -3,12 +3,10 @@ use Rattle.leaps.proofs.Leaping.{due_now, ready_now}
 use Rattle.leaps.proofs.leap.Goals as goal
 
 pub release_all-jobs-requires : goal.release_all-jobs-requires
-release_all-jobs-requires c = let (t, h) = c.requires in (t, due_now h)
+release_all-jobs-requires c = due_now c.requires
 
 pub turn-requires : goal.turn-requires
-turn-requires c =
-    let (t, h) = c.requires in
-    (t, ready_now h (c.release_all-jobs.ensures t (due_now h)))
+turn-requires c = rw c.release_all-jobs.ensures.worst (ready_now c.requires c.release_all-jobs.ensures.held)
 
 pub returns : goal.returns
-returns c t h = c.turn.ensures t (ready_now h (c.release_all-jobs.ensures t (due_now h)))
+returns c = c.turn.ensures

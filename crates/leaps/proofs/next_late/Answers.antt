@@ -1,7 +1,6 @@
 -- Done before the deadline; no other job; the next one.
 use native.Mathlib.Omega.{arith}
 use borrow.Author.Tests.{lt-ltb, le-ltb}
-use borrow.Author.Rules.{rules}
 use Rattle.leaps.proofs.next_late.Goals as goal
 
 pub returns-then-done-due : goal.returns-then-done-due

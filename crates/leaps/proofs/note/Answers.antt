@@ -1,6 +1,5 @@
 -- A larger response, and one that is not.
 use Rattle.leaps.specs.Landed.{noted_more, noted_same}
-use borrow.Author.Rules.{rules}
 use Rattle.leaps.proofs.note.Goals as goal
 
 pub returns-then-worst-i : goal.returns-then-worst-i

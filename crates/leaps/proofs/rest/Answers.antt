@@ -1,6 +1,5 @@
 -- A release comes before the end, and does not.
 use borrow.Author.Tests.{lt-ltb, le-ltb}
-use borrow.Author.Rules.{rules}
 use Rattle.leaps.proofs.rest.Goals as goal
 
 pub returns-then-soon-end : goal.returns-then-soon-end

@@ -1,6 +1,5 @@
 -- The deadline is no later than the end, and later.
 use borrow.Author.Tests.{le-leb, lt-leb}
-use borrow.Author.Rules.{rules}
 use Rattle.leaps.proofs.stop.Goals as goal
 
 pub returns-then-due-end : goal.returns-then-due-end

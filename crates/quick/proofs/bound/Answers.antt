@@ -1,5 +1,5 @@
 -- The three bounds.
-use mathlib.Core.Path.{◌≡◌}
+use mathlib.Core.Path.{◌≡◌, ◌∙◌}
 use Prim.Native.Nat.{◌-◌, ◌/◌, min}
 use native.Mathlib.Omega.{arith}
 use Rattle.wellformed.specs.WellFormed.{well_mixed}
@@ -18,5 +18,6 @@ returns-then-spare-eq0 c = (omega arith, beyond_round _ c.requires.t_value c.req
 
 pub returns : goal.returns
 returns c =
-    let is : c.smaller.result ≡ min ((slack c.args.t - c.args.m.round) / (c.args.m.round - c.args.m.load)) c.args.m.round = cc in
+    let is : c.min.result ≡ min ((slack c.args.t - c.args.m.round) / (c.args.m.round - c.args.m.load)) c.args.m.round =
+    c.min.ensures ∙ rw c.slack-slack.ensures in
     (omega arith, beyond_slack _ c.requires.t_value c.requires.load_le_round (omega (arith, c.if-spare-eq0.false)) _ is)

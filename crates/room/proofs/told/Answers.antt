@@ -14,7 +14,7 @@ pub returns-in-Overload : goal.returns-in-Overload
 returns-in-Overload c = rw (← c.test-said.ensures, c.in-Overload.is)
 
 pub returns-in-Pass : goal.returns-in-Pass
-returns-in-Pass c = rw (← c.test-said.ensures, c.in-Pass.is, ← c.search.ensures)
+returns-in-Pass c = rw (← c.test-said.ensures, c.in-Pass.is, c.from.ensures, ← c.search.ensures)
 
 pub returns-in-NoAnswer : goal.returns-in-NoAnswer
 returns-in-NoAnswer c = rw (← c.test-said.ensures, c.in-NoAnswer.is)
