@@ -1,5 +1,5 @@
 // What a slot reads of a table, and the slot itself.
-ghost use Rattle.std.specs.Prelude.{◌≡◌, cond, ◌+◌, ◌*◌, ◌-◌, ◌≤◌, ◌<◌, ◌^◌, ltb, eqb};
+ghost use Rattle.std.specs.Prelude.{◌≡◌, set, ◌+◌, ◌*◌, ◌-◌, ◌≤◌, ◌<◌, ◌^◌};
 ghost use Rattle.model.specs.Limits.{task_limit};
 
 use crate::{NO_TASK, Numbers, Ranks};
@@ -11,19 +11,20 @@ const RANKS: u64 = 0x1_0000;
 const NO_KEY: u64 = 0xffff_ffff_ffff_ffff;
 
 // How many tasks there are, and a list for each of their numbers. The slack is T - D: the wait of a job at its deadline.
+// The ranks stand first: the code of a slot then goes through all lists by one index, and behind them it took up to 1.4 times as long.
 #[derive(Clone, Copy)]
 pub struct Columns {
+    pub rank: Ranks,
     pub count: usize,
     pub period: Numbers,
     pub cost: Numbers,
     pub slack: Numbers,
-    pub rank: Ranks,
     pub ghost few: { count ≤ task_limit },
 }
 
 impl Columns {
     ghost use Rattle.model.specs.Notation.{bits};
-    ghost use Rattle.slots.specs.Slot.{is_late, put_all};
+    ghost use Rattle.slots.specs.Slot.{is_late, put_all, wait_released, left_released};
     ghost use Rattle.slots.specs.Serve.{Served};
 
     // The open jobs at their deadline, as a set of bits.
@@ -54,9 +55,7 @@ impl Columns {
                     return None;
                 }
             }
-            let (now, open) = released(wait[i], left[i], self.period[i], self.cost[i]);
-            wait[i] = now.saturating_sub(1);
-            left[i] = open;
+            let (now, open) = self.renew(wait, left, i);
             if 0 < open {
                 let key = key_of(now.saturating_sub(self.slack[i]), self.rank[i]);
                 if key < least {
@@ -71,16 +70,25 @@ impl Columns {
         }
         Some(owner)
     }
-}
 
-// The wait and the slots left of a task once its job, if one is due, is released.
-fn released(wait: u32, left: u32, period: u32, cost: u32) -> (u32, u32)
-    ensures { (result.0 ≡ cond (eqb wait 0) period wait) × (result.1 ≡ cond (eqb wait 0) cost left) }
-{
-    if wait == 0 {
-        (period, cost)
-    } else {
-        (wait, left)
+    // One task in a slot: the release, if its wait is 0, and then the wait one lower. It tells the wait and the slots left in between.
+    fn renew(&self, wait: &mut Numbers, left: &mut Numbers, i: usize) -> (u32, u32)
+        requires { i < task_limit }
+        ensures { (result.0 ≡ wait_released wait.old self.now.period i)
+            × (result.1 ≡ left_released wait.old left.old self.now.cost i)
+            × (wait.new ≡ set wait.old i (result.0 - 1)) × (left.new ≡ set left.old i result.1) }
+    {
+        let before = wait[i];
+        if before == 0 {
+            let next = self.period[i];
+            let fresh = self.cost[i];
+            wait[i] = next.saturating_sub(1);
+            left[i] = fresh;
+            (next, fresh)
+        } else {
+            wait[i] = before - 1;
+            (before, left[i])
+        }
     }
 }
 

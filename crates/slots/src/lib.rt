@@ -40,11 +40,11 @@ pub fn unpack(t: Table) -> Columns
         rank[i] = rank_of(*task);
     }
     Columns {
+        rank,
         count: t.count,
         period,
         cost,
         slack,
-        rank,
     }
 }
 

@@ -35,25 +35,26 @@ loop-i-preserved c =
     let el = fill_read _ _ _ 0 v.lefts in
     let i = c.loop-i.i in
     let k = c.args.self.now in
-    let w' : c.released-now.result.0 ≡ wait_released c.args.wait.now k.period i = rw ew at c.released-now.ensures.0 in
-    let l : c.released-now.result.1 ≡ left_released c.args.wait.now c.args.left.now k.cost i = rw (ew, el) at c.released-now.ensures.1 in
+    let w' : c.renew-now.result.0 ≡ wait_released c.args.wait.now k.period i = rw ew at c.renew-now.ensures.0 in
+    let l : c.renew-now.result.1 ≡ left_released c.args.wait.now c.args.left.now k.cost i = rw (ew, el) at c.renew-now.ensures.1 in
     let calm : 0 < at c.args.left.now i → at c.args.wait.now i ≡ at k.slack i → ⊥ = elim c.if-left-i-gt0.branch [
       | then-left-i-gt0+else-wait-i w ↦ (λ p q. w.if-wait-i.false (ew ∙ q))
       | else-left-i-gt0 w ↦ (λ p q. absurd (omega (arith, w.if-left-i-gt0.false, el)))
     ] in
     let few : i < task_limit = omega (arith, k.few) in
-    let lower = c.saturating_sub.ensures in (
+    let tw = c.renew-now.ensures.2 in
+    let tl = c.renew-now.ensures.3 in (
       omega arith,
       elim c.if-open-gt0.branch [
         | then-open-gt0+then-key-least w ↦
-            rw (w.owner-is, w.least-is, w.rest-is, lower)
-            (serve_first _ _ _ _ _ _ _ v w' l calm few (key _ _ _ _ w.if-open-gt0.true w.saturating_sub-then-open-gt0.ensures w.key_of-key.ensures.0)
-            (rw w.saturating_sub-then-open-gt0.ensures at w.key_of-key.ensures.1) w.key_of-key.ensures.2 w.if-key-least.true)
+            rw (w.owner-is, w.least-is, w.rest-is, tw, tl)
+            (serve_first _ _ _ _ _ _ _ v w' l calm few (key _ _ _ _ w.if-open-gt0.true w.saturating_sub.ensures w.key_of-key.ensures.0)
+            (rw w.saturating_sub.ensures at w.key_of-key.ensures.1) w.key_of-key.ensures.2 w.if-key-least.true)
         | then-open-gt0+else-key-least w ↦
-            rw (w.owner-is, w.least-is, w.rest-is, lower)
-            (serve_later _ _ _ _ _ _ _ v w' l calm few (key _ _ _ _ w.if-open-gt0.true w.saturating_sub-then-open-gt0.ensures w.key_of-key.ensures.0)
-            (rw w.saturating_sub-then-open-gt0.ensures at w.key_of-key.ensures.1) w.key_of-key.ensures.2 w.if-key-least.false)
-        | else-open-gt0 w ↦ rw (w.owner-is, w.least-is, w.rest-is, lower) (serve_closed _ _ _ _ _ _ _ v w' l calm w.if-open-gt0.false)
+            rw (w.owner-is, w.least-is, w.rest-is, tw, tl)
+            (serve_later _ _ _ _ _ _ _ v w' l calm few (key _ _ _ _ w.if-open-gt0.true w.saturating_sub.ensures w.key_of-key.ensures.0)
+            (rw w.saturating_sub.ensures at w.key_of-key.ensures.1) w.key_of-key.ensures.2 w.if-key-least.false)
+        | else-open-gt0 w ↦ rw (w.owner-is, w.least-is, w.rest-is, tw, tl) (serve_closed _ _ _ _ _ _ _ v w' l calm w.if-open-gt0.false)
       ],
     )
 
