@@ -1,5 +1,5 @@
 -- What is left and what was taken make what can be counted.
-use Rattle.std.proofs.Common.{◌∙◌, ◌<◌, arith, length, get_or}
+use Rattle.std.proofs.Common.{◌∙◌, ◌<◌, ◌≤◌, arith, length, get_or}
 use Rattle.std.proofs.lemmas.Result.{err_from_is_err_and}
 use Rattle.belonging.specs.Room.{room_start, room_again, room_beyond, room_end}
 use Rattle.belonging.proofs.room_for.Goals as goal
@@ -18,7 +18,8 @@ returns-in_err-room c =
 pub loop-slots-preserved : goal.loop-slots-preserved
 loop-slots-preserved c =
     let some = rw c.in_ok-room.ensures.ok_part at c.checked_sub.ensures in
-    rw some.1 (room_again _ _ (length c.args.given.now) _ _ c.loop-slots.invariant some.0)
+    let enough : get_or c.args.given.now c.loop-slots.slots-index 0 ≤ c.loop-slots.room = omega (arith, some.0) in
+    rw some.1 (room_again _ _ (length c.args.given.now) _ _ c.loop-slots.invariant enough)
 
 pub returns : goal.returns
 returns c = room_end _ _ _ _ _ c.loop-slots.invariant (omega arith)
