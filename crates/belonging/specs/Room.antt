@@ -1,5 +1,5 @@
 -- How many slots a state that belongs to a table can still count.
-use Rattle.std.specs.Prelude.{◌≡◌, refl, List, cond, ℕ, suc, ◌+◌, ◌-◌, ◌≤◌, ◌<◌, ltb, Ok, Err}
+use Rattle.std.specs.Prelude.{◌≡◌, refl, List, Result, Ok, Err, cond, ℕ, suc, ◌+◌, ◌-◌, ◌≤◌, ◌<◌, ltb}
 use Rattle.std.proofs.Math.Path.{ap}
 use Rattle.std.proofs.Common.{add-one, lt-ltb, le-ltb}
 use native.Mathlib.Omega.{arith}
@@ -12,28 +12,27 @@ use Rattle.model.specs.Values.{refusal, Admission}
 use Rattle.model.specs.Tasks.{measure}
 use Rattle.model.specs.Dispatcher.{State, slot_count, admitted_by}
 use Rattle.counting.specs.Sum.{sum_longer}
-use Rattle.belonging.specs.declared.Room.{Room}
 
 -- By whether a state is admitted, and the slots that it counts.
-abbrev pub room_by : Admission → ℕ → Room
-room_by (Err r) slots = Room.Refused r
-room_by (Ok u) slots = Room.Slots (slot_count_limit - slots)
+abbrev pub room_by : Admission → ℕ → Result ℕ Refusal
+room_by (Err r) slots = Err r
+room_by (Ok u) slots = Ok (slot_count_limit - slots)
 
 -- Of a well-formed table; and where nothing but the sum can be against a state.
-abbrev pub belonging : Table → State → Room
+abbrev pub belonging : Table → State → Result ℕ Refusal
 belonging t d = room_by (admitted_by t d (Ok (measure t))) (slot_count t d)
 
-unfoldable pub room_for : List ℕ → ℕ → ℕ → Room
+unfoldable pub room_for : List ℕ → ℕ → ℕ → Result ℕ Refusal
 room_for given empty n =
     let slots = sum n (λ i. get_or given i 0) + empty in
     room_by (cond (ltb slot_count_limit slots) (Err (refusal 8 sum_place)) (Ok tt)) slots
 
 -- What the room tells of the admission.
-pub refused_tells : (a : Admission) (slots : ℕ) (r : Refusal) → room_by a slots ≡ Room.Refused r → a ≡ Err r
+pub refused_tells : (a : Admission) (slots : ℕ) (r : Refusal) → room_by a slots ≡ Err r → a ≡ Err r
 refused_tells (Err q) slots r e = let same : q ≡ r = cc in rw same
 refused_tells (Ok u) slots r e = let z : ◌≡◌ {A = ℕ} 0 1 = cc in absurd (omega arith)
 
-pub slots_tell : (a : Admission) (slots room : ℕ) → room_by a slots ≡ Room.Slots room → (a ≡ Ok tt) × (room ≡ slot_count_limit - slots)
+pub slots_tell : (a : Admission) (slots room : ℕ) → room_by a slots ≡ Ok room → (a ≡ Ok tt) × (room ≡ slot_count_limit - slots)
 slots_tell (Err q) slots room e = let z : ◌≡◌ {A = ℕ} 0 1 = cc in absurd (omega arith)
 slots_tell (Ok u) slots room e = (refl, cc)
 
@@ -51,12 +50,12 @@ module _ (given : List ℕ) (empty n i room : ℕ) (e : Left given empty i room)
   unfolding sum
   room_again l = rw (add-one i) (omega arith)
 
-  pub room_beyond : i < n → room < get_or given i 0 → Room.Refused (refusal 8 sum_place) ≡ room_for given empty n
+  pub room_beyond : i < n → room < get_or given i 0 → Err (refusal 8 sum_place) ≡ room_for given empty n
   unfolding room_for sum
   room_beyond l h = rw (lt-ltb slot_count_limit (sum n (λ k. get_or given k 0) + empty)
       (omega (arith, sum_longer (λ k. get_or given k 0) (suc i) n (omega arith))))
 
-  pub room_end : i ≡ n → Room.Slots room ≡ room_for given empty n
+  pub room_end : i ≡ n → Ok room ≡ room_for given empty n
   unfolding room_for
   room_end same =
       let all : sum i (λ k. get_or given k 0) ≡ sum n (λ k. get_or given k 0) = ap (λ (k : ℕ). sum k (λ k. get_or given k 0)) same in

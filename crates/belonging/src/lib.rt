@@ -1,7 +1,7 @@
 // Whether a state belongs to a table: the places of 8 in their order, or how many slots the state can still count.
 #![tactic(auto)]
 
-ghost use Rattle.std.specs.Prelude.{◌≡◌, not, ◌||◌, ◌-◌, max, ◌≤◌, ltb, eqb};
+ghost use Rattle.std.specs.Prelude.{◌≡◌, not, ◌||◌, ◌-◌, max, ◌≤◌, ltb, eqb, length};
 ghost use Rattle.model.specs.Limits.{task_limit};
 ghost use Rattle.model.specs.Values.{refusal};
 ghost use Rattle.model.specs.Tasks.{offset};
@@ -17,77 +17,57 @@ const SUM_PLACE: u32 = NO_TASK + 1;
 // A number of slots for each task.
 pub type Counts = [u64; TASK_LIMIT];
 
-// A state's refusal, or how many slots it can still count.
-#[derive(Clone, Copy)]
-pub enum Room {
-    Refused(Refusal),
-    Slots(u64),
-}
-
-// The places of 8, in their order.
-pub fn belonging(d: State, t: Table) -> Room
+// The state's refusal, by the places of 8 in their order; or how many slots it can still count.
+pub fn belonging(d: State, t: Table) -> Result<u64, Refusal>
     requires { t.count ≤ task_limit }
     ensures { result ≡ belonging t d }
 {
-    let n = t.count;
-    for i in 0..n {
-        if is_strange(t.tasks[i], d.wait[i], d.left[i]) {
-            return strange_state(i as u32);
+    for (i, task) in t.tasks[..t.count].iter().enumerate() {
+        if is_strange(*task, d.wait[i], d.left[i]) {
+            return Err(strange_state(i as u32));
         }
     }
-    if last_strange(d.last, n) {
-        return strange_state(NO_TASK);
+    if last_strange(d.last, t.count) {
+        return Err(strange_state(NO_TASK));
     }
-    let given = d.given;
-    room_for(&given, d.empty, n)
+    room_for(&d.given[..t.count], d.empty)
 }
 
 // The state does not belong to the table: this task is the first that does not, or no task is.
-fn strange_state(place: u32) -> Room
-    ensures { result ≡ Room.Refused (refusal 8 place) }
+fn strange_state(place: u32) -> Refusal
+    ensures { result ≡ refusal 8 place }
 {
-    Room::Refused(Refusal::new(Fault::StrangeState, place))
+    Refusal::new(Fault::StrangeState, place)
 }
 
 // The sum is never made: each count is taken from what can be counted, for as long as it can.
-fn room_for(given: &Counts, empty: u64, n: usize) -> Room
-    requires { n ≤ task_limit }
-    ensures { result ≡ room_for given.now empty n }
+fn room_for(given: &[u64], empty: u64) -> Result<u64, Refusal>
+    ensures { result ≡ room_for given.now empty (length given.now) }
 {
     let mut room = SLOT_COUNT_LIMIT - empty;
-    for i in 0..n {
-        let slots = given[i];
-        if room < slots {
-            return strange_state(SUM_PLACE);
-        }
-        room = room - slots;
+    for slots in given {
+        room = room.checked_sub(*slots).ok_or(strange_state(SUM_PLACE))?;
     }
-    Room::Slots(room)
+    Ok(room)
 }
 
 fn is_strange(task: Task, wait: u32, left: u32) -> bool
     ensures { result ≡ strange_at task wait left }
 {
-    if waits_too_long(task, wait) {
-        return true;
-    }
-    if task.cost < left {
-        return true;
-    }
-    0 < left && cannot_be_open(task, wait)
+    waits_too_long(task, wait) || task.cost < left || 0 < left && cannot_be_open(task, wait)
 }
 
 fn waits_too_long(task: Task, wait: u32) -> bool
     ensures { result ≡ ltb (max (offset task) task.period) wait }
 {
-    sorts::offset_of(task) < wait && task.period < wait
+    sorts::offset_of(task).max(task.period) < wait
 }
 
 // A job that was released r slots ago and is not past its deadline waits T - r, with r from 1 to D.
 fn cannot_be_open(task: Task, wait: u32) -> bool
     ensures { result ≡ (ltb wait (task.period - task.deadline) || ltb (task.period - 1) wait) }
 {
-    wait < slots::less(task.period, task.deadline) || slots::less(task.period, 1) < wait
+    wait < task.period.saturating_sub(task.deadline) || task.period.saturating_sub(1) < wait
 }
 
 fn last_strange(last: u32, n: usize) -> bool

@@ -1,5 +1,5 @@
 -- A step by what the slot's rules make of the lists.
-use Rattle.std.specs.Prelude.{◌≡◌, refl, ◌⊎◌, List, Bool, true, false, cond, ◌&&◌, ℕ, ◌+◌, ◌-◌, ◌<◌, T, ltb, eqb, length, get_or, Ok}
+use Rattle.std.specs.Prelude.{◌≡◌, refl, ◌⊎◌, List, Option, Some, None, IsSome, Bool, true, false, cond, ◌&&◌, ℕ, ◌+◌, ◌-◌, ◌<◌, T, ltb, eqb, length, get_or, Ok}
 use Rattle.std.proofs.Common.{sym, subst, ◌∙◌, arith, le-ltb}
 use Rattle.std.proofs.Math.Path.{ap}
 use Rattle.std.proofs.Math.Logic.{inl, inr}
@@ -17,9 +17,8 @@ use Rattle.counting.specs.Count.{and_iff, one_of_iff}
 use Rattle.counting.specs.Sum.{sum_member}
 use Rattle.counting.specs.Fill.{fill_eq, fill_same, fill_again}
 use Rattle.counting.specs.Bits.{bits_eq, in_bits, ones_bits, trailing_bits}
-use Rattle.slots.specs.declared.Columns.{Columns}
-use Rattle.slots.specs.Columns.{columns_of}
-use Rattle.slots.specs.declared.Seen.{Seen}
+use Rattle.slots.specs.declared.columns.Columns.{Columns}
+use Rattle.slots.specs.Columns.{columns_of, Unpacked}
 use Rattle.slots.specs.Slot.{closed, is_late as isLateIn, put_all}
 use Rattle.slots.specs.Serve.{Served}
 use Rattle.slots.specs.Laws.{Has, fill_has, closed_fill, slack_has, Slotted, table_served}
@@ -36,10 +35,6 @@ taken t d done = record { answer = Ok (turn t d done); state = after t d done }
 -- A step on a well-formed table: refused by 8 or by 9, or taken.
 abbrev pub step_well_formed : Table → State → Bool → Stepped
 step_well_formed t d done = step_admitted_by t (tie_order t) d done (admitted_by t d (Ok (measure t)))
-
--- These lists, of n tasks, are the table's.
-abbrev pub Unpacked : Table → List ℕ → List ℕ → List ℕ → List ℕ → ℕ → Type 0
-Unpacked t period cost slack rank n = (n ≡ t.count) × (record { period = period; cost = cost; slack = slack; rank = rank } ≡ columns_of t)
 
 -- What a step that nothing refuses may assume; so it is of a state that is admitted and can count a slot more.
 pub record Unrefused (t : Table) (d : State) : Type 0 where
@@ -105,7 +100,7 @@ module _ (t : Table) (d : State) (done : Bool) (unrefused : Unrefused t d) (whol
       ))
 
   -- Rules 3 and 4.
-  module _ {left wait' left' : List ℕ} {seen : Seen} (e : left ≡ fill t.count (left_late t d done) d.left)
+  module _ {left wait' left' : List ℕ} {seen : Option ℕ} (e : left ≡ fill t.count (left_late t d done) d.left)
       (s : Served d.wait left (columns_of t).period (columns_of t).cost (columns_of t).slack (columns_of t).rank t.count wait' left' seen) where
     -- Once the late jobs are closed none is left.
     calm : (i : ℕ) → i < t.count → T (isLateIn d.wait left (columns_of t).slack t.count i) → ⊥
@@ -116,53 +111,54 @@ module _ (t : Table) (d : State) (done : Bool) (unrefused : Unrefused t d) (whol
         go true q x = ((and_iff (ltb i t.count) false).0 x).1
         go false q x = subst T q x
 
-    none_late : seen.late ≡ false
-    none_late = go seen.late refl
+    pub one_owns : IsSome seen
+    one_owns = go seen refl
       where
-        go : (b : Bool) → seen.late ≡ b → seen.late ≡ false
-        go true q = let (i, l, h) = s.found q in absurd (calm i l h)
-        go false q = q
+        go : (o : Option ℕ) → seen ≡ o → IsSome o
+        go None q = let (i, l, h) = s.found q in absurd (calm i l h)
+        go (Some owner) q = refl
 
-    slot : Slotted t.count (wait_of d) (left_late t d done) (λ i. (task t i).period) (λ i. (task t i).cost)
-        (λ i. (task t i).period - (task t i).deadline) (tie_order t) d.wait left wait' left' seen.owner
-    slot =
-        table_served t unrefused.ranged.few d.wait left (wait_of d) (left_late t d done) (λ i l. refl) (filled_has (left_late t d done) e)
-        (s.slot none_late)
+    module _ {owner : ℕ} (o : seen ≡ Some owner) where
+      slot : Slotted t.count (wait_of d) (left_late t d done) (λ i. (task t i).period) (λ i. (task t i).cost)
+          (λ i. (task t i).period - (task t i).deadline) (tie_order t) d.wait left wait' left' owner
+      slot =
+          table_served t unrefused.ranged.few d.wait left (wait_of d) (left_late t d done) (λ i l. refl) (filled_has (left_late t d done) e)
+          (s.slot owner o)
 
-    owner_is : seen.owner ≡ owner_now t d done
-    unfolding owner_now_by
-    owner_is = slot.owned
+      owner_is : owner ≡ owner_now t d done
+      unfolding owner_now_by
+      owner_is = slot.owned
 
-    lefts_are : left' ≡ fill t.count (λ i. left_released t d done i - cond (eqb (owner_now t d done) i) 1 0) d.left
-    lefts_are = rw owner_is at (slot.lefts ∙ ap (fill t.count _) e ∙ fill_again t.count _ _ d.left)
+      lefts_are : left' ≡ fill t.count (λ i. left_released t d done i - cond (eqb (owner_now t d done) i) 1 0) d.left
+      lefts_are = rw owner_is at (slot.lefts ∙ ap (fill t.count _) e ∙ fill_again t.count _ _ d.left)
 
   -- All four, from the lists that the code makes, and the slot counted.
-  module _ {period cost slack rank : List ℕ} {n : ℕ} (c : Unpacked t period cost slack rank n) {left left₂ wait' left' : List ℕ} {late : ℕ} {seen : Seen}
+  module _ {k : Columns} (c : Unpacked t k) {left left₂ wait' left' : List ℕ} {late : ℕ} {seen : Option ℕ}
       (a : left ≡ cond done (closed d.left d.last) d.left)
-      (b : late ≡ bits (isLateIn d.wait left slack n) task_limit)
-      (e : left₂ ≡ put_all left late 0 n)
-      (s : Served d.wait left₂ period cost slack rank n wait' left' seen) where
-    slacks : slack ≡ (columns_of t).slack
-    slacks = ap (λ (x : Columns). x.slack) c.1
-
+      (b : late ≡ bits (isLateIn d.wait left k.slack k.count) task_limit)
+      (e : left₂ ≡ put_all left late 0 k.count)
+      (s : Served d.wait left₂ k.period k.cost k.slack k.rank k.count wait' left' seen) where
     late_are : late ≡ bits (is_late t d done) task_limit
-    late_are = late_bits (done_fill a) (rw (slacks, c.0) at b)
+    late_are = late_bits (done_fill a) (rw (c.slacks, c.tasks) at b)
 
     lefts_left : left₂ ≡ fill t.count (left_late t d done) d.left
-    lefts_left = late_fill (done_fill a) late_are (rw c.0 at e)
+    lefts_left = late_fill (done_fill a) late_are (rw c.tasks at e)
 
     serving : Served d.wait left₂ (columns_of t).period (columns_of t).cost (columns_of t).slack (columns_of t).rank t.count wait' left' seen
-    serving = rw (ap (λ (x : Columns). x.period) c.1, ap (λ (x : Columns). x.cost) c.1, slacks, ap (λ (x : Columns). x.rank) c.1, c.0) at s
+    serving = rw (c.periods, c.costs, c.slacks, c.ranks, c.tasks) at s
 
-    pub advanced_is : Advanced t d done (record { wait = wait'; left = left'; owner = seen.owner; late = late })
+    pub owner_there : IsSome seen
+    owner_there = one_owns lefts_left serving
+
+    pub advanced_is : {owner : ℕ} → seen ≡ Some owner → Advanced t d done (record { wait = wait'; left = left'; owner = owner; late = late })
     unfolding after_by
-    advanced_is = record {
-      waits = (slot lefts_left serving).waits;
-      lefts = lefts_are lefts_left serving;
-      owned = owner_is lefts_left serving;
-      lates =
-          late_are;
-    }
+    advanced_is o =
+        record {
+          waits = (slot lefts_left serving o).waits;
+          lefts = lefts_are lefts_left serving o;
+          owned = owner_is lefts_left serving o;
+          lates = late_are;
+        }
 
 -- And the slot counted: the owner is a task of the table or none, and its count has room for one slot more.
 module _ (t : Table) (d : State) (done : Bool) (unrefused : Unrefused t d) (m : Moved) (a : Advanced t d done m) where

@@ -1,20 +1,22 @@
 // The dispatcher: a start on any table, and a step on any table and any state.
 #![tactic(auto)]
 
-ghost use Rattle.std.specs.Prelude.{◌≡◌, cond, List, ℕ, ◌+◌, ◌<◌, eqb, get_or};
+ghost use Rattle.std.specs.Prelude.{◌≡◌, cond, ◌+◌, ◌<◌, ◌≤◌, eqb, get_or};
 ghost use Rattle.values.specs.declared.Table.{Table};
 ghost use Rattle.model.specs.Limits.{task_limit, slot_count_limit};
 ghost use Rattle.model.specs.Notation.{bit};
 ghost use Rattle.model.specs.Values.{refusal};
-ghost use Rattle.model.specs.Dispatcher.{refuse_step, started, stepped};
+ghost use Rattle.model.specs.Dispatcher.{refuse_step, start_of, started, stepped};
 ghost use Rattle.wellformed.specs.Ranges.{Ranged};
+ghost use Rattle.slots.specs.Columns.{Unpacked};
 ghost use Rattle.slots.specs.Slot.{closed};
 ghost use Rattle.dispatch.specs.State.{started_of, stepped_of};
 ghost use Rattle.dispatch.specs.Accounts.{counted};
-ghost use Rattle.dispatch.specs.Step.{Unpacked, Unrefused, state_with, Advanced, taken, step_well_formed, turn_of};
+ghost use Rattle.dispatch.specs.Step.{Unrefused, Advanced, taken, step_well_formed, turn_of};
 
-use belonging::{Counts, Room};
-use slots::{NO_TASK, Numbers, Ranks};
+use belonging::Counts;
+use slots::columns::Columns;
+use slots::{NO_TASK, Numbers};
 use values::{Admission, Fault, Refusal, SlotAnswer, State, Table, TASK_LIMIT, Turn};
 
 #[derive(Clone, Copy)]
@@ -47,13 +49,7 @@ impl Dispatcher {
             Ok(()) => Started {
                 admission: Ok(()),
                 dispatcher: Dispatcher {
-                    state: State {
-                        wait: slots::offsets(t),
-                        left: [0u32; TASK_LIMIT],
-                        last: NO_TASK,
-                        given: [0u64; TASK_LIMIT],
-                        empty: 0,
-                    },
+                    state: first_state(t),
                 },
             },
         }
@@ -67,6 +63,20 @@ impl Dispatcher {
             Err(why) => handed_back(state, why),
             Ok(()) => step_well_formed(state, t, done),
         }
+    }
+}
+
+// Nothing is given yet.
+pub fn first_state(t: Table) -> State
+    requires { t.count ≤ task_limit }
+    ensures { result ≡ start_of t }
+{
+    State {
+        wait: slots::offsets(t),
+        left: [0u32; TASK_LIMIT],
+        last: NO_TASK,
+        given: [0u64; TASK_LIMIT],
+        empty: 0,
     }
 }
 
@@ -85,51 +95,38 @@ fn step_well_formed(d: State, t: Table, done: bool) -> Stepped
     ensures { stepped_of result ≡ step_well_formed t d done }
 {
     match belonging::belonging(d, t) {
-        Room::Refused(why) => handed_back(d, why),
-        Room::Slots(room) => {
+        Err(why) => handed_back(d, why),
+        Ok(room) => {
             if room == 0 {
                 return handed_back(d, full_state());
             }
             let columns = slots::unpack(t);
-            let period = columns.period;
-            let cost = columns.cost;
-            let slack = columns.slack;
-            let rank = columns.rank;
-            step_taken(d, &period, &cost, &slack, &rank, t.count, done)
+            step_taken(d, &columns, done)
         }
     }
 }
 
-fn full_state() -> Refusal
+pub fn full_state() -> Refusal
     ensures { result ≡ refusal 9 0 }
 {
     Refusal::new(Fault::FullState, 0)
 }
 
 // The four rules of a step that nothing refuses, on a table that is unpacked, and the slot counted.
-fn step_taken(
-    d: State,
-    period: &Numbers,
-    cost: &Numbers,
-    slack: &Numbers,
-    rank: &Ranks,
-    n: usize,
-    done: bool,
-) -> Stepped
-    requires { (t : Table) × Unpacked t period.now cost.now slack.now rank.now n × Unrefused t d }
-    ensures { (t : Table) → Unpacked t period.now cost.now slack.now rank.now n → Unrefused t d
-        → stepped_of result ≡ taken t d done }
+fn step_taken(d: State, columns: &Columns, done: bool) -> Stepped
+    requires { (t : Table) × Unpacked t columns.now × Unrefused t d }
+    ensures { (t : Table) → Unpacked t columns.now → Unrefused t d → stepped_of result ≡ taken t d done }
 {
-    let wait = d.wait;
-    let left = d.left;
+    let Moved {
+        wait,
+        left,
+        owner,
+        late,
+    } = advance(d, columns, done);
     let mut given = d.given;
-    let moved = advance(wait, left, d.last, period, cost, slack, rank, n, done);
-    let owner = moved.owner;
-    let wait = moved.wait;
-    let left = moved.left;
     count_given(&mut given, owner);
     Stepped {
-        answer: Ok(turn_of(owner, moved.late)),
+        answer: Ok(turn_of(owner, late)),
         next: Dispatcher {
             state: State {
                 wait,
@@ -151,33 +148,21 @@ pub struct Moved {
     pub late: u32,
 }
 
-// The four rules on the lists alone: what is counted plays no part in them.
-pub fn advance(
-    wait: Numbers,
-    left: Numbers,
-    last: u32,
-    period: &Numbers,
-    cost: &Numbers,
-    slack: &Numbers,
-    rank: &Ranks,
-    n: usize,
-    done: bool,
-) -> Moved
-    requires { (t : Table) × (given : List ℕ) × (empty : ℕ) × Unpacked t period.now cost.now slack.now rank.now n
-        × Unrefused t (state_with wait left last given empty) }
-    ensures { (t : Table) (given : List ℕ) (empty : ℕ)
-        → Unpacked t period.now cost.now slack.now rank.now n
-        → Unrefused t (state_with wait left last given empty) → Advanced t (state_with wait left last given empty) done result }
+// The four rules on the lists alone: what is counted plays no part in them. Once the late jobs are closed, the slot meets none.
+pub fn advance(d: State, columns: &Columns, done: bool) -> Moved
+    requires { (t : Table) × Unpacked t columns.now × Unrefused t d }
+    ensures { (t : Table) → Unpacked t columns.now → Unrefused t d → Advanced t d done result }
 {
-    let mut next = wait;
-    let mut open = after_report(left, last, done);
-    let late = slots::late_set(&next, &open, slack, n);
-    slots::close_all(&mut open, late, n);
-    let seen = slots::serve(&mut next, &mut open, period, cost, slack, rank, n);
+    let mut wait = d.wait;
+    let mut left = d.left;
+    hear_report(&mut left, d.last, done);
+    let late = columns.late_set(&wait, &left);
+    columns.close_all(&mut left, late);
+    let owner = columns.serve(&mut wait, &mut left).unwrap();
     Moved {
-        wait: next,
-        left: open,
-        owner: seen.owner,
+        wait,
+        left,
+        owner,
         late,
     }
 }
@@ -188,8 +173,7 @@ pub fn count_given(given: &mut Counts, owner: u32)
     ensures { given.new ≡ counted given.old owner }
 {
     if owner < NO_TASK {
-        let i = owner as usize;
-        given[i] = given[i] + 1;
+        given[owner as usize] += 1;
     }
 }
 
@@ -207,14 +191,6 @@ pub fn hear_report(left: &mut Numbers, last: u32, done: bool)
     if done {
         slots::close(left, last);
     }
-}
-
-pub fn after_report(left: Numbers, last: u32, done: bool) -> Numbers
-    ensures { result ≡ cond done (closed left last) left }
-{
-    let mut open = left;
-    hear_report(&mut open, last, done);
-    open
 }
 
 pub fn turn_of(owner: u32, late: u32) -> Turn

@@ -1,5 +1,5 @@
 -- A step under presses by what the slot's rules make of the lists.
-use Rattle.std.specs.Prelude.{◌≡◌, ◌⊎◌, List, Bool, cond, ◌&&◌, ℕ, ◌+◌, ◌-◌, ◌<◌, T, ltb, get_or, Ok}
+use Rattle.std.specs.Prelude.{◌≡◌, ◌⊎◌, List, Option, Some, None, IsSome, Bool, cond, ◌&&◌, ℕ, ◌+◌, ◌-◌, ◌<◌, T, ltb, get_or, Ok}
 use Rattle.std.proofs.Math.Path.{refl}
 use Rattle.std.proofs.Common.{ap, ◌∙◌, eq-zero-or-pos, arith, lt-ltb, ltb→lt}
 use Rattle.std.proofs.Math.Logic.{inl, inr}
@@ -17,9 +17,8 @@ use Rattle.counting.specs.Count.{and_iff, one_of_iff}
 use Rattle.counting.specs.Sum.{sum_member}
 use Rattle.counting.specs.Fill.{fill_eq, fill_again}
 use Rattle.counting.specs.Bits.{bits_eq, in_bits, ones_bits, trailing_bits}
-use Rattle.slots.specs.declared.Columns.{Columns}
-use Rattle.slots.specs.Columns.{columns_of}
-use Rattle.slots.specs.declared.Seen.{Seen}
+use Rattle.slots.specs.declared.columns.Columns.{Columns}
+use Rattle.slots.specs.Columns.{columns_of, Unpacked}
 use Rattle.slots.specs.Slot.{at, closed, is_late as isLateIn, is_free, put_all}
 use Rattle.slots.specs.Serve.{Served}
 use Rattle.slots.specs.Laws.{Has, slack_has, Slotted, wait_then, left_then, table_served, fill_has}
@@ -29,7 +28,7 @@ use Rattle.backlog.specs.Choice.{choose_is, chosen_same}
 use Rattle.backlog.specs.Taken.{Belongs, known, still_open}
 use Rattle.backlog.specs.Coming.{due_come, chosen_come, one_come}
 use Rattle.dispatch.specs.Accounts.{counted, counted_fill}
-use Rattle.dispatch.specs.Step.{Unpacked, Unrefused, Whole, state_with, turn_of, done_fill, filled_has, late_bits, late_fill}
+use Rattle.dispatch.specs.Step.{Unrefused, Whole, state_with, turn_of, done_fill, filled_has, late_bits, late_fill}
 use Rattle.presses.specs.declared.Moved.{Moved}
 
 -- A step on a well-formed table: refused by 8 or by 9, or taken.
@@ -143,7 +142,7 @@ module _ (t : Table) (d : State) (done : Bool) (pressed : ℕ) (p : Pressable t 
       go (inr (h, c)) o = rw (h, c)
 
   -- Rules 3 and 4.
-  module _ {wait left wait' left' : List ℕ} {seen : Seen} (w : wait ≡ fill t.count held d.wait) (e : left ≡ fill t.count (left_late t d done) d.left)
+  module _ {wait left wait' left' : List ℕ} {seen : Option ℕ} (w : wait ≡ fill t.count held d.wait) (e : left ≡ fill t.count (left_late t d done) d.left)
       (s : Served wait left (columns_of t).period (columns_of t).cost (columns_of t).slack (columns_of t).rank t.count wait' left' seen) where
     has_waits : Has t.count wait held
     has_waits i l = rw w (fill_has t.count held d.wait (omega (arith, p.ranged.few, b.waits)) i l)
@@ -164,72 +163,74 @@ module _ (t : Table) (d : State) (done : Bool) (pressed : ℕ) (p : Pressable t 
         go some q (inl (h, c, z)) = omega (arith, none_open i l z)
         go some q (inr (h, c)) = (still_open t d done i l some).1 (rw h at q)
 
-    none_late : seen.late ≡ false
-    none_late = go seen.late refl
+    pub one_owns : IsSome seen
+    one_owns = go seen refl
       where
-        go : (c : Bool) → seen.late ≡ c → seen.late ≡ false
-        go true q = let (i, l, h) = s.found q in absurd (calm i l h)
-        go false q = q
+        go : (o : Option ℕ) → seen ≡ o → IsSome o
+        go None q = let (i, l, h) = s.found q in absurd (calm i l h)
+        go (Some owner) q = refl
 
-    slot : Slotted t.count held (left_late t d done) (λ i. (task t i).period) (λ i. (task t i).cost) (λ i. (task t i).period - (task t i).deadline)
-        (tie_order t) wait left wait' left' seen.owner
-    slot = table_served t p.ranged.few wait left held (left_late t d done) has_waits has_lefts (s.slot none_late)
+    module _ {owner : ℕ} (o : seen ≡ Some owner) where
+      slot : Slotted t.count held (left_late t d done) (λ i. (task t i).period) (λ i. (task t i).cost)
+          (λ i. (task t i).period - (task t i).deadline) (tie_order t) wait left wait' left' owner
+      slot = table_served t p.ranged.few wait left held (left_late t d done) has_waits has_lefts (s.slot owner o)
 
-    owner_is : seen.owner ≡ owner_come t d done (comes t d pressed)
-    owner_is =
-        slot.owned
-        ∙ chosen_same (λ i. ltb 0 (left_then held (left_late t d done) (λ k. (task t k).cost) i)) (λ i. ltb 0 (left_come t d done (comes t d pressed) i))
-        (λ i. wait_then held (λ k. (task t k).period) i - ((task t i).period - (task t i).deadline))
-        (due_come t p.ranged d done (comes t d pressed)) (tie_order t) t.count _ _ p.ranged.few
-        (λ i l h. rw (left_same i l) at h)
-        (λ i l h. rw (left_same i l) h)
-        (λ i k l m x y h. rw (due_same i l (opened i l x), due_same k m (opened k m y)) h)
-        (choose_is _ _ (tie_order t) t.count p.ranged.few) (chosen_come t p.ranged d done (comes t d pressed))
-      where
-        opened : (i : ℕ) → i < t.count → T (ltb 0 (left_then held (left_late t d done) (λ k. (task t k).cost) i)) → 0 < left_come t d done (comes t d pressed) i
-        opened i l x = ltb→lt 0 (left_come t d done (comes t d pressed) i) (rw (left_same i l) at x)
+      owner_is : owner ≡ owner_come t d done (comes t d pressed)
+      owner_is =
+          slot.owned
+          ∙ chosen_same (λ i. ltb 0 (left_then held (left_late t d done) (λ k. (task t k).cost) i)) (λ i. ltb 0 (left_come t d done (comes t d pressed) i))
+          (λ i. wait_then held (λ k. (task t k).period) i - ((task t i).period - (task t i).deadline))
+          (due_come t p.ranged d done (comes t d pressed)) (tie_order t) t.count _ _ p.ranged.few
+          (λ i l h. rw (left_same i l) at h)
+          (λ i l h. rw (left_same i l) h)
+          (λ i k l m x y h. rw (due_same i l (opened i l x), due_same k m (opened k m y)) h)
+          (choose_is _ _ (tie_order t) t.count p.ranged.few) (chosen_come t p.ranged d done (comes t d pressed))
+        where
+          opened : (i : ℕ) → i < t.count → T (ltb 0 (left_then held (left_late t d done) (λ k. (task t k).cost) i))
+              → 0 < left_come t d done (comes t d pressed) i
+          opened i l x = ltb→lt 0 (left_come t d done (comes t d pressed) i) (rw (left_same i l) at x)
 
-    lefts_are : left' ≡ fill t.count (λ i. left_come t d done (comes t d pressed) i - cond (eqb (owner_come t d done (comes t d pressed)) i) 1 0) d.left
-    lefts_are =
-        rw owner_is at (slot.lefts ∙ ap (fill t.count _) e ∙ fill_again t.count _ _ d.left)
-        ∙ fill_eq t.count _ _ d.left (λ i l. rw (left_same i l))
+      lefts_are : left' ≡ fill t.count (λ i. left_come t d done (comes t d pressed) i - cond (eqb (owner_come t d done (comes t d pressed)) i) 1 0) d.left
+      lefts_are =
+          rw owner_is at (slot.lefts ∙ ap (fill t.count _) e ∙ fill_again t.count _ _ d.left)
+          ∙ fill_eq t.count _ _ d.left (λ i l. rw (left_same i l))
 
-    waits_are : wait' ≡ fill t.count (λ i. wait_come t d done (comes t d pressed) i - 1) d.wait
-    waits_are = slot.waits ∙ ap (fill t.count _) w ∙ fill_again t.count _ _ d.wait ∙ fill_eq t.count _ _ d.wait wait_same
+      waits_are : wait' ≡ fill t.count (λ i. wait_come t d done (comes t d pressed) i - 1) d.wait
+      waits_are = slot.waits ∙ ap (fill t.count _) w ∙ fill_again t.count _ _ d.wait ∙ fill_eq t.count _ _ d.wait wait_same
 
   -- All four, from the lists that the code makes.
-  module _ {period cost slack rank : List ℕ} {n : ℕ}
-      (k : Unpacked t period cost slack rank n) {free untaken idle late : ℕ} {left left₂ wait₂ wait' left' : List ℕ} {seen : Seen}
+  module _ {k : Columns} (c : Unpacked t k) {free untaken idle late : ℕ} {left left₂ wait₂ wait' left' : List ℕ} {seen : Option ℕ}
       (f : free ≡ bits (is_free t d.wait) task_limit)
       (u : untaken ≡ bits (λ i. in_set pressed i && not (in_set free i)) task_limit)
       (q : idle ≡ bits (λ i. in_set free i && not (in_set pressed i)) task_limit)
       (a : left ≡ cond done (closed d.left d.last) d.left)
-      (c : late ≡ bits (isLateIn d.wait left slack n) task_limit)
-      (e : left₂ ≡ put_all left late 0 n)
-      (h : wait₂ ≡ put_all d.wait idle 1 n)
-      (s : Served wait₂ left₂ period cost slack rank n wait' left' seen) where
-    slacks : slack ≡ (columns_of t).slack
-    slacks = ap (λ (x : Columns). x.slack) k.1
-
+      (x : late ≡ bits (isLateIn d.wait left k.slack k.count) task_limit)
+      (e : left₂ ≡ put_all left late 0 k.count)
+      (h : wait₂ ≡ put_all d.wait idle 1 k.count)
+      (s : Served wait₂ left₂ k.period k.cost k.slack k.rank k.count wait' left' seen) where
     late_are : late ≡ bits (is_late t d done) task_limit
-    late_are = late_bits t d done unrefused whole (done_fill t d done unrefused whole a) (rw (slacks, k.0) at c)
+    late_are = late_bits t d done unrefused whole (done_fill t d done unrefused whole a) (rw (c.slacks, c.tasks) at x)
 
     lefts_left : left₂ ≡ fill t.count (left_late t d done) d.left
-    lefts_left = late_fill t d done unrefused whole (done_fill t d done unrefused whole a) late_are (rw k.0 at e)
+    lefts_left = late_fill t d done unrefused whole (done_fill t d done unrefused whole a) late_are (rw c.tasks at e)
 
     waits_held : wait₂ ≡ fill t.count held d.wait
-    waits_held = held_fill f q (rw k.0 at h)
+    waits_held = held_fill f q (rw c.tasks at h)
 
     serving : Served wait₂ left₂ (columns_of t).period (columns_of t).cost (columns_of t).slack (columns_of t).rank t.count wait' left' seen
-    serving = rw (ap (λ (x : Columns). x.period) k.1, ap (λ (x : Columns). x.cost) k.1, slacks, ap (λ (x : Columns). x.rank) k.1, k.0) at s
+    serving = rw (c.periods, c.costs, c.slacks, c.ranks, c.tasks) at s
 
-    pub advanced_is : Advanced t d done pressed (record { wait = wait'; left = left'; owner = seen.owner; late = late; untaken = untaken })
+    pub owner_there : IsSome seen
+    owner_there = one_owns waits_held lefts_left serving
+
+    pub advanced_is : {owner : ℕ} → seen ≡ Some owner
+        → Advanced t d done pressed (record { wait = wait'; left = left'; owner = owner; late = late; untaken = untaken })
     unfolding after_come
-    advanced_is =
+    advanced_is o =
         record {
-          waits = waits_are waits_held lefts_left serving;
-          lefts = lefts_are waits_held lefts_left serving;
-          owned = owner_is waits_held lefts_left serving;
+          waits = waits_are waits_held lefts_left serving o;
+          lefts = lefts_are waits_held lefts_left serving o;
+          owned = owner_is waits_held lefts_left serving o;
           lates = late_are;
           untakes = untaken_is f u;
         }

@@ -4,13 +4,11 @@
 ghost use Rattle.std.specs.Prelude.{◌≡◌};
 ghost use Rattle.model.specs.Presses.{started_mixed, refuse_pressed, press_taken, stepped_pressed};
 ghost use Rattle.wellformed.specs.Ranges.{Ranged};
-ghost use Rattle.belonging.specs.Room.{belonging};
 ghost use Rattle.presses.specs.State.{started_of, pressed_of};
 ghost use Rattle.presses.specs.Step.{Pressable, press_well_formed, Advanced};
 
-use belonging::Room;
-use slots::{NO_TASK, Numbers};
-use values::{Admission, Fault, Refusal, SlotAnswer, State, Table, TASK_LIMIT};
+use slots::Numbers;
+use values::{Admission, Refusal, SlotAnswer, State, Table};
 
 // A dispatcher's state. A button's wait is the slots until it may be pressed again.
 #[derive(Clone, Copy)]
@@ -45,13 +43,7 @@ impl Presses {
             Ok(()) => Started {
                 admission: Ok(()),
                 presses: Presses {
-                    state: State {
-                        wait: slots::offsets(t),
-                        left: [0u32; TASK_LIMIT],
-                        last: NO_TASK,
-                        given: [0u64; TASK_LIMIT],
-                        empty: 0,
-                    },
+                    state: dispatch::first_state(t),
                 },
             },
         }
@@ -79,30 +71,20 @@ fn handed_back(d: State, why: Refusal, pressed: u32) -> Pressed
     }
 }
 
+// A state that belongs to the table is refused by 9 if it can count no slot more.
 fn step_well_formed(d: State, t: Table, done: bool, pressed: u32) -> Pressed
     requires { Ranged t }
     ensures { pressed_of result ≡ press_well_formed t d done pressed }
 {
     match belonging::belonging(d, t) {
-        Room::Refused(why) => handed_back(d, why, pressed),
-        Room::Slots(room) => step_admitted(d, t, room, done, pressed),
+        Err(why) => handed_back(d, why, pressed),
+        Ok(room) => {
+            if room == 0 {
+                return handed_back(d, dispatch::full_state(), pressed);
+            }
+            step_taken(d, t, done, pressed)
+        }
     }
-}
-
-// A state that belongs to the table: refused by 9 if it can count no slot more.
-fn step_admitted(d: State, t: Table, room: u64, done: bool, pressed: u32) -> Pressed
-    requires ranged { Ranged t }
-    requires d_value { belonging t d ≡ Room.Slots room }
-    ensures { pressed_of result ≡ press_well_formed t d done pressed }
-{
-    if room == 0 {
-        return handed_back(
-            d,
-            Refusal::new(Fault::FullState, 0),
-            pressed,
-        );
-    }
-    step_taken(d, t, done, pressed)
 }
 
 // A step that nothing refuses, and the slot counted.
@@ -110,15 +92,18 @@ fn step_taken(d: State, t: Table, done: bool, pressed: u32) -> Pressed
     requires { Pressable t d }
     ensures { pressed_of result ≡ press_taken t d done pressed }
 {
+    let Moved {
+        wait,
+        left,
+        owner,
+        late,
+        untaken,
+    } = advance(d, t, done, pressed);
     let mut given = d.given;
-    let moved = advance(d, t, done, pressed);
-    let owner = moved.owner;
-    let wait = moved.wait;
-    let left = moved.left;
     dispatch::count_given(&mut given, owner);
     Pressed {
-        answer: Ok(dispatch::turn_of(owner, moved.late)),
-        untaken: moved.untaken,
+        answer: Ok(dispatch::turn_of(owner, late)),
+        untaken,
         next: Presses {
             state: State {
                 wait,
@@ -147,26 +132,20 @@ fn advance(d: State, t: Table, done: bool, pressed: u32) -> Moved
     ensures { Advanced t d done pressed result }
 {
     let columns = slots::unpack(t);
-    let period = columns.period;
-    let cost = columns.cost;
-    let slack = columns.slack;
-    let rank = columns.rank;
-    let n = t.count;
-    let left = d.left;
-    let wait = d.wait;
+    let mut wait = d.wait;
+    let mut left = d.left;
     let free = slots::free_set(t, wait);
     let untaken = slots::only_in(pressed, free);
     let idle = slots::only_in(free, pressed);
-    let mut next = wait;
-    let mut open = dispatch::after_report(left, d.last, done);
-    let late = slots::late_set(&next, &open, &slack, n);
-    slots::close_all(&mut open, late, n);
-    slots::put_all(&mut next, idle, 1, n);
-    let seen = slots::serve(&mut next, &mut open, &period, &cost, &slack, &rank, n);
+    dispatch::hear_report(&mut left, d.last, done);
+    let late = columns.late_set(&wait, &left);
+    columns.close_all(&mut left, late);
+    slots::put_all(&mut wait, idle, 1, columns.count);
+    let owner = columns.serve(&mut wait, &mut left).unwrap();
     Moved {
-        wait: next,
-        left: open,
-        owner: seen.owner,
+        wait,
+        left,
+        owner,
         late,
         untaken,
     }

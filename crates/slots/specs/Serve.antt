@@ -1,6 +1,6 @@
 -- The slot in one pass over the tasks: what it hands back, and what holds before task i.
-use Rattle.std.specs.Prelude.{◌≡◌, refl, ◌⊎◌, List, true, false, cond, ℕ, ◌+◌, ◌-◌, ◌^◌, ◌≤◌, ◌<◌, T, ltb, eqb, set}
-use Rattle.std.proofs.Common.{sym, ap, subst, ◌∙◌, arith, lt-ltb, le-ltb, eq-eqb, ne_eqb, below_more, ltb→lt, eqb→eq}
+use Rattle.std.specs.Prelude.{◌≡◌, refl, ◌⊎◌, List, Option, Some, None, cond, ℕ, ◌+◌, ◌-◌, ◌^◌, ◌≤◌, ◌<◌, T, ltb, eqb, set}
+use Rattle.std.proofs.Common.{sym, ap, ◌∙◌, arith, lt-ltb, le-ltb, eq-eqb, ne_eqb, below_more, ltb→lt, eqb→eq}
 use Rattle.model.specs.Limits.{task_limit}
 use Rattle.model.specs.Notation.{fill}
 use Rattle.counting.specs.Count.{and_iff}
@@ -8,13 +8,12 @@ use Rattle.counting.specs.Fill.{fill_none, fill_put}
 use Rattle.slots.specs.Slot.{at, is_late, wait_released, left_released}
 use Rattle.slots.specs.Choice.{ranks, key_of, Best, best_none, best_skip, best_turn, choose_range}
 use Rattle.slots.specs.Laws.{Slotted, store_fill}
-use Rattle.slots.specs.declared.Seen.{Seen}
 
--- A late job is one of the n; where none is, the lists after it and its owner are those of the slot.
-pub record Served (wait left period cost slack rank : List ℕ) (n : ℕ) (wait' left' : List ℕ) (s : Seen) : Type 0 where
-  pub found : s.late ≡ true → (i : ℕ) × (i < n) × T (is_late wait left slack n i)
-  pub quiet : s.late ≡ false → (i : ℕ) → i < n → T (is_late wait left slack n i) → ⊥
-  pub slot : s.late ≡ false → Slotted n (at wait) (at left) (at period) (at cost) (at slack) (at rank) wait left wait' left' s.owner
+-- Where there is no owner a late job is one of the n; where there is, none is, and the lists after it and its owner are those of the slot.
+pub record Served (wait left period cost slack rank : List ℕ) (n : ℕ) (wait' left' : List ℕ) (s : Option ℕ) : Type 0 where
+  pub found : s ≡ None → (i : ℕ) × (i < n) × T (is_late wait left slack n i)
+  pub quiet : (owner : ℕ) → s ≡ Some owner → (i : ℕ) → i < n → T (is_late wait left slack n i) → ⊥
+  pub slot : (owner : ℕ) → s ≡ Some owner → Slotted n (at wait) (at left) (at period) (at cost) (at slack) (at rank) wait left wait' left' owner
 
 module _ (wait₀ left₀ period cost slack rank : List ℕ) (n : ℕ) where
   abbrev pub BestOf : ℕ → ℕ → ℕ → Type 0
@@ -100,13 +99,13 @@ module _ (wait₀ left₀ period cost slack rank : List ℕ) (n : ℕ) where
             }
 
   -- A pass that met a late job.
-  pub served_late : (i : ℕ) {wait' left' : List ℕ} {owner : ℕ} → i < n → T (is_late wait₀ left₀ slack n i)
-      → Served wait₀ left₀ period cost slack rank n wait' left' (record { late = true; owner = owner })
+  pub served_late : (i : ℕ) {wait' left' : List ℕ} → i < n → T (is_late wait₀ left₀ slack n i)
+      → Served wait₀ left₀ period cost slack rank n wait' left' None
   served_late i l h =
       record {
         found = λ e. (i, l, h);
-        quiet = λ e. absurd (subst T e tt);
-        slot = λ e. absurd (subst T e tt);
+        quiet = λ owner e. cc;
+        slot = λ owner e. cc;
       }
 
   -- The lists after the pass, with the owner's slot taken off.
@@ -130,10 +129,10 @@ module _ (wait₀ left₀ period cost slack rank : List ℕ) (n : ℕ) where
         }
 
     pub served_quiet : {left' : List ℕ} → left' ≡ cond (ltb owner task_limit) (set left owner rest) left
-        → Served wait₀ left₀ period cost slack rank n wait left' (record { late = false; owner = owner })
+        → Served wait₀ left₀ period cost slack rank n wait left' (Some owner)
     served_quiet e =
         record {
-          found = λ q. absurd (subst T (sym q) tt);
-          quiet = λ q k l. w.quiet k (omega arith);
-          slot = λ q. served_slot e;
+          found = λ q. cc;
+          quiet = λ o q k l. w.quiet k (omega arith);
+          slot = λ o q. let same : owner ≡ o = cc in rw same at (served_slot e);
         }

@@ -1,18 +1,20 @@
 // One slot, over two numbers for each task: its wait, the slots until its next release, and the slots left to its open job.
 #![tactic(auto)]
 
-ghost use Rattle.std.specs.Prelude.{◌≡◌, cond, not, ◌&&◌, ◌+◌, ◌-◌, ◌*◌, ◌^◌, ◌≤◌, ◌<◌, ltb, eqb, set};
+ghost use Rattle.std.specs.Prelude.{◌≡◌, ℕ, Bool, not, ◌&&◌, ◌+◌, ◌*◌, ◌^◌, ◌≤◌, ◌<◌, ltb, eqb};
 ghost use Rattle.model.specs.Limits.{task_limit, slot_limit};
 ghost use Rattle.model.specs.Notation.{bit, bits, in_set};
 ghost use Rattle.model.specs.Tasks.{is_button};
 ghost use Rattle.model.specs.Dispatcher.{start_of};
 ghost use Rattle.wellformed.specs.Ranges.{Ranged};
-ghost use Rattle.slots.specs.Columns.{columns_of};
-ghost use Rattle.slots.specs.Choice.{ranks, key_of};
-ghost use Rattle.slots.specs.Serve.{Served};
-ghost use Rattle.slots.specs.Slot.{closed, is_late, put_all, is_free, none_left, wait_released, left_released};
+ghost use Rattle.slots.specs.Columns.{Unpacked};
+ghost use Rattle.slots.specs.Slot.{closed, put_all, is_free, none_left};
 
 use values::{TASK_LIMIT, Table, Task};
+
+pub mod columns;
+
+use columns::Columns;
 
 // Where a task is named, this is none.
 pub const NO_TASK: u32 = TASK_LIMIT as u32;
@@ -23,42 +25,26 @@ pub type Numbers = [u32; TASK_LIMIT];
 // A rank for each task.
 pub type Ranks = [u16; TASK_LIMIT];
 
-// Ranks are below this, so that a deadline and a rank are compared as one number.
-const RANKS: u64 = 0x1_0000;
-
-// What a task that is not open is compared by.
-const NO_KEY: u64 = 0xffff_ffff_ffff_ffff;
-
-// What a slot reads of a table, a list for each number. The slack is T - D: the wait of a job at its deadline.
-#[derive(Clone, Copy)]
-pub struct Columns {
-    pub period: Numbers,
-    pub cost: Numbers,
-    pub slack: Numbers,
-    pub rank: Ranks,
-}
-
 pub fn unpack(t: Table) -> Columns
     requires { Ranged t }
-    ensures { result ≡ columns_of t }
+    ensures { Unpacked t result }
 {
-    let n = t.count;
     let mut period = [0u32; TASK_LIMIT];
     let mut cost = [0u32; TASK_LIMIT];
     let mut slack = [0u32; TASK_LIMIT];
     let mut rank = [0u16; TASK_LIMIT];
-    for i in 0..n {
-        let task = t.tasks[i];
+    for (i, task) in t.tasks[..t.count].iter().enumerate() {
         period[i] = task.period;
         cost[i] = task.cost;
-        slack[i] = less(task.period, task.deadline);
-        rank[i] = rank_of(task);
+        slack[i] = task.period.saturating_sub(task.deadline);
+        rank[i] = rank_of(*task);
     }
     Columns {
+        rank,
+        count: t.count,
         period,
         cost,
         slack,
-        rank,
     }
 }
 
@@ -67,10 +53,9 @@ pub fn offsets(t: Table) -> Numbers
     requires { t.count ≤ task_limit }
     ensures { result ≡ (start_of t).wait }
 {
-    let n = t.count;
     let mut wait = [0u32; TASK_LIMIT];
-    for i in 0..n {
-        wait[i] = sorts::offset_of(t.tasks[i]);
+    for (i, task) in t.tasks[..t.count].iter().enumerate() {
+        wait[i] = sorts::offset_of(*task);
     }
     wait
 }
@@ -83,73 +68,39 @@ pub fn rank_of(task: Task) -> u16
     task.period as u16
 }
 
-// The difference, or 0.
-pub fn less(x: u32, y: u32) -> u32
-    ensures { result ≡ x - y }
+// The members below n, as a set of bits.
+fn members<F: Fn(usize) -> bool>(n: usize, is_member: F) -> u32
+    requires few { n ≤ task_limit }
+    requires callable { (i : ℕ) → i < n → F.pre is_member i }
+    ensures { (p : ℕ → Bool) → ((i : ℕ) (b : Bool) → i < n → F.post is_member i b → b ≡ p i) → result ≡ bits (λ i. ltb i n && p i) task_limit }
 {
-    if x < y { 0 } else { x - y }
-}
-
-// The open jobs at their deadline, as a set of bits.
-pub fn late_set(wait: &Numbers, left: &Numbers, slack: &Numbers, n: usize) -> u32
-    requires { n ≤ task_limit }
-    ensures { result ≡ bits (is_late wait.now left.now slack.now n) task_limit }
-{
-    let mut tasks: u32 = 0;
+    let mut set = 0;
     for i in 0..n {
-        tasks = joined(tasks, i, at_deadline(wait[i], left[i], slack[i]));
+        set = joined(set, i, is_member(i));
     }
-    tasks
-}
-
-fn at_deadline(wait: u32, left: u32, slack: u32) -> bool
-    ensures { result ≡ (ltb 0 left && eqb wait slack) }
-{
-    0 < left && wait == slack
+    set
 }
 
 // The set with i, if i is a member; the others are below i.
-fn joined(tasks: u32, i: usize, member: bool) -> u32
-    requires { (i < task_limit) × (tasks < 2 ^ i) }
-    ensures { result ≡ tasks + bit member * 2 ^ i }
+fn joined(set: u32, i: usize, member: bool) -> u32
+    requires { (i < task_limit) × (set < 2 ^ i) }
+    ensures { result ≡ set + bit member * 2 ^ i }
 {
-    if member { tasks | (1u32 << i) } else { tasks }
+    if member { set | (1u32 << i) } else { set }
 }
 
-// The jobs of a set of tasks are closed.
-pub fn close_all(left: &mut Numbers, tasks: u32, n: usize)
-    requires { n ≤ task_limit }
-    ensures { left.new ≡ put_all left.old tasks 0 n }
+fn is_member(set: u32, i: usize) -> bool
+    requires { i < task_limit }
+    ensures { result ≡ in_set set i }
 {
-    put_all(left, tasks, 0, n)
-}
-
-// Each task of the set gets this number.
-pub fn put_all(numbers: &mut Numbers, tasks: u32, number: u32, n: usize)
-    requires { n ≤ task_limit }
-    ensures { numbers.new ≡ put_all numbers.old tasks number n }
-{
-    for i in 0..n {
-        numbers[i] = put_if(is_member(tasks, i), number, numbers[i]);
-    }
+    (set >> i) & 1 == 1
 }
 
 // The members of one set of tasks that are not in another.
-pub fn only_in(tasks: u32, others: u32) -> u32
-    ensures { result ≡ bits (λ i. in_set tasks i && not (in_set others i)) task_limit }
+pub fn only_in(set: u32, others: u32) -> u32
+    ensures { result ≡ bits (λ i. in_set set i && not (in_set others i)) task_limit }
 {
-    let mut rest: u32 = 0;
-    for i in 0..TASK_LIMIT {
-        rest = joined(rest, i, is_only_in(tasks, others, i));
-    }
-    rest
-}
-
-fn is_only_in(tasks: u32, others: u32, i: usize) -> bool
-    requires { i < task_limit }
-    ensures { result ≡ (in_set tasks i && not (in_set others i)) }
-{
-    is_member(tasks, i) && !is_member(others, i)
+    members(TASK_LIMIT, |i| is_member(set, i) && !is_member(others, i))
 }
 
 // The buttons that may be pressed, as a set of bits.
@@ -157,12 +108,7 @@ pub fn free_set(t: Table, wait: Numbers) -> u32
     requires { t.count ≤ task_limit }
     ensures { result ≡ bits (is_free t wait) task_limit }
 {
-    let n = t.count;
-    let mut tasks: u32 = 0;
-    for i in 0..n {
-        tasks = joined(tasks, i, may_be_pressed(t.tasks[i], wait[i]));
-    }
-    tasks
+    members(t.count, |i| may_be_pressed(t.tasks[i], wait[i]))
 }
 
 fn may_be_pressed(task: Task, wait: u32) -> bool
@@ -171,17 +117,16 @@ fn may_be_pressed(task: Task, wait: u32) -> bool
     sorts::is_button(task) && wait == 0
 }
 
-fn is_member(tasks: u32, i: usize) -> bool
-    requires { i < task_limit }
-    ensures { result ≡ in_set tasks i }
+// Each of the n tasks that is in the set gets this number.
+pub fn put_all(numbers: &mut Numbers, set: u32, number: u32, n: usize)
+    requires { n ≤ task_limit }
+    ensures { numbers.new ≡ put_all numbers.old set number n }
 {
-    (tasks >> i) & 1 == 1
-}
-
-fn put_if(member: bool, number: u32, other: u32) -> u32
-    ensures { result ≡ cond member number other }
-{
-    if member { number } else { other }
+    for (i, own) in numbers[..n].iter_mut().enumerate() {
+        if is_member(set, i) {
+            *own = number;
+        }
+    }
 }
 
 // The job of a task is closed; that of no task is none.
@@ -189,8 +134,7 @@ pub fn close(left: &mut Numbers, task: u32)
     ensures { left.new ≡ closed left.old task }
 {
     if task < NO_TASK {
-        let i = task as usize;
-        left[i] = 0;
+        left[task as usize] = 0;
     }
 }
 
@@ -199,112 +143,5 @@ pub fn none_left(left: &Numbers, n: usize) -> bool
     requires { n ≤ task_limit }
     ensures { result ≡ none_left left.now n }
 {
-    for i in 0..n {
-        if left[i] > 0 {
-            return false;
-        }
-    }
-    true
-}
-
-fn key_of(left: u32, due: u32, rank: u16) -> u64
-    ensures { (result ≡ key_of (ltb 0 left) due rank) × (due < 2 ^ 32) × (rank < ranks) }
-{
-    if 0 < left {
-        due as u64 * RANKS + rank as u64
-    } else {
-        NO_KEY
-    }
-}
-
-// What one pass over the tasks sees at a slot: an open job at its deadline, or else the slot's owner.
-#[derive(Clone, Copy)]
-pub struct Seen {
-    pub late: bool,
-    pub owner: u32,
-}
-
-// The wait and the slots left of one task once its job, if one is due, is released.
-#[derive(Clone, Copy)]
-struct Renewed {
-    wait: u32,
-    left: u32,
-}
-
-// One task in a slot: the release, if its wait is 0, and then the wait one lower.
-fn renew(
-    wait: &mut Numbers,
-    left: &mut Numbers,
-    period: &Numbers,
-    cost: &Numbers,
-    i: usize,
-) -> Renewed
-    requires { i < task_limit }
-    ensures { (result.wait ≡ wait_released wait.old period.now i)
-        × (result.left ≡ left_released wait.old left.old cost.now i)
-        × (wait.new ≡ set wait.old i (result.wait - 1)) × (left.new ≡ set left.old i result.left) }
-{
-    let w = wait[i];
-    if w == 0 {
-        let next = period[i];
-        let fresh = cost[i];
-        left[i] = fresh;
-        wait[i] = less(next, 1);
-        return Renewed {
-            wait: next,
-            left: fresh,
-        };
-    }
-    wait[i] = w - 1;
-    Renewed {
-        wait: w,
-        left: left[i],
-    }
-}
-
-// The slot itself, in one pass up to the first job at its deadline: releases, the choice, and the slot given.
-pub fn serve(
-    wait: &mut Numbers,
-    left: &mut Numbers,
-    period: &Numbers,
-    cost: &Numbers,
-    slack: &Numbers,
-    rank: &Ranks,
-    n: usize,
-) -> Seen
-    requires { n ≤ task_limit }
-    ensures { Served wait.old left.old period.now cost.now slack.now
-        rank.now n wait.new left.new result }
-{
-    let mut owner = NO_TASK;
-    let mut least = NO_KEY;
-    let mut rest: u32 = 0;
-    for i in 0..n {
-        if 0 < left[i] {
-            if wait[i] == slack[i] {
-                return Seen {
-                    late: true,
-                    owner: NO_TASK,
-                };
-            }
-        }
-        let task = renew(wait, left, period, cost, i);
-        let open = task.left;
-        if 0 < open {
-            let key = key_of(open, less(task.wait, slack[i]), rank[i]);
-            if key < least {
-                least = key;
-                owner = i as u32;
-                rest = open - 1;
-            }
-        }
-    }
-    if owner < NO_TASK {
-        let i = owner as usize;
-        left[i] = rest;
-    }
-    Seen {
-        late: false,
-        owner: owner,
-    }
+    left[..n].iter().all(|slots| *slots == 0)
 }

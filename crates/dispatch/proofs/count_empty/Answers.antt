@@ -1,5 +1,4 @@
 -- The slot is empty, or not.
-use borrow.Author.Rules.{rules}
 use borrow.Author.Tests.{eq-eqb, ne_eqb}
 use native.Mathlib.Omega.{arith}
 use Rattle.dispatch.proofs.count_empty.Goals as goal

@@ -1,5 +1,4 @@
 -- The owner is a task, or none.
-use borrow.Author.Rules.{rules}
 use borrow.Author.Tests.{le-ltb}
 use native.Mathlib.Omega.{arith}
 use Rattle.dispatch.specs.Accounts.{counted, counted_owner}

@@ -1,5 +1,4 @@
 -- There is a report, or none.
-use borrow.Author.Rules.{rules}
 use Rattle.dispatch.proofs.hear_report.Goals as goal
 
 pub returns-then-done : goal.returns-then-done

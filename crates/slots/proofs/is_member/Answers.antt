@@ -4,4 +4,4 @@ use lib.Bits.{and_mask}
 use Rattle.slots.proofs.is_member.Goals as goal
 
 pub returns : goal.returns
-returns c = rw (and_mask (c.args.tasks / 2 ^ c.args.i) 1)
+returns c = rw (and_mask (c.args.set / 2 ^ c.args.i) 1)

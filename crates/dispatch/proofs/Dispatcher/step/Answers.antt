@@ -1,6 +1,5 @@
 -- Refused as the table is, or a step on a well-formed table.
 use mathlib.Core.Path.{sym, ◌∙◌}
-use borrow.Author.Rules.{rules}
 use Rattle.model.specs.Tasks.{judged}
 use Rattle.model.specs.Dispatcher.{admitted, stepped_by}
 use Rattle.wellformed.specs.WellFormed.{well_formed, refused_is, admitted_is}

@@ -1,14 +1,12 @@
 -- Refused as the table is, or started.
 use mathlib.Core.Path.{sym, ◌∙◌}
-use borrow.Author.Rules.{rules}
 use Rattle.model.specs.Tasks.{judged_mixed}
-use Rattle.model.specs.Dispatcher.{start_of}
 use Rattle.model.specs.Presses.{started_mixed}
 use Rattle.wellformed.specs.WellFormed.{well_mixed, refused_is, admitted_is}
 use Rattle.presses.proofs.Presses.start.Goals as goal
 
-pub offsets-requires : goal.offsets-requires
-offsets-requires c =
+pub first_state-requires : goal.first_state-requires
+first_state-requires c =
     let (m, well) = admitted_is (judged_mixed _) (sym c.admit_mixed.ensures ∙ c.in-Ok.is) in
     (well_mixed _ m well).ranged.few
 
@@ -17,7 +15,7 @@ unfolding started_mixed
 returns-in-Err c = rw (refused_is (judged_mixed _) _ (sym c.admit_mixed.ensures ∙ c.in-Err.is))
 
 pub returns-in-Ok : goal.returns-in-Ok
-unfolding started_mixed start_of
+unfolding started_mixed
 returns-in-Ok c =
     let (m, well) = admitted_is (judged_mixed _) (sym c.admit_mixed.ensures ∙ c.in-Ok.is) in
-    rw (well, c.offsets.ensures)
+    rw (well, c.first_state.ensures)

@@ -1,6 +1,5 @@
 -- Refused as the table is, or a step on a well-formed table.
 use mathlib.Core.Path.{sym, ◌∙◌}
-use borrow.Author.Rules.{rules}
 use Rattle.model.specs.Tasks.{judged_mixed}
 use Rattle.model.specs.Presses.{admitted_mixed, stepped_pressed}
 use Rattle.wellformed.specs.WellFormed.{well_mixed, refused_is, admitted_is}
