@@ -1,14 +1,14 @@
 // A camera's own loop over a file and a lent buffer: start and step.
 #![tactic(auto)]
 
-ghost use Rattle.std.specs.Prelude.{◌≡◌, not, eqb, length};
-ghost use Rattle.model.specs.Dispatcher.{started, stepped};
-ghost use Rattle.model.specs.StateBuffer.{state_bytes, state_in, quiet, start_written, step_written, start_exported, step_exported};
+ghost use Rattle.std.specs.Prelude.{◌≡◌, not, eqb};
+ghost use Rattle.model.specs.StateBuffer.{quiet, start_exported, step_exported};
+ghost use Rattle.numbers.specs.Form.{told_number};
 ghost use Rattle.report.specs.Put.{exported};
 
 use dispatch::Dispatcher;
 use slots::NO_TASK;
-use values::{Admission, STATE_BYTES, SlotAnswer, Table, Turn};
+use values::{Refusal, STATE_BYTES, Turn};
 
 pub fn quiet() -> Turn
     ensures { result ≡ quiet }
@@ -21,39 +21,22 @@ pub fn quiet() -> Turn
     }
 }
 
-fn start_table(table: Table, state: &mut [u8]) -> u64
-    requires { length state.old ≡ state_bytes }
-    ensures { exported result state.new ≡ (let s = started table (state_in state.old) in start_written state.old
-        s.state s.admission) }
-{
-    let held = statebuffer::state_in(state);
-    let dispatcher = Dispatcher { state: held };
-    let started = dispatcher.start(table);
-    let admission = started.admission;
-    match admission {
-        Err(why) => numbers::refusal_number(why),
-        Ok(()) => {
-            let begun = started.dispatcher;
-            let first = begun.state;
-            statebuffer::write_state(state, first, quiet());
-            0
-        }
-    }
-}
-
 // Any file and any buffer: the buffer is looked at before the file.
 pub fn start(file: &[u8], state: &mut [u8]) -> u64
     ensures { exported result state.new ≡ start_exported file.now state.old }
 {
-    let form = numbers::form_for(file, STATE_BYTES, state.len());
-    let admission = form.admission;
-    match admission {
-        Err(why) => numbers::refusal_number(why),
-        Ok(()) => {
-            let table = form.table;
-            start_table(table, state)
-        }
-    }
+    numbers::told(start_on(file, state))
+}
+
+fn start_on(file: &[u8], state: &mut [u8]) -> Result<u64, Refusal>
+    ensures { exported (told_number result) state.new ≡ start_exported file.now state.old }
+{
+    let table = numbers::table_for(file, STATE_BYTES, state.len())?;
+    let held = statebuffer::state_in(state);
+    let started = Dispatcher { state: held }.start(table);
+    started.admission?;
+    statebuffer::write_state(state, started.dispatcher.state, quiet());
+    Ok(0)
 }
 
 // Any number but 0 is a done report.
@@ -63,36 +46,19 @@ pub fn said_done(done: u32) -> bool
     done != 0
 }
 
-fn step_table(table: Table, state: &mut [u8], done: u32) -> u64
-    requires { length state.old ≡ state_bytes }
-    ensures { exported result state.new ≡ (let s = stepped table (state_in state.old) (not (eqb done 0)) in step_written
-        state.old s.state s.answer) }
-{
-    let held = statebuffer::state_in(state);
-    let dispatcher = Dispatcher { state: held };
-    let stepped = dispatcher.step(table, said_done(done));
-    let answer = stepped.answer;
-    match answer {
-        Err(why) => numbers::refusal_number(why),
-        Ok(turn) => {
-            let next = stepped.next;
-            let after = next.state;
-            statebuffer::write_state(state, after, turn);
-            turn.owner as u64
-        }
-    }
-}
-
 pub fn step(file: &[u8], state: &mut [u8], done: u32) -> u64
     ensures { exported result state.new ≡ step_exported file.now state.old done }
 {
-    let form = numbers::form_for(file, STATE_BYTES, state.len());
-    let admission = form.admission;
-    match admission {
-        Err(why) => numbers::refusal_number(why),
-        Ok(()) => {
-            let table = form.table;
-            step_table(table, state, done)
-        }
-    }
+    numbers::told(step_on(file, state, done))
+}
+
+fn step_on(file: &[u8], state: &mut [u8], done: u32) -> Result<u64, Refusal>
+    ensures { exported (told_number result) state.new ≡ step_exported file.now state.old done }
+{
+    let table = numbers::table_for(file, STATE_BYTES, state.len())?;
+    let held = statebuffer::state_in(state);
+    let stepped = Dispatcher { state: held }.step(table, said_done(done));
+    let turn = stepped.answer?;
+    statebuffer::write_state(state, stepped.next.state, turn);
+    Ok(u64::from(turn.owner))
 }

@@ -2,44 +2,52 @@
 #![tactic(auto)]
 
 ghost use Rattle.std.specs.Prelude.{◌≡◌, ◌+◌, ◌*◌, min};
+ghost use Rattle.values.specs.Numbers.{number_of};
 ghost use Rattle.model.specs.Report.{refusal_number};
-ghost use Rattle.numbers.specs.Form.{form_for};
+ghost use Rattle.numbers.specs.Form.{told_number, table_for};
 
-use values::{Contents, Fault, Refusal};
+use values::{Fault, Refusal, Table};
 
-const LARGEST_PLACE: usize = 65535;
+const LARGEST_PLACE: u32 = 65535;
+
+// What a call answers, or its refusal as a number.
+pub fn told(answer: Result<u64, Refusal>) -> u64
+    ensures { result ≡ told_number answer }
+{
+    match answer {
+        Ok(number) => number,
+        Err(why) => refusal_number(why),
+    }
+}
 
 pub fn refusal_number(why: Refusal) -> u64
     ensures { result ≡ refusal_number why }
 {
-    65536 * (why.number as u64) + why.place as u64
+    65536 * u64::from(why.number) + u64::from(why.place)
 }
 
 // A place has two bytes: a longer length is told as the largest.
-fn place_of(length: usize) -> u32
-    ensures { result ≡ min length 65535 }
+pub fn refusal_at(fault: Fault, place: usize) -> Refusal
+    ensures { result ≡ record { number = number_of fault; place = min place 65535 } }
 {
-    if length < LARGEST_PLACE {
-        return length as u32;
-    }
-    LARGEST_PLACE as u32
+    Refusal::new(fault, place.min(LARGEST_PLACE as usize) as u32)
 }
 
-pub fn refused_at(number: u32, place: usize) -> u64
-    ensures { result ≡ 65536 * number + min place 65535 }
+// No table has a task with the largest place as its number, so that it stands for every larger one.
+pub fn tellable_task(task: u32) -> u32
+    ensures { result ≡ min task 65535 }
 {
-    refusal_number(Refusal {
-        number,
-        place: place_of(place),
-    })
+    task.min(LARGEST_PLACE)
 }
 
-// The buffer's length is looked at before the file.
-pub fn form_for(file: &[u8], wanted: usize, bytes: usize) -> Contents
-    ensures { result ≡ form_for wanted file.now bytes }
+// The table of a file, for a buffer of these bytes: their number is looked at before the file.
+pub fn table_for(file: &[u8], wanted: usize, bytes: usize) -> Result<Table, Refusal>
+    ensures { result ≡ table_for wanted file.now bytes }
 {
     if bytes != wanted {
-        return tablefile::refused_file(Refusal::new(Fault::StateLength, place_of(bytes)));
+        return Err(refusal_at(Fault::StateLength, bytes));
     }
-    tablefile::form_of(file)
+    let form = tablefile::form_of(file);
+    form.admission?;
+    Ok(form.table)
 }
