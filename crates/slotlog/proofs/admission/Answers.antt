@@ -29,8 +29,8 @@ counts : (c : After-miscounted) → (admitted_by c.args.t c.args.log.state (Judg
     × (c.miscounted.result ≡ miscounted c.args.t (log_state_of c.args.log))
 counts c =
     let (fits, room) = slots_tell (admitted_by c.args.t c.args.log.state (Judgement.WellFormed (measure c.args.t)))
-    (slot_count c.args.t c.args.log.state) _ (sym c.belonging.ensures ∙ c.in-Slots.is) in
-    let counted : slot_count_limit - c.in-Slots.room ≡ slot_count c.args.t c.args.log.state = omega
+    (slot_count c.args.t c.args.log.state) _ (sym c.belonging.ensures ∙ c.in-Ok.is) in
+    let counted : slot_count_limit - c.in-Ok.room ≡ slot_count c.args.t c.args.log.state = omega
     (arith, room, (fitting c.args.t c.args.log.state (measure c.args.t) fits).room) in
     (fits, rw counted at c.miscounted.ensures)
 
@@ -50,13 +50,13 @@ pub returns-in-Refused : goal.returns-in-Refused
 unfolding log_admitted admitted
 returns-in-Refused c = rw (refused_is (judged _) _ (sym c.admit.ensures ∙ c.in-Refused.is)) refl
 
-pub returns-in-Refused-belonging : goal.returns-in-Refused-belonging
+pub returns-in-Err : goal.returns-in-Err
 unfolding log_admitted admitted
-returns-in-Refused-belonging c =
+returns-in-Err c =
     rw (
-      well (goal.at.returns-in-Refused-belonging c).In-Admitted,
+      well (goal.at.returns-in-Err c).In-Admitted,
       refused_tells (admitted_by c.args.t c.args.log.state (Judgement.WellFormed (measure c.args.t))) _ _
-          (sym c.belonging.ensures ∙ c.in-Refused-belonging.is),
+          (sym c.belonging.ensures ∙ c.in-Err.is),
     ) refl
 
 pub returns-else-miscounted : goal.returns-else-miscounted
