@@ -29,7 +29,11 @@ fn first_idle(idle: u64, left: &Numbers, n: usize, at: u64) -> u64
     requires { n ≤ task_limit }
     ensures { result ≡ idle_noted idle left.now n at }
 {
-    if idle == 0 && slots::none_left(left, n) { at } else { idle }
+    if idle == 0 && slots::none_left(left, n) {
+        at
+    } else {
+        idle
+    }
 }
 
 // Slot by slot to the end, or to the first late deadline: there, downwards, to the largest start that asks too much. At the end

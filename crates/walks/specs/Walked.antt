@@ -90,20 +90,20 @@ module _ (t : Table) (r : Ranged t) (n : ℕ) where
 
 -- One turn of a walk, in the lists that it holds.
 module _
-    {t : Table} (r : Ranged t) {n : ℕ} {period cost slack rank : List ℕ} (set : Setting t t.count period cost slack rank)
+    {t : Table} (r : Ranged t) {n count : ℕ} {period cost slack rank : List ℕ} (set : Setting t count period cost slack rank)
     {wait left wait' left' : List ℕ} {now : Option ℕ} (w : Walked t n wait left)
-    (turned : Served wait left period cost slack rank t.count wait' left' now)
+    (turned : Served wait left period cost slack rank count wait' left' now)
   where
     pub one_found : now ≡ None → T (late_at t n)
-    one_found e = late_found t r n w.clear (rw (w.waits, w.lefts, set.slacks) at (turned.found e))
+    one_found e = late_found t r n w.clear (rw (w.waits, w.lefts, set.slacks, set.tasks) at (turned.found e))
 
     module _ {owner : ℕ} (o : now ≡ Some owner) where
       pub none_found : Clear t (suc n)
-      none_found = clear_more t r n w.clear (rw (w.waits, w.lefts, set.slacks) at (turned.quiet owner o))
+      none_found = clear_more t r n w.clear (rw (w.waits, w.lefts, set.slacks, set.tasks) at (turned.quiet owner o))
 
       pub served_slot : Slotted t.count (slot.at (walked t n).wait) (slot.at (walked t n).left) (slot.at (columns_of t).period)
           (slot.at (columns_of t).cost) (slot.at (columns_of t).slack) (slot.at (columns_of t).rank) (walked t n).wait (walked t n).left wait' left' owner
-      served_slot = rw (w.waits, w.lefts, set.periods, set.costs, set.slacks, set.ranks) at (turned.slot owner o)
+      served_slot = rw (w.waits, w.lefts, set.periods, set.costs, set.slacks, set.ranks, set.tasks) at (turned.slot owner o)
 
       -- Its owner is that of step n.
       pub owner_is : owner ≡ owner_at t quiet n
