@@ -1,7 +1,6 @@
 -- The walk of the exact test, slot by slot: what holds before each slot.
-use Rattle.std.specs.Prelude.{◌≡◌, ◌⊎◌, List, ℕ, suc, ◌+◌, ◌≤◌, ◌<◌, replicate}
-use Rattle.std.proofs.Common.{sym, inl, inr, add-one, arith}
-use Rattle.std.proofs.Math.Bool.{false}
+use Rattle.std.specs.Prelude.{◌≡◌, ◌⊎◌, List, Option, Some, ℕ, suc, ◌+◌, ◌≤◌, ◌<◌, replicate}
+use Rattle.std.proofs.Common.{false, sym, inl, inr, add-one, arith}
 use borrow.Author.Tests.{lt-ltb, le-ltb}
 use Rattle.values.specs.declared.Table.{Table}
 use Rattle.model.specs.Limits.{task_limit}
@@ -15,7 +14,6 @@ use Rattle.backlog.specs.Walk.{quiet}
 use Rattle.backlog.specs.WalkWorst.{worst_by, worst_seen}
 use Rattle.slots.specs.Columns.{columns_of}
 use Rattle.slots.specs.Laws.{fill_has}
-use Rattle.slots.specs.declared.Seen.{Seen}
 use Rattle.slots.specs.Serve.{Served}
 use Rattle.walks.specs.Walked.{Setting, Walked, walked_start, walked_next, owner_is}
 use Rattle.walks.specs.Caught.{none_left_idle}
@@ -55,12 +53,12 @@ module _ (t : Table) (r : Ranged t) (n : ℕ) {wait left : List ℕ} {owner : �
 
 -- One turn of the walk, in the lists that it holds.
 pub walking_next :
-    {t : Table} (r : Ranged t) → load t ≤ round t → {n : ℕ} {period cost slack rank : List ℕ} (set : Setting t t.count period cost slack rank)
-    {wait left worst wait' left' worst' : List ℕ} {idle idle' : ℕ} {now : Seen} (w : Walking t n wait left worst idle)
-    (turned : Served wait left period cost slack rank t.count wait' left' now)
-    → now.late ≡ false → worst' ≡ noted_of worst now.owner period wait' left' → idle' ≡ idle_noted idle left' t.count (n + 1)
+    {t : Table} (r : Ranged t) → load t ≤ round t → {n count : ℕ} {period cost slack rank : List ℕ} (set : Setting t count period cost slack rank)
+    {wait left worst wait' left' worst' : List ℕ} {idle idle' : ℕ} {now : Option ℕ} (w : Walking t n wait left worst idle)
+    (turned : Served wait left period cost slack rank count wait' left' now)
+    → {owner : ℕ} → now ≡ Some owner → worst' ≡ noted_of worst owner period wait' left' → idle' ≡ idle_noted idle left' count (n + 1)
     → Walking t (n + 1) wait' left' worst' idle'
 walking_next {t} r light {n} set w turned e f g =
     let next : Walked t (suc n) _ _ = walked_next r set w.walk turned e in
-    rw (f, g, add-one, w.tally.worsts, w.tally.idles, set.periods)
+    rw (f, g, add-one, w.tally.worsts, w.tally.idles, set.periods, set.tasks)
     (record { walk = next; tally = record { worsts = worst_next t r n next (owner_is r set w.walk turned e); idles = noted_next t r light n next } })

@@ -1,7 +1,7 @@
 // The plain engine of the exact test: a walk slot by slot, and at the first late deadline a search for the largest start.
 #![tactic(auto)]
 
-ghost use Rattle.std.specs.Prelude.{◌≡◌, ◌≤◌, max, Ok};
+ghost use Rattle.std.specs.Prelude.{◌≡◌, ◌≤◌, Ok};
 ghost use Rattle.model.specs.Limits.{task_limit};
 ghost use Rattle.model.specs.Tasks.{judged};
 ghost use Rattle.walks.specs.Course.{Ends};
@@ -11,12 +11,6 @@ use slots::{NO_TASK, Numbers};
 use values::{Measure, TASK_LIMIT, Table};
 use walks::Course;
 
-fn larger(x: u32, y: u32) -> u32
-    ensures { result ≡ max x y }
-{
-    if x < y { y } else { x }
-}
-
 // The response of the owner's job, if the slot finished it: a job released r slots ago waits T - r.
 fn note(worst: &mut Numbers, owner: u32, period: &Numbers, wait: &Numbers, left: &Numbers)
     ensures { worst.new ≡ noted_of worst.old owner period.now wait.now left.now }
@@ -24,7 +18,7 @@ fn note(worst: &mut Numbers, owner: u32, period: &Numbers, wait: &Numbers, left:
     if owner < NO_TASK {
         let i = owner as usize;
         if left[i] == 0 {
-            worst[i] = larger(worst[i], slots::less(period[i], wait[i]));
+            worst[i] = worst[i].max(period[i].saturating_sub(wait[i]));
         }
     }
 }
@@ -34,10 +28,11 @@ fn first_idle(idle: u64, left: &Numbers, n: usize, at: u64) -> u64
     requires { n ≤ task_limit }
     ensures { result ≡ idle_noted idle left.now n at }
 {
-    if 0 < idle {
-        return idle;
+    if idle == 0 && slots::none_left(left, n) {
+        at
+    } else {
+        idle
     }
-    if slots::none_left(left, n) { at } else { 0 }
 }
 
 // Slot by slot to the end, or to the first late deadline: there, downwards, to the largest start that asks too much. At the end
@@ -47,13 +42,8 @@ pub fn walk(t: Table, m: Measure, budget: u64) -> Course
     requires load_le_round { m.load ≤ m.round }
     ensures { Ends t m budget result }
 {
-    let n = t.count;
-    let end = words::smaller(budget, m.horizon);
+    let end = budget.min(m.horizon);
     let columns = slots::unpack(t);
-    let period = columns.period;
-    let cost = columns.cost;
-    let slack = columns.slack;
-    let rank = columns.rank;
     let mut wait = slots::offsets(t);
     let mut left = [0u32; TASK_LIMIT];
     let mut worst = [0u32; TASK_LIMIT];
@@ -62,22 +52,23 @@ pub fn walk(t: Table, m: Measure, budget: u64) -> Course
     let mut asked: u64 = 0;
     let mut at: u64 = 0;
     'search: loop {
-        let seen = slots::serve(&mut wait, &mut left, &period, &cost, &slack, &rank, n);
-        if !seen.late {
-            if at == end {
-                break 'search;
-            }
-            let owner = seen.owner;
-            note(&mut worst, owner, &period, &wait, &left);
-            at = at + 1;
-            idle = first_idle(idle, &left, n, at);
-        } else {
-            from = at;
-            while from > 0 {
-                from = intervals::start_before(t, from, at - from - asked);
-                asked = intervals::demand(t, from, at);
-                if asked > at - from {
+        match columns.serve(&mut wait, &mut left) {
+            Some(owner) => {
+                if at == end {
                     break 'search;
+                }
+                note(&mut worst, owner, &columns.period, &wait, &left);
+                at += 1;
+                idle = first_idle(idle, &left, columns.count, at);
+            }
+            None => {
+                from = at;
+                while from > 0 {
+                    from = intervals::start_before(t, from, at - from - asked);
+                    asked = intervals::demand(t, from, at);
+                    if asked > at - from {
+                        break 'search;
+                    }
                 }
             }
         }

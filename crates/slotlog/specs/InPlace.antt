@@ -1,5 +1,5 @@
 -- A slot in place: its lists are changed before it is known whether its owner is the one that was written.
-use Rattle.std.specs.Prelude.{◌≡◌, refl, List, Bool, false, cond, ℕ, ◌≤◌, ◌<◌}
+use Rattle.std.specs.Prelude.{◌≡◌, refl, List, Option, Some, Bool, false, cond, ℕ, ◌≤◌, ◌<◌}
 use Rattle.std.proofs.Common.{sym, ◌∙◌, arith}
 use Rattle.values.specs.declared.Table.{Table}
 use Rattle.model.specs.Limits.{task_limit}
@@ -8,12 +8,13 @@ use Rattle.model.specs.Dispatcher.{State, is_late}
 use Rattle.model.specs.Log.{Log}
 use Rattle.counting.specs.Count.{is_false}
 use Rattle.counting.specs.Fill.{fill_eq, fill_same}
-use Rattle.slots.specs.declared.Seen.{Seen}
+use Rattle.slots.specs.declared.columns.Columns.{Columns}
+use Rattle.slots.specs.Columns.{Unpacked}
 use Rattle.slots.specs.Slot.{closed, is_late as isLateIn, put_all}
 use Rattle.slots.specs.Serve.{Served}
 use Rattle.counting.specs.Bits.{in_bits}
 use Rattle.dispatch.specs.declared.Moved.{Moved}
-use Rattle.dispatch.specs.Step.{Unpacked, Unrefused, Whole, Advanced, advanced_is}
+use Rattle.dispatch.specs.Step.{Unrefused, Whole, Advanced, advanced_is}
 use Rattle.slotlog.specs.Bytes.{Readable}
 
 -- The step's lists, owner and late set.
@@ -27,13 +28,13 @@ none_closed n left late few none = sym (fill_eq n _ _ left (λ i l. rw (in_bits 
 
 -- Where no job is late, a done report and one pass are the whole step.
 pub moved_if :
-    (t : Table) (d : State) (done : Bool) → Unrefused t d → Whole d → {period cost slack rank : List ℕ} {n : ℕ} → Unpacked t period cost slack rank n
-    → {left wait' left' : List ℕ} {seen : Seen} → left ≡ cond done (closed d.left d.last) d.left
-    → Served d.wait left period cost slack rank n wait' left' seen
-    → seen.late ≡ false → Advanced t d done (moved_to t d done wait' left' seen.owner)
-moved_if t d done unrefused whole {slack = slack} {n = n} u {left} a s calm =
-    let none = none_closed n left (isLateIn d.wait left slack n) (omega (arith, u.0, unrefused.ranged.few)) (λ i l. is_false _ (s.quiet calm i l)) in
-    let m = advanced_is t d done unrefused whole u a refl none s in
+    (t : Table) (d : State) (done : Bool) → Unrefused t d → Whole d → {k : Columns} → Unpacked t k
+    → {left wait' left' : List ℕ} {seen : Option ℕ} {owner : ℕ} → left ≡ cond done (closed d.left d.last) d.left
+    → Served d.wait left k.period k.cost k.slack k.rank k.count wait' left' seen
+    → seen ≡ Some owner → Advanced t d done (moved_to t d done wait' left' owner)
+moved_if t d done unrefused whole {k} u {left} {owner = owner} a s o =
+    let none = none_closed k.count left (isLateIn d.wait left k.slack k.count) k.few (λ i l. is_false _ (s.quiet owner o i l)) in
+    let m = advanced_is t d done unrefused whole u a refl none s o in
     record { waits = m.waits; lefts = m.lefts; owned = m.owned; lates = refl }
 
 -- The lists of a log that may be read are whole.

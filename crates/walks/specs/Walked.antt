@@ -1,5 +1,5 @@
 -- A WALK BY SLOTS (`walked_next`): lists that `slots::serve` goes through are the dispatcher's without done reports, as long as no deadline is late.
-use Rattle.std.specs.Prelude.{◌≡◌, List, Bool, true, false, ℕ, suc, ◌-◌, ◌<◌, T, replicate}
+use Rattle.std.specs.Prelude.{◌≡◌, List, Option, Some, None, Bool, true, false, ℕ, suc, ◌-◌, ◌<◌, T, replicate}
 use Rattle.std.proofs.Math.Path.{refl}
 use Rattle.std.proofs.Common.{sym, subst, ◌∙◌, le_refl, arith, le-ltb}
 use Rattle.std.proofs.Math.Nat.{le_step}
@@ -17,10 +17,9 @@ use Rattle.wellformed.specs.Ranges.{Ranged}
 use Rattle.backlog.specs.Walk.{quiet, walked, Clear}
 use Rattle.backlog.proofs.WalkLate.{late_iff}
 use Rattle.slots.specs.Slot as slot
-use Rattle.slots.specs.Columns.{columns_of}
+use Rattle.slots.specs.Columns.{columns_of, Unpacked}
 use Rattle.slots.specs.Laws.{Has, Slotted, slack_has, table_served}
-use Rattle.slots.specs.declared.Columns.{Columns}
-use Rattle.slots.specs.declared.Seen.{Seen}
+use Rattle.slots.specs.declared.columns.Columns.{Columns}
 use Rattle.slots.specs.Serve.{Served}
 
 -- What a walk does not change: the number of tasks, and the table's columns.
@@ -31,8 +30,8 @@ pub record Setting (t : Table) (n : ℕ) (period cost slack rank : List ℕ) : T
   pub slacks : slack ≡ (columns_of t).slack
   pub ranks : rank ≡ (columns_of t).rank
 
-pub setting : (t : Table) {c : Columns} → c ≡ columns_of t → Setting t t.count c.period c.cost c.slack c.rank
-setting t e = rw e (record { tasks = refl; periods = refl; costs = refl; slacks = refl; ranks = refl })
+pub setting : (t : Table) {c : Columns} → Unpacked t c → Setting t c.count c.period c.cost c.slack c.rank
+setting t u = record { tasks = u.tasks; periods = u.periods; costs = u.costs; slacks = u.slacks; ranks = u.ranks }
 
 -- What a walk holds before slot n: no deadline before is late, and the lists are those of the dispatcher without done reports.
 pub record Walked (t : Table) (n : ℕ) (wait left : List ℕ) : Type 0 where
@@ -91,24 +90,24 @@ module _ (t : Table) (r : Ranged t) (n : ℕ) where
 
 -- One turn of a walk, in the lists that it holds.
 module _
-    {t : Table} (r : Ranged t) {n : ℕ} {period cost slack rank : List ℕ} (set : Setting t t.count period cost slack rank)
-    {wait left wait' left' : List ℕ} {now : Seen} (w : Walked t n wait left) (turned : Served wait left period cost slack rank t.count wait' left' now)
+    {t : Table} (r : Ranged t) {n count : ℕ} {period cost slack rank : List ℕ} (set : Setting t count period cost slack rank)
+    {wait left wait' left' : List ℕ} {now : Option ℕ} (w : Walked t n wait left)
+    (turned : Served wait left period cost slack rank count wait' left' now)
   where
-    pub none_found : now.late ≡ false → Clear t (suc n)
-    none_found e = clear_more t r n w.clear (rw (w.waits, w.lefts, set.slacks) at (turned.quiet e))
+    pub one_found : now ≡ None → T (late_at t n)
+    one_found e = late_found t r n w.clear (rw (w.waits, w.lefts, set.slacks, set.tasks) at (turned.found e))
 
-    pub one_found : now.late ≡ true → T (late_at t n)
-    one_found e = late_found t r n w.clear (rw (w.waits, w.lefts, set.slacks) at (turned.found e))
+    module _ {owner : ℕ} (o : now ≡ Some owner) where
+      pub none_found : Clear t (suc n)
+      none_found = clear_more t r n w.clear (rw (w.waits, w.lefts, set.slacks, set.tasks) at (turned.quiet owner o))
 
-    served_slot : now.late ≡ false → Slotted t.count (slot.at (walked t n).wait) (slot.at (walked t n).left) (slot.at (columns_of t).period)
-        (slot.at (columns_of t).cost) (slot.at (columns_of t).slack) (slot.at (columns_of t).rank) (walked t n).wait (walked t n).left wait' left'
-        now.owner
-    served_slot e = rw (w.waits, w.lefts, set.periods, set.costs, set.slacks, set.ranks) at (turned.slot e)
+      pub served_slot : Slotted t.count (slot.at (walked t n).wait) (slot.at (walked t n).left) (slot.at (columns_of t).period)
+          (slot.at (columns_of t).cost) (slot.at (columns_of t).slack) (slot.at (columns_of t).rank) (walked t n).wait (walked t n).left wait' left' owner
+      served_slot = rw (w.waits, w.lefts, set.periods, set.costs, set.slacks, set.ranks, set.tasks) at (turned.slot owner o)
 
-    -- Its owner is that of step n.
-    pub owner_is : now.late ≡ false → now.owner ≡ owner_at t quiet n
-    owner_is e = step_owner t r n (none_found e) (served_slot e)
+      -- Its owner is that of step n.
+      pub owner_is : owner ≡ owner_at t quiet n
+      owner_is = step_owner t r n none_found served_slot
 
-    pub walked_next : now.late ≡ false → Walked t (suc n) wait' left'
-    walked_next e =
-        record { clear = none_found e; waits = step_waits t r n (none_found e) (served_slot e); lefts = step_lefts t r n (none_found e) (served_slot e) }
+      pub walked_next : Walked t (suc n) wait' left'
+      walked_next = record { clear = none_found; waits = step_waits t r n none_found served_slot; lefts = step_lefts t r n none_found served_slot }

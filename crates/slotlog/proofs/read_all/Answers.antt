@@ -1,5 +1,4 @@
 -- What is admitted may be read.
-use mathlib.Core.Path.{refl}
 use Rattle.slotlog.specs.State.{log_state_of}
 use Rattle.slotlog.specs.Bytes.{Readable, readable}
 use borrow.Author.Rules.{rules}
@@ -13,7 +12,7 @@ pub unpack-columns-requires : goal.unpack-columns-requires
 unpack-columns-requires c = (ready (goal.at.unpack-columns-requires c).Start).ranged
 
 pub read_blocks-requires : goal.read_blocks-requires
-read_blocks-requires c = (c.args.t, (refl, c.unpack-columns.ensures), ready (goal.at.read_blocks-requires c).Start)
+read_blocks-requires c = (c.args.t, c.unpack-columns.ensures, ready (goal.at.read_blocks-requires c).Start)
 
 pub returns : goal.returns
-returns c = c.read_blocks.ensures c.args.t (refl, c.unpack-columns.ensures) (ready (goal.at.returns c).Start)
+returns c = c.read_blocks.ensures c.args.t c.unpack-columns.ensures (ready (goal.at.returns c).Start)

@@ -1,18 +1,11 @@
--- The bytes below `i` are read.
-use Prim.Native.Nat.{◌-◌, ◌≤◌}
+-- The bytes before this one are read.
 use Rattle.values.specs.declared.Table.{Table}
-use Rattle.model.specs.Log.{Log}
-use Rattle.dispatch.specs.Step.{Unpacked, state_with}
-use Rattle.slotlog.specs.State.{joined}
-use Rattle.slotlog.specs.Bytes.{ReadTo}
+use Rattle.slots.specs.Columns.{Unpacked}
+use Rattle.slotlog.specs.State.{joined, log_state_of}
+use Rattle.slotlog.specs.Bytes.{Readable, ReadTo}
 use Rattle.slotlog.proofs.read_bytes.Given as goal
 
-abbrev pub invariant-loop-i : goal.invariant-loop-i
-invariant-loop-i l =
-    let log = joined (state_with l.initial.wait l.initial.left l.initial.last l.initial.given l.initial.empty) l.initial.read in
-    let here = joined (state_with l.wait l.left l.last l.given l.empty) l.read in
-    (l.from ≤ l.i) × (l.i ≤ l.to) × ((t : Table) (start : Log) → Unpacked t l.period l.cost l.slack l.rank l.n → ReadTo t start l.piece l.from log →
-    ReadTo t start l.piece l.i here)
-
-abbrev pub decreases-loop-i : goal.decreases-loop-i
-decreases-loop-i l = l.to - l.i
+abbrev pub invariant-loop-byte : goal.invariant-loop-byte
+invariant-loop-byte l =
+    (t : Table) → Unpacked t l.columns → Readable t (log_state_of l.fn.log)
+    → ReadTo t (log_state_of l.fn.log) l.bytes l.byte-index (joined l.state l.reading)

@@ -1,6 +1,6 @@
 -- Refused as it is, or read.
 use Rattle.std.specs.Prelude.{Ok}
-use mathlib.Core.Path.{refl, sym, ap, ◌∙◌}
+use mathlib.Core.Path.{sym, ap, ◌∙◌}
 use Rattle.model.specs.Log.{Log, fed}
 use Rattle.slotlog.proofs.Log.feed.Goals as goal
 
@@ -9,7 +9,7 @@ read_all-requires c = sym c.admission.ensures ∙ c.in-Ok.is
 
 pub returns-in-Err : goal.returns-in-Err
 unfolding fed
-returns-in-Err c = rw (← c.admission.ensures, c.in-Err.is) refl
+returns-in-Err c = rw (← c.admission.ensures, c.in-Err.is) c.handed_back.ensures
 
 pub returns-in-Ok : goal.returns-in-Ok
 unfolding fed

@@ -1,6 +1,6 @@
 -- Refused as it is, or what was found at the end.
 use Rattle.std.specs.Prelude.{Ok}
-use mathlib.Core.Path.{refl, sym, ap, ◌∙◌}
+use mathlib.Core.Path.{sym, ap, ◌∙◌}
 use Rattle.model.specs.Log.{Log, log_finished}
 use Rattle.slotlog.specs.Fits.{Sized}
 use Rattle.slotlog.specs.State.{log_state_of}
@@ -20,7 +20,7 @@ close-requires c =
 
 pub returns-in-Err : goal.returns-in-Err
 unfolding log_finished
-returns-in-Err c = rw (← c.admission.ensures, c.in-Err.is) refl
+returns-in-Err c = rw (← c.admission.ensures, c.in-Err.is) c.handed_back.ensures
 
 pub returns-in-Ok : goal.returns-in-Ok
 unfolding log_finished

@@ -23,7 +23,7 @@ first-state t d = go (judged t)
 pub returns-in-Err : goal.returns-in-Err
 unfolding log_started
 returns-in-Err c =
-    rw (← c.start-started.ensures, c.in-Err.is)
+    rw (← c.start-started.ensures, c.in-Err.is) c.handed_back.ensures
 
 pub returns-in-Ok : goal.returns-in-Ok
 unfolding log_started
