@@ -298,8 +298,8 @@ pub fn layers(bench: &mut Bench) {
         bench.count(promised.iter().any(|name| name == law), || format!("{ARCHITECTURE} names {law}, which is no promise"));
     }
     for (home, function) in functions_told(words) {
-        let code = fs::read_to_string(format!("crates/{home}/src/lib.rt")).unwrap_or_default();
-        let there = code.contains(&format!("fn {function}("));
+        let code = files_below(Path::new(&format!("crates/{home}/src")), ".rt");
+        let there = code.iter().any(|file| read(&file.to_string_lossy()).contains(&format!("fn {function}(")));
         bench.count(there, || format!("{ARCHITECTURE} names {home}::{function}, which is not there"));
     }
     bench.end_group("layers, and what their paper names");
