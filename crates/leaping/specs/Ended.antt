@@ -11,6 +11,7 @@ use Rattle.walks.specs.Course.{Quiet, Late}
 use Rattle.walks.specs.declared.Course.{Course}
 use Rattle.leaps.specs.Turn.{Landing}
 use Rattle.leaps.specs.Skipping.{Rounded, Stopped, idle_found, skipped}
+use Rattle.leaps.specs.Landed.{is_late}
 use Rattle.leaps.specs.declared.Landed.{Landed}
 
 abbrev pub Ended : Table → ℕ → Course → Type 0
@@ -23,7 +24,7 @@ Idled t end idle = (n : ℕ) × Clear t n × (idle ≡ idle_by t n) × (T (late_
 module _ (t : Table) (r : Ranged t) (light : load t ≤ round t) {n end : ℕ} {releases ready left worst : List ℕ} {x : Landed}
     (z : Landing t n end releases ready left worst x) where
   -- At a late deadline, with its start.
-  pub late_ended : x.late ≡ true → (from asked : ℕ) → from < x.time → asked ≡ demand t from x.time → x.time - from < asked
+  pub late_ended : is_late x.way ≡ true → (from asked : ℕ) → from < x.time → asked ≡ demand t from x.time → x.time - from < asked
       → ((later : ℕ) → from < later → later < x.time → T (asks_too_much t later x.time) → ⊥)
       → Ended t end (record { from = from; asked = asked; at = x.time; worst = worst; idle = x.idle })
   late_ended late from asked before asks much last = (
@@ -32,16 +33,16 @@ module _ (t : Table) (r : Ranged t) (light : load t ≤ round t) {n end : ℕ} {
   )
 
   module _ {again : ℕ} (stopped : Stopped again x) where
-    pub quiet_ended : Rounded t again → x.late ≡ false → (from asked at : ℕ) → asked ≡ 0 → at ≡ end
+    pub quiet_ended : Rounded t again → is_late x.way ≡ false → (from asked at : ℕ) → asked ≡ 0 → at ≡ end
         → Ended t end (record { from = from; asked = asked; at = at; worst = worst; idle = x.idle })
     quiet_ended rounded calm from asked at none at_end_lem =
         let (tally, clear) = skipped t r light z rounded calm stopped in
         rw at_end_lem (tally, inl (record { none = none; clear = clear; ends = refl }))
 
     pub idled : Idled t end x.idle
-    idled = (x.time, z.clear, z.tally.idles, by x.late refl)
+    idled = (x.time, z.clear, z.tally.idles, by (is_late x.way) refl)
       where
-        by : (late : Bool) → x.late ≡ late → T (late_at t x.time) ⊎ ((x.time ≡ end) ⊎ (0 < x.idle))
+        by : (late : Bool) → is_late x.way ≡ late → T (late_at t x.time) ⊎ ((x.time ≡ end) ⊎ (0 < x.idle))
         by true e = inl (z.late e)
         by false e = inr (elim stopped [
           | inl over ↦ inl (z.ends over e).0

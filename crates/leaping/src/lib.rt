@@ -14,7 +14,7 @@ ghost use Rattle.leaps.specs.Skipping.{Rounded};
 ghost use Rattle.leaping.specs.Start.{Last, due_by, Requeued};
 ghost use Rattle.leaping.specs.Ended.{Ended, Idled};
 
-use leaps::{Kept, Times};
+use leaps::{Kept, Times, Way};
 use values::{Measure, TASK_LIMIT, Table};
 use walks::Course;
 
@@ -84,9 +84,9 @@ pub fn search(t: Table, end: u64, again: u64, idling: bool) -> Course
             if idling {
                 break 'search;
             }
-            if !here.late {
+            let Way::Late = here.way else {
                 break 'search;
-            }
+            };
             at = here.time;
             let offset = slots::offsets(t);
             let lasts = last_jobs(t, &columns.mark, at);

@@ -17,7 +17,7 @@ use Rattle.leaps.specs.Entry.{entry}
 use Rattle.leaps.specs.Queue.{Queue, alike}
 use Rattle.leaps.specs.Held.{Coming, Held}
 use Rattle.leaps.specs.Columns.{Columned}
-use Rattle.leaps.specs.Landed.{going_at}
+use Rattle.leaps.specs.Landed.{is_over, going_at}
 use Rattle.leaps.specs.Turn.{Landing}
 use Rattle.leaps.proofs.Turns.{calm_clear}
 use Rattle.leaps.specs.declared.Landed.{Landed}
@@ -50,7 +50,7 @@ module _ {t : Table} {period cost deadline releases ready left worst : List ℕ}
       }
 
   -- Where the walk goes on, it does so from the landing.
-  pub here_next : {releases' ready' left' worst' : List ℕ} {y : Landed} → Landing t x.time end releases' ready' left' worst' y → y.over ≡ false
+  pub here_next : {releases' ready' left' worst' : List ℕ} {y : Landed} → Landing t x.time end releases' ready' left' worst' y → is_over y.way ≡ false
       → Here t period cost deadline releases' ready' left' worst' last end y
   here_next z e =
       record {

@@ -28,7 +28,7 @@ use Rattle.leaps.specs.Idling.{idle_busy, idle_done, idle_rest}
 use Rattle.leaps.specs.Held.{Held}
 use Rattle.leaps.proofs.Held.{next_of}
 use Rattle.leaps.proofs.Land.{strict, late_there, preempted, finished, rested}
-use Rattle.leaps.specs.Landed.{going_at, over_at, done_at, rested_at, next_late}
+use Rattle.leaps.specs.Landed.{done_over, done_late, going_at, over_at, done_at, rested_at, next_late}
 use Rattle.leaps.specs.Turn.{Landing}
 
 -- Where no open job is at its deadline at n, n is not late.
@@ -418,13 +418,13 @@ module _
               goes =
                   λ f. (
                     l,
-                    finish_held (edge_calm (λ m g. subst T (sym e ∙ f) ((and_iff (ltb 0 (jobs - 1)) _).1
+                    finish_held (edge_calm (λ m g. subst T (sym e ∙ (sym (done_over b) ∙ f)) ((and_iff (ltb 0 (jobs - 1)) _).1
                         (lt→ltb 0 (jobs - 1) m, eq→eqb (next / span) done g)))),
                   );
               late =
-                  λ f. let y = (and_iff (ltb 0 (jobs - 1)) (eqb (next / span) done)).0 (subst T (sym f ∙ e) tt) in edge_late
+                  λ f. let y = (and_iff (ltb 0 (jobs - 1)) (eqb (next / span) done)).0 (subst T (sym f ∙ done_late b ∙ e) tt) in edge_late
                   (ltb→lt 0 (jobs - 1) y.0) (eqb→eq (next / span) done y.1);
-              ends = λ f g. absurd (subst T (sym f ∙ g) tt);
+              ends = λ f g. absurd (subst T (sym f ∙ done_over b ∙ sym (done_late b) ∙ g) tt);
             }
 
           pub finishes : Landing t n end releases ready (set left i 0) (noted worst i ((task t i).deadline - (due - done)))

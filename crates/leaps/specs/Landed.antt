@@ -1,5 +1,5 @@
 -- What each way of a turn hands back.
-use Rattle.std.specs.Prelude.{◌≡◌, List, Bool, true, false, cond, not, ◌&&◌, ℕ, ◌+◌, ◌-◌, ◌/◌, ◌≤◌, ◌<◌, ltb, eqb, get_or, set}
+use Rattle.std.specs.Prelude.{◌≡◌, refl, List, Bool, true, false, cond, not, ◌&&◌, ℕ, ◌+◌, ◌-◌, ◌/◌, ◌≤◌, ◌<◌, ltb, eqb, get_or, set}
 use Rattle.std.proofs.Common.{sym, ap, ◌∙◌, arith}
 use Rattle.std.proofs.lemmas.List.{set-get_or}
 use Rattle.backlog.specs.WalkWorst.{noted}
@@ -7,16 +7,44 @@ use Rattle.slots.specs.Slot.{at}
 use Rattle.walks.specs.Tally.{idle_then}
 use Rattle.leaps.specs.Entry.{span}
 use Rattle.leaps.specs.declared.Landed.{Landed}
+use Rattle.leaps.specs.declared.Way.{Way}
+
+-- Whether a walk is over, and late; and its way by these.
+abbrev pub is_over : Way → Bool
+is_over Way.Going = false
+is_over Way.Over = true
+is_over Way.Late = true
+
+abbrev pub is_late : Way → Bool
+is_late Way.Going = false
+is_late Way.Over = false
+is_late Way.Late = true
+
+abbrev pub over_way : Bool → Way
+over_way true = Way.Late
+over_way false = Way.Over
+
+abbrev pub done_way : Bool → Way
+done_way true = Way.Late
+done_way false = Way.Going
+
+pub done_over : (late : Bool) → is_over (done_way late) ≡ late
+done_over true = refl
+done_over false = refl
+
+pub done_late : (late : Bool) → is_late (done_way late) ≡ late
+done_late true = refl
+done_late false = refl
 
 -- The walk goes on from a time; it is over there, late or not; a job is done, and another may be late.
 abbrev pub going_at : ℕ → ℕ → ℕ → Landed
-going_at time jobs idle = record { time = time; jobs = jobs; idle = idle; over = false; late = false }
+going_at time jobs idle = record { time = time; jobs = jobs; idle = idle; way = Way.Going }
 
 abbrev pub over_at : ℕ → ℕ → ℕ → Bool → Landed
-over_at time jobs idle late = record { time = time; jobs = jobs; idle = idle; over = true; late = late }
+over_at time jobs idle late = record { time = time; jobs = jobs; idle = idle; way = over_way late }
 
 abbrev pub done_at : ℕ → ℕ → ℕ → Bool → Landed
-done_at time jobs idle late = record { time = time; jobs = jobs; idle = idle_then idle (eqb jobs 0) time; over = late; late = late }
+done_at time jobs idle late = record { time = time; jobs = jobs; idle = idle_then idle (eqb jobs 0) time; way = done_way late }
 
 -- With no job open at n: the first idle instant, and where the walk goes.
 abbrev pub rested_at : ℕ → ℕ → ℕ → ℕ → Landed

@@ -6,6 +6,7 @@ use Rattle.model.specs.Dispatcher.{wait_of, left_of}
 use Rattle.backlog.specs.Walk.{walked, Clear}
 use Rattle.walks.specs.Tally.{Tally}
 use Rattle.leaps.specs.Held.{Held}
+use Rattle.leaps.specs.Landed.{is_over, is_late}
 use Rattle.leaps.specs.declared.Landed.{Landed}
 
 -- Where a leap from n has landed, with what is then held and noted.
@@ -13,6 +14,6 @@ pub record Landing (t : Table) (n end : ℕ) (releases ready left worst : List �
   pub upto : x.time ≤ end
   pub clear : Clear t x.time
   pub tally : Tally t x.time worst x.idle
-  pub goes : x.over ≡ false → (n < x.time) × Held t x.time (wait_of (walked t x.time)) (left_of (walked t x.time)) releases ready left x.jobs
-  pub late : x.late ≡ true → T (late_at t x.time)
-  pub ends : x.over ≡ true → x.late ≡ false → (x.time ≡ end) × Clear t (suc x.time)
+  pub goes : is_over x.way ≡ false → (n < x.time) × Held t x.time (wait_of (walked t x.time)) (left_of (walked t x.time)) releases ready left x.jobs
+  pub late : is_late x.way ≡ true → T (late_at t x.time)
+  pub ends : is_over x.way ≡ true → is_late x.way ≡ false → (x.time ≡ end) × Clear t (suc x.time)

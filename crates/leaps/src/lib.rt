@@ -15,7 +15,7 @@ ghost use Rattle.leaps.specs.Queue.{Queue, inserted};
 ghost use Rattle.leaps.specs.Held.{Coming};
 ghost use Rattle.leaps.specs.Columns.{columns_of, Marked};
 ghost use Rattle.leaps.specs.Kept.{DueIn, HeldIn, ReadyIn, HereIn, LandingIn};
-ghost use Rattle.leaps.specs.Landed.{going_at, over_at, rested_at, done_at, next_late};
+ghost use Rattle.leaps.specs.Landed.{going_at, over_at, rested_at, done_at, done_way, next_late};
 ghost use Rattle.leaps.specs.Skipping.{Stops};
 
 use slots::Numbers;
@@ -160,38 +160,42 @@ fn release_all(columns: &Columns, kept: &mut Kept, at: u64, opened: usize) -> us
     jobs
 }
 
-// Where a leap ends: the time, the open jobs, the first idle instant so far or 0; whether the walk is over there, and late.
+// How a walk goes on: further, over at its end, or over at a late deadline.
+#[derive(Clone, Copy)]
+pub enum Way {
+    Going,
+    Over,
+    Late,
+}
+
+// Where a leap ends: the time, the open jobs, the first idle instant so far or 0, and how the walk goes on.
 #[derive(Clone, Copy)]
 pub struct Landed {
     pub time: u64,
     pub jobs: usize,
     pub idle: u64,
-    pub over: bool,
-    pub late: bool,
+    pub way: Way,
 }
 
 pub fn going(time: u64, jobs: usize, idle: u64) -> Landed
     ensures { result ≡ going_at time jobs idle }
 {
-    let over = false;
     Landed {
         time,
         jobs,
         idle,
-        over,
-        late: over,
+        way: Way::Going,
     }
 }
 
-fn ended(time: u64, jobs: usize, idle: u64, late: bool) -> Landed
-    ensures { result ≡ over_at time jobs idle late }
+fn ended(time: u64, jobs: usize, idle: u64, way: Way) -> Landed
+    ensures { result ≡ record { time = time; jobs = jobs; idle = idle; way = way } }
 {
     Landed {
         time,
         jobs,
         idle,
-        over: true,
-        late,
+        way,
     }
 }
 
@@ -214,7 +218,7 @@ fn rest(at: u64, soon: u64, end: u64, idle: u64) -> Landed
     if soon < end {
         going(soon, 0, first)
     } else {
-        ended(end, 0, first, false)
+        ended(end, 0, first, Way::Over)
     }
 }
 
@@ -223,9 +227,9 @@ fn stop(due: u64, end: u64, jobs: usize, idle: u64) -> Landed
     ensures { result ≡ cond (leb due end) (over_at due jobs idle true) (over_at end jobs idle false) }
 {
     if due <= end {
-        ended(due, jobs, idle, true)
+        ended(due, jobs, idle, Way::Late)
     } else {
-        ended(end, jobs, idle, false)
+        ended(end, jobs, idle, Way::Over)
     }
 }
 
@@ -238,18 +242,22 @@ fn note(worst: &mut Numbers, i: usize, response: u32)
     }
 }
 
-// Of a job that is done at its deadline: whether the next open one has the same deadline.
-fn next_late(ready: &Times, jobs: usize, due: u64, done: u64) -> bool
+// Of a job that is done at its deadline: late, if the next open one has the same deadline.
+fn next_way(ready: &Times, jobs: usize, due: u64, done: u64) -> Way
     requires { jobs ≤ task_limit }
-    ensures { result ≡ next_late ready.now jobs due done }
+    ensures { result ≡ done_way (next_late ready.now jobs due done) }
 {
     if done < due {
-        return false;
+        return Way::Going;
     }
     if jobs == 0 {
-        return false;
+        return Way::Going;
     }
-    time_of(ready[jobs - 1]) == done
+    if time_of(ready[jobs - 1]) == done {
+        Way::Late
+    } else {
+        Way::Going
+    }
 }
 
 // The job of task i is done, no later than its deadline; `jobs` others are open.
@@ -275,13 +283,11 @@ fn finish(
         i,
         columns.table.tasks[i].deadline - (due - done) as u32,
     );
-    let over = next_late(&kept.ready, jobs, due, done);
     Landed {
         time: done,
         jobs,
         idle: first_idle(idle, jobs == 0, done),
-        over,
-        late: over,
+        way: next_way(&kept.ready, jobs, due, done),
     }
 }
 
@@ -330,14 +336,9 @@ pub fn leap(columns: &Columns, kept: &mut Kept, end: u64, here: Landed) -> Lande
 pub fn stops(here: Landed, again: u64) -> bool
     ensures { Stops again here result }
 {
-    if here.over {
-        return true;
+    let way = here.way;
+    match way {
+        Way::Going => here.jobs == 0 && again <= here.time,
+        Way::Over | Way::Late => true,
     }
-    if 0 < here.jobs {
-        return false;
-    }
-    if here.time < again {
-        return false;
-    }
-    true
 }

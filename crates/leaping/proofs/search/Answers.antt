@@ -3,7 +3,7 @@ use mathlib.Core.Path.{◌≡◌, refl, sym, ap, subst, ◌∙◌}
 use mathlib.Core.List.{List}
 use Prim.Native.Nat.{ℕ, ◌-◌, ◌/◌, ◌%◌, ◌≤◌, ◌<◌}
 use native.Mathlib.Omega.{arith}
-use mathlib.Core.Bool.{Bool, true, false, not}
+use mathlib.Core.Bool.{false}
 use lib.Dec.{T}
 use Rattle.model.specs.Limits.{task_limit}
 use Rattle.model.specs.Tasks.{task, offset}
@@ -12,26 +12,25 @@ use Rattle.slots.specs.Slot.{at as entry_at}
 use Rattle.leaps.specs.Entry.{places, span}
 use Rattle.leaps.proofs.Entries.{entry_time}
 use Rattle.leaps.specs.Columns.{marked}
+use Rattle.leaps.specs.declared.Way.{Way}
+use Rattle.leaps.specs.Landed.{is_late}
 use Rattle.leaps.specs.Kept.{columned_last, here_in, landing_of}
 use Rattle.leaps.proofs.Leaping.{leaping_start, here_next}
 use Rattle.leaping.specs.Start.{searching_start, some_left, crowded, asked_le, task_lt, length_in, found, goes_on}
 use Rattle.leaping.specs.Ended.{late_ended, quiet_ended, idled}
-use Rattle.leaping.proofs.search.Goals.{then-idling, else-idling+then-not-here, else-idling+else-not-here+then-length-count, After-leap-here, After-task_of-i, After-time_of-length, At-loop-count, At-search}
+use Rattle.leaping.proofs.search.Goals.{then-idling, else-idling+in_default, else-idling+in-Late+then-length-count, After-leap-here, After-task_of-i, After-time_of-length, At-loop-count, At-search}
 use Rattle.leaping.proofs.search.Goals as goal
 
-was_true : (b : Bool) → not b ≡ false → b ≡ true
-was_true true e = refl
-was_true false e = sym e
-
-was_false : (b : Bool) → not b ≡ true → b ≡ false
-was_false true e = sym e
-was_false false e = refl
+not_late : (way : Way) → (way ≡ Way.Late → ⊥) → is_late way ≡ false
+not_late Way.Going h = refl
+not_late Way.Over h = refl
+not_late Way.Late h = absurd (h refl)
 
 -- Its job that is counted next.
 busy : (c : At-loop-count) → 0 < c.loop-count.jobs
 busy c =
     let h = c.search.invariant.0 in
-    some_left _ h.ranged _ c.loop-count.invariant ((landing_of _ c.unpack-columns.ensures c.leap-here.ensures).late (was_true _ c.if-not-here.false))
+    some_left _ h.ranged _ c.loop-count.invariant ((landing_of _ c.unpack-columns.ensures c.leap-here.ensures).late (ap is_late c.in-Late.is))
 
 few : (c : At-loop-count) → c.loop-count.jobs ≤ task_limit
 few c = let h = c.search.invariant.0 in omega (arith, crowded _ h.ranged _ c.loop-count.invariant, h.ranged.few)
@@ -188,14 +187,14 @@ returns c =
             ended = λ e. absurd (subst T (sym w.if-idling.true ∙ e) tt);
             idled = λ e. idled _ h.ranged h.light z stopped;
           })
-      | else-idling+then-not-here w ↦
+      | else-idling+in_default w ↦
           rw (w.from-is, w.asked-is, w.at-is) (record {
-            ended = λ e. quiet_ended _ h.ranged h.light z stopped (c.requires.rounded e) (was_false _ w.if-not-here.true) _ _ _ none at_end_lem;
+            ended = λ e. quiet_ended _ h.ranged h.light z stopped (c.requires.rounded e) (not_late _ w.in_default.not-Late) _ _ _ none at_end_lem;
             idled = λ e. absurd (subst T (sym e ∙ w.if-idling.false) tt);
           })
-      | else-idling+else-not-here+then-length-count w ↦
+      | else-idling+in-Late+then-length-count w ↦
           let t = c.args.t in
-          let late = was_true _ w.if-not-here.false in
+          let late = ap is_late w.in-Late.is in
           let some = some_left _ h.ranged _ w.loop-count.invariant (z.late late) in
           let own : w.task_of-i.result < t.count = omega (arith, w.task_of-i.ensures, task_lt _ h.ranged _ w.loop-count.invariant some) in
           let cost : entry_at c.unpack-columns.result.cost w.task_of-i.result

@@ -121,7 +121,7 @@ finish-requires c =
       low (goal.at.finish-requires c).After-task_of-i,
       omega (arith, few (goal.at.finish-requires c).Else-jobs-eq0),
       omega (arith, c.if-due-done.false),
-      spare,
+      omega (arith, spare),
     )
 
 pub returns : goal.returns

@@ -1,8 +1,33 @@
--- The new cost is within the room's range.
+-- The answer is a pass, or another.
+use mathlib.Core.Path.{◌≡◌, refl, sym, ap, ◌∙◌}
+use mathlib.Core.Bool.{false}
 use native.Mathlib.Omega.{arith}
+use Rattle.values.specs.declared.DistanceAnswer.{DistanceAnswer}
+use Rattle.model.specs.Room.{room_with}
+use Rattle.patterns.specs.Room.{is_passed}
 use Rattle.patterns.proofs.Room.{passed_with}
 use Rattle.room.specs.Halving.{ranged_of}
+use Rattle.room.proofs.passes_with.Goals.{After-test}
 use Rattle.room.proofs.passes_with.Goals as goal
+
+told : (c : After-test) → is_passed c.test.result ≡ room_with c.args.t c.args.i c.args.cost
+told c =
+    let (m, well) = c.requires.well in
+    let (from, to) = c.requires.i_bound in
+    let some = ((ranged_of c.args.t c.requires.well).each c.args.i c.requires.i_lt_count).cost_pos in
+    rw (c.test.ensures, c.with_cost.ensures) (passed_with c.args.t m well c.args.i c.requires.i_lt_count c.args.cost (omega (arith, some, from)) to)
+
+other : (a : DistanceAnswer) → (a ≡ DistanceAnswer.Pass → ⊥) → false ≡ is_passed a
+other (DistanceAnswer.Refused r) h = refl
+other DistanceAnswer.Overload h = refl
+other DistanceAnswer.Pass h = absurd (h refl)
+other DistanceAnswer.NoAnswer h = refl
 
 pub with_cost-requires : goal.with_cost-requires
 with_cost-requires c = omega (arith, (ranged_of c.args.t c.requires.well).few, c.requires.i_lt_count)
+
+pub returns-in-Pass : goal.returns-in-Pass
+returns-in-Pass c = ap is_passed (sym c.in-Pass.is) ∙ told (goal.at.returns-in-Pass c).After-test
+
+pub returns-in_default : goal.returns-in_default
+returns-in_default c = other c.test.result c.in_default.not-Pass ∙ told (goal.at.returns-in_default c).After-test

@@ -1,7 +1,6 @@
 -- By what the table is judged to be, and whether the number is one of its tasks.
 use mathlib.Core.Path.{sym, ◌∙◌}
 use native.Mathlib.Omega.{arith}
-use borrow.Author.Rules.{rules}
 use borrow.Author.Tests.{lt-ltb, le-ltb}
 use Rattle.model.specs.Tasks.{judged_mixed}
 use Rattle.model.specs.Room.{room_answer}

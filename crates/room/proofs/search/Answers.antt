@@ -1,6 +1,6 @@
 -- The number that is found passes, or is the present cost; the next one does not, or is past the deadline.
 use mathlib.Core.Logic.{inl, inr}
-use mathlib.Core.Path.{◌≡◌, refl, sym, subst, ◌∙◌}
+use mathlib.Core.Path.{◌≡◌, refl}
 use Prim.Native.Nat.{◌+◌, ◌≤◌}
 use native.Mathlib.Omega.{arith}
 use mathlib.Core.Bool.{true, false}
@@ -8,7 +8,7 @@ use borrow.Author.Rules.{rules}
 use lib.Dec.{T}
 use Rattle.model.specs.Tasks.{task}
 use Rattle.model.specs.Room.{room_with}
-use Rattle.room.specs.Halving.{ranged_of, Halving, halving_start, halving_end}
+use Rattle.room.specs.Halving.{ranged_of, halving_start, halving_end}
 use Rattle.room.proofs.search.Goals.{After-last_passing}
 use Rattle.room.proofs.search.Goals as goal
 

@@ -1,6 +1,5 @@
 -- By the answer that was told.
 use mathlib.Core.Path.{sym, ◌∙◌}
-use borrow.Author.Rules.{rules}
 use Rattle.room.proofs.told.Goals as goal
 
 pub search-requires : goal.search-requires
