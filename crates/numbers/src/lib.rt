@@ -12,17 +12,14 @@ const LARGEST_PLACE: usize = 65535;
 pub fn refusal_number(why: Refusal) -> u64
     ensures { result ≡ refusal_number why }
 {
-    65536 * (why.number as u64) + why.place as u64
+    65536 * u64::from(why.number) + u64::from(why.place)
 }
 
 // A place has two bytes: a longer length is told as the largest.
-fn place_of(length: usize) -> u32
+pub fn place_of(length: usize) -> u32
     ensures { result ≡ min length 65535 }
 {
-    if length < LARGEST_PLACE {
-        return length as u32;
-    }
-    LARGEST_PLACE as u32
+    length.min(LARGEST_PLACE) as u32
 }
 
 pub fn refused_at(number: u32, place: usize) -> u64
