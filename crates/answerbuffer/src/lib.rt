@@ -1,7 +1,7 @@
 // The whole answer of a check as numbers in a lent buffer, the lowest byte first.
 #![tactic(auto)]
 
-ghost use Rattle.std.specs.Prelude.{◌≡◌, cond, ◌++◌, ◌≤◌, length, replicate, drop};
+ghost use Rattle.std.specs.Prelude.{◌≡◌, ◌++◌, ◌≤◌, length, replicate, drop};
 ghost use Rattle.model.specs.Limits.{task_limit};
 ghost use Rattle.model.specs.TableFile.{bytes_of};
 ghost use Rattle.model.specs.StateBuffer.{halves};
@@ -10,12 +10,6 @@ ghost use Rattle.counting.specs.Put.{Put};
 ghost use Rattle.answerbuffer.specs.Written.{longs_of};
 
 use values::{Answer, AnswerNumbers, LATE, OVERLOAD, PASSES, TASK_LIMIT, UNDECIDED, Verdict};
-
-fn as_number(pass: bool) -> u32
-    ensures { result ≡ cond pass 1 0 }
-{
-    if pass { 1 } else { 0 }
-}
 
 // What every verdict comes with; the rest is 0.
 fn brief_numbers(tasks: usize, quick: bool, answer: Answer, verdict: u32) -> AnswerNumbers
@@ -33,7 +27,7 @@ fn brief_numbers(tasks: usize, quick: bool, answer: Answer, verdict: u32) -> Ans
         to: 0,
         demand: 0,
         tasks: tasks as u32,
-        quick: as_number(quick),
+        quick: u32::from(quick),
         verdict,
         worst: [0u32; TASK_LIMIT],
     }
@@ -68,13 +62,12 @@ pub fn write_answer(buffer: &mut [u8], numbers: AnswerNumbers)
     requires { answer_bytes ≤ length buffer.old }
     ensures { buffer.new ≡ answer_buffer numbers ++ drop answer_bytes buffer.old }
 {
-    let worst = numbers.worst;
     let at = put_longs(buffer, numbers);
     let at = words::put_word(buffer, at, numbers.tasks);
     let at = words::put_word(buffer, at, numbers.quick);
     let at = words::put_word(buffer, at, numbers.verdict);
     let at = words::put_word(buffer, at, 0);
-    statebuffer::put_words(buffer, at, worst);
+    statebuffer::put_words(buffer, at, numbers.worst);
 }
 
 fn put_longs(buffer: &mut [u8], numbers: AnswerNumbers) -> usize

@@ -2,17 +2,14 @@
 #![tactic(auto)]
 
 ghost use Rattle.std.specs.Prelude.{◌≡◌, ◌+◌, ◌≤◌, length};
-ghost use Rattle.model.specs.Notation.{bit};
 ghost use Rattle.model.specs.TableFile.{bytes_of};
-ghost use Rattle.model.specs.StateBuffer.{quiet};
 ghost use Rattle.model.specs.LogBuffer.{log_bytes, number_of, place_of, finding_of, answer_number, log_buffer_of, log_in};
 ghost use Rattle.counting.specs.Put.{Put};
 ghost use Rattle.slotlog.specs.State.{log_state_of};
 ghost use Rattle.logbuffer.specs.Parts.{reading_in, words_of};
 
 use slotlog::{Log, Reading};
-use slots::NO_TASK;
-use values::{Finding, STATE_BYTES, Turn};
+use values::{Finding, STATE_BYTES};
 
 const DONE_AT: usize = STATE_BYTES + 4;
 
@@ -40,53 +37,38 @@ fn reading_in(buffer: &[u8]) -> Reading
     requires { length buffer.now ≡ log_bytes }
     ensures { result ≡ reading_in buffer.now }
 {
-    let found = finding_of(
-        words::word_at(buffer, NUMBER_AT),
-        words::word_at(buffer, PLACE_AT),
-    );
     Reading {
-        opened: words::is_set(words::word_at(buffer, STATE_BYTES)),
-        done: words::is_set(words::word_at(buffer, DONE_AT)),
+        opened: words::word_at(buffer, STATE_BYTES) != 0,
+        done: words::word_at(buffer, DONE_AT) != 0,
         slots: words::long_at(buffer, SLOTS_AT),
         bytes: words::long_at(buffer, BYTES_AT),
-        found,
+        found: finding_of(
+            words::word_at(buffer, NUMBER_AT),
+            words::word_at(buffer, PLACE_AT),
+        ),
     }
 }
 
 fn finding_of(number: u32, place: u32) -> Finding
     ensures { result ≡ finding_of number place }
 {
-    if number == 0 {
-        return Finding::Nothing;
-    }
-    if number == 1 {
-        return Finding::Good;
-    }
-    if number == 2 {
-        return Finding::Differs(place);
-    }
-    Finding::Fault { number, place }
-}
-
-fn number_of(found: Finding) -> u32
-    ensures { result ≡ number_of found }
-{
-    match found {
-        Finding::Nothing => 0,
-        Finding::Good => 1,
-        Finding::Differs(_) => 2,
-        Finding::Fault { number, place: _ } => number,
+    match number {
+        0 => Finding::Nothing,
+        1 => Finding::Good,
+        2 => Finding::Differs(place),
+        _ => Finding::Fault { number, place },
     }
 }
 
-fn place_of(found: Finding) -> u32
-    ensures { result ≡ place_of found }
+// The number and the place of what was found.
+fn told(found: Finding) -> (u32, u32)
+    ensures { result ≡ (number_of found, place_of found) }
 {
     match found {
-        Finding::Nothing => 0,
-        Finding::Good => 0,
-        Finding::Differs(slot) => slot,
-        Finding::Fault { number: _, place } => place,
+        Finding::Nothing => (0, 0),
+        Finding::Good => (1, 0),
+        Finding::Differs(slot) => (2, slot),
+        Finding::Fault { number, place } => (number, place),
     }
 }
 
@@ -94,31 +76,18 @@ fn place_of(found: Finding) -> u32
 pub fn answer_number(found: Finding) -> u64
     ensures { result ≡ answer_number found }
 {
-    ANSWERS * (number_of(found) as u64) + place_of(found) as u64
+    let (number, place) = told(found);
+    ANSWERS * u64::from(number) + u64::from(place)
 }
 
 pub fn write_log(buffer: &mut [u8], log: Log)
     requires { length buffer.old ≡ log_bytes }
     ensures { buffer.new ≡ log_buffer_of (log_state_of log) }
 {
-    let state = log.state;
-    let reading = log.reading;
-    let at = statebuffer::put_state(buffer, state, quiet());
-    let at = put_words(buffer, at, reading);
-    let at = words::put_long(buffer, at, reading.slots);
-    words::put_long(buffer, at, reading.bytes);
-}
-
-// No step stands behind a log's state.
-fn quiet() -> Turn
-    ensures { result ≡ quiet }
-{
-    Turn {
-        owner: NO_TASK,
-        late: 0,
-        closed: 0,
-        lowest: NO_TASK,
-    }
+    let at = statebuffer::put_state(buffer, log.state, statebuffer::quiet());
+    let at = put_words(buffer, at, log.reading);
+    let at = words::put_long(buffer, at, log.reading.slots);
+    words::put_long(buffer, at, log.reading.bytes);
 }
 
 // Whether a record is open and a report waits, and what was found.
@@ -127,15 +96,9 @@ fn put_words(buffer: &mut [u8], at: usize, reading: Reading) -> usize
     ensures put { Put (bytes_of (words_of reading)) at buffer.old buffer.new result }
     ensures value { result ≡ at + 16 }
 {
-    let found = reading.found;
-    let at = words::put_word(buffer, at, word_of(reading.opened));
-    let at = words::put_word(buffer, at, word_of(reading.done));
-    let at = words::put_word(buffer, at, number_of(found));
-    words::put_word(buffer, at, place_of(found))
-}
-
-fn word_of(set: bool) -> u32
-    ensures { result ≡ bit set }
-{
-    if set { 1 } else { 0 }
+    let (number, place) = told(reading.found);
+    let at = words::put_word(buffer, at, u32::from(reading.opened));
+    let at = words::put_word(buffer, at, u32::from(reading.done));
+    let at = words::put_word(buffer, at, number);
+    words::put_word(buffer, at, place)
 }

@@ -1,7 +1,10 @@
 -- The lines of a text: what a line says, and reading on from line to line.
-use Rattle.std.specs.Prelude.{◌≡◌, refl, ◌≢◌, Bool, true, false, cond, ℕ, zero, suc, ◌+◌, min, ◌≤◌, ◌<◌, leb, ltb, eqb, length, get_or, take, drop, Ok}
+use Rattle.std.specs.Prelude.{◌≡◌, refl, ◌≢◌, Bool, true, false, cond, ◌&&◌, ℕ, zero, suc, ◌+◌, ◌-◌, min, ◌≤◌, ◌<◌, leb, ltb, eqb, length, get_or, take, drop, Ok}
 use Rattle.std.proofs.Math.Path.{sym, ap}
-use Rattle.std.proofs.Common.{◌∙◌, arith, length-take-le, take-take, take_all}
+use Rattle.std.proofs.Common.{◌∙◌, arith, length-take-le, take-take, take_all, drop-cons, Bor, Option, None, Some}
+use lib.Pointwise.{pointwise}
+use lib.ListN.{drop_of_length-le}
+use Rattle.std.specs.Option.{MatchOption, unwrap_or}
 use mathlib.Core.List.{List, [], ◌∷◌, ◌++◌}
 use Rattle.std.proofs.Math.Decide.{dec_lt}
 use borrow.Author.Tests.{eq-eqb, ne_eqb, lt-leb, lt-ltb, le-ltb, leb-false}
@@ -31,6 +34,24 @@ before_comment l n r h e q =
     let size : length (take n l) ≡ n = length-take-le n l h in
     let few : length_to is_hash (take n l) ≤ length (take n l) = length_to_le is_hash (take n l) in
     (omega arith, sym (take-take r n l (omega arith)) ∙ rw q (sym (first_piece is_hash (take n l))) ∙ ap (λ (w : List ℕ). get_or (split is_hash w) 0 []) e)
+
+and_true_same : (b : Bool) → b && true ≡ b
+and_true_same true = refl
+and_true_same false = refl
+
+-- A line without the carriage return at its end, where it has one.
+return_is : (l : List ℕ) → pointwise eqb (drop (length l - 1) l) (13 ∷ []) ≡ eqb (get_or l (length l - 1) 0) 13
+return_is [] = refl
+return_is (x ∷ l) =
+    let last = length (x ∷ l) - 1 in
+    let end : drop (suc last) (x ∷ l) ≡ [] = drop_of_length-le (x ∷ l) {i = suc last} (omega arith) in
+    rw (drop-cons (x ∷ l) last 0 (omega arith), end) (and_true_same (eqb (get_or (x ∷ l) last 0) 13))
+
+pub line_end : (l : Bor (List ℕ)) (r : Option (Bor (List ℕ))) → let returns = pointwise eqb (drop (length l.now - 1) l.now) (13 ∷ []) in
+    MatchOption r (returns ≡ false) (λ x. (returns ≡ true) × (x.now ≡ take (length l.now - 1) l.now) × (length x.now + 1 ≡ length l.now))
+    → (unwrap_or r l).now ≡ without_return l.now
+line_end l None h = rw (← return_is l.now, h)
+line_end l (Some x) h = rw (← return_is l.now, h.0) h.1
 
 -- What words say that have a fault.
 said_fault : (f : ℕ) (l : Line) → f ≢ 0 → unless f l ≡ Line.Fault f

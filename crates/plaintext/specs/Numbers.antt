@@ -4,6 +4,7 @@ use Rattle.std.specs.Prelude.{ℕ, zero, suc, ◌+◌, ◌-◌, ◌*◌, ◌≤�
 use Rattle.std.proofs.Math.Path.{sym}
 use Rattle.std.proofs.Common.{ap, ◌∙◌, arith, lt-ltb, le-ltb, leb-true, length-set, drop-cons, drop-drop, get_or-drop, get_or-set_same, get_or-set_other}
 use Rattle.std.proofs.Math.Decide.{ℕ_discrete}
+use Rattle.std.specs.List.{list_all}
 use Rattle.model.specs.PlainText.{is_gap, is_digit, words_of, all_digits, value_after, value, number_fault, or_else, numbers_fault, number}
 use Rattle.pieces.specs.Marks.{length_to}
 use Rattle.plaintext.specs.Words.{some_word, no_words}
@@ -33,6 +34,12 @@ all_digits_lem (x ∷ w) e = go (is_digit x) (all_digits_lem w) e
         → b && all_digits w ≡ true
     go true later h = later (omega arith)
     go false later h = absurd (omega arith)
+
+-- The same by std's word for a test of all.
+pub all_digits_is : (w : List ℕ) → list_all is_digit w ≡ all_digits w
+unfolding all_digits
+all_digits_is [] = refl
+all_digits_is (x ∷ w) = rw (all_digits_is w)
 
 pub a_stranger : (w : List ℕ) → length_to stranger w < length w → all_digits w ≡ false
 unfolding length_to all_digits
@@ -158,6 +165,10 @@ all_read {limit} {n} {ws} {i} {f} {left} r h e =
       values = λ z k l. r.values k (omega arith);
       below = λ z k l. r.below k (omega arith);
     }
+
+-- Where there is a fault, nothing is said of the values.
+pub no_values : {limit n : ℕ} {ws : List (List ℕ)} {f : ℕ} {vs us : List ℕ} → f ≢ 0 → NumbersRead limit n ws f vs → NumbersRead limit n ws f us
+no_values h r = record { fault_is = r.fault_is; values = λ z. absurd (h z); below = λ z. absurd (h z) }
 
 pub a_word_left : (s : List ℕ) → length_to (λ x. not (is_gap x)) s < length s → 63 ≡ numbers_fault 0 0 (words_of s)
 unfolding numbers_fault

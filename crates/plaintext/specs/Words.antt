@@ -106,6 +106,13 @@ next_word s =
 pub found_word : (s : List ℕ) {from word : ℕ} → from ≡ length_to (λ x. not (is_gap x)) s → word ≡ length_to is_gap (drop from s) → NextWord s from (from + word)
 found_word s e q = rw (q, e) (next_word s)
 
+-- The first word, and what stands behind it.
+pub word_and_rest : (s : List ℕ) {from word : ℕ} → from ≡ length_to (λ x. not (is_gap x)) s → from < length s → word ≡ length_to is_gap (drop from s)
+    → words_of s ≡ take word (drop from s) ∷ words_of (drop word (drop from s))
+word_and_rest s e h q =
+    let from = length_to (λ x. not (is_gap x)) s in
+    rw (q, e) (gaps is_gap s ∙ one_word is_gap (drop from s) (word_begins is_gap s (omega (arith, e))))
+
 -- Some word is left where a byte of one is found, and none where none is.
 pub some_word : (s : List ℕ) → length_to (λ x. not (is_gap x)) s < length s → (w : List ℕ) × ((ws : List (List ℕ)) × (words_of s ≡ w ∷ ws))
 some_word s h = (_, (_, (next_word s).some (omega (arith, word_begins is_gap s h))))

@@ -1,36 +1,27 @@
 // Tables in plain text, read where they lie and written into a lent buffer.
 #![tactic(auto)]
 
-ghost use Rattle.std.specs.Prelude.{◌≡◌, true, suc, ◌+◌, ◌-◌, ◌≤◌, ◌<◌, min, ◌++◌, length, take};
+ghost use Rattle.std.specs.Prelude.{◌≡◌, true, false, suc, ◌+◌, ◌-◌, ◌≤◌, ◌<◌, min, ◌++◌, [], ◌∷◌, length, MatchOption};
 ghost use Rattle.model.specs.Notation.{decimal};
 ghost use Rattle.model.specs.Limits.{task_limit, longest_text};
 ghost use Rattle.model.specs.TableFile.{refuse_file};
-ghost use Rattle.model.specs.PlainText.{is_digit, without_return, content_of, words_of, all_digits, numbers_fault, budget_line, line_of};
+ghost use Rattle.model.specs.PlainText.{is_digit, content_of, words_of, all_digits, budget_line, line_of};
 ghost use Rattle.model.specs.PlainText.{text_form, sort_text, task_text, task_texts, text_of, text_written, from_text, to_text};
 ghost use Rattle.model.specs.Writer.{tasks_of, fitted, budgeted};
 ghost use Rattle.counting.specs.Put.{Put};
 ghost use Rattle.wellformed.specs.Ranges.{Ranged};
 ghost use Rattle.tablefile.specs.Built.{with_task};
 ghost use Rattle.writer.specs.Records.{filled};
-ghost use Rattle.plaintext.specs.Words.{NextWord};
 ghost use Rattle.plaintext.specs.Numbers.{NumberRead, NumbersRead};
-ghost use Rattle.plaintext.specs.Lines.{numbers_due, task_from, WordsFit, sort_line};
+ghost use Rattle.plaintext.specs.Lines.{sort_line};
+ghost use Rattle.plaintext.specs.Faults.{fault_number, fault_in, value_in, values_in, said};
 ghost use Rattle.plaintext.specs.Texts.{budget_line_bytes, name_room, task_room, aside};
 
-use pieces::Mark;
 use values::{
     Admission, Contents, Judgement, Line, Refusal, Sort, TASK_LIMIT, TEXT_BUDGET_NOT_FIRST,
     TEXT_LARGE_NUMBER, TEXT_NOT_A_NUMBER, TEXT_SECOND_BUDGET, TEXT_TOO_MANY_TASKS,
     TEXT_UNKNOWN_WORD, TEXT_WRONG_COUNT, Table, Task, Writing, ZERO_BUDGET,
 };
-
-const RETURN: u8 = 13;
-
-const BUDGET_NUMBERS: usize = 1;
-
-const TASK_NUMBERS: usize = 4;
-
-const BUTTON_NUMBERS: usize = 3;
 
 const LARGEST_NUMBER: u64 = 4_294_967_295;
 
@@ -41,243 +32,180 @@ const LAST_LINE: u32 = 65_535;
 // Room for the longest text, the lines of a budget and of every task, and for numbers of 64 bits in its last line.
 const ASIDE: usize = 28 + TASK_LIMIT * 29 + 60;
 
-// Where the first word begins and ends; they are the same where there is none.
+// What a line can have wrong.
 #[derive(Clone, Copy)]
-struct Word {
-    from: usize,
-    to: usize,
+enum Fault {
+    UnknownWord,
+    NotANumber,
+    LargeNumber,
+    WrongCount,
+    BudgetNotFirst,
+    SecondBudget,
+    TooManyTasks,
+    ZeroBudget,
 }
 
-fn next_word(s: &[u8]) -> Word
-    ensures { NextWord s.now result.from result.to }
+// The number by which a refusal tells it.
+fn number_of(fault: Fault) -> u32
+    ensures { result ≡ fault_number fault }
 {
-    let from = pieces::find(s, Mark::Word);
-    let rest = &s[from..];
-    Word {
-        from,
-        to: from + pieces::find(rest, Mark::Gap),
+    match fault {
+        Fault::UnknownWord => TEXT_UNKNOWN_WORD,
+        Fault::NotANumber => TEXT_NOT_A_NUMBER,
+        Fault::LargeNumber => TEXT_LARGE_NUMBER,
+        Fault::WrongCount => TEXT_WRONG_COUNT,
+        Fault::BudgetNotFirst => TEXT_BUDGET_NOT_FIRST,
+        Fault::SecondBudget => TEXT_SECOND_BUDGET,
+        Fault::TooManyTasks => TEXT_TOO_MANY_TASKS,
+        Fault::ZeroBudget => ZERO_BUDGET,
     }
 }
 
-// A number, unless it has a fault.
-#[derive(Clone, Copy)]
-struct Number {
-    fault: u32,
-    value: u64,
+// The first word, if there is one, and what stands behind it.
+fn next_word(s: &[u8]) -> Option<(&[u8], &[u8])>
+    ensures { MatchOption result (words_of s.now ≡ []) (λ p. words_of s.now ≡ p.0.now ∷ words_of p.1.now) }
+{
+    let from = pieces::find(s, |byte| !pieces::is_gap(byte));
+    if from == s.len() {
+        return None;
+    }
+    let rest = &s[from..];
+    Some(rest.split_at(pieces::find(rest, pieces::is_gap)))
 }
 
-fn number_in(word: &[u8], largest: u64) -> Number
+fn number_in(word: &[u8], largest: u64) -> Result<u64, Fault>
     requires { 9 ≤ largest }
-    ensures { NumberRead (suc largest) word.now result.fault result.value }
+    ensures { NumberRead (suc largest) word.now (fault_in result) (value_in result) }
 {
-    if pieces::find(word, Mark::Stranger) < word.len() {
-        return Number {
-            fault: TEXT_NOT_A_NUMBER,
-            value: 0,
-        };
+    if !word.iter().all(|byte| byte.is_ascii_digit()) {
+        return Err(Fault::NotANumber);
     }
     value_of(word, largest)
 }
 
-fn value_of(word: &[u8], largest: u64) -> Number
+fn value_of(word: &[u8], largest: u64) -> Result<u64, Fault>
     requires le_largest { 9 ≤ largest }
     requires word_value { all_digits word.now ≡ true }
-    ensures { NumberRead (suc largest) word.now result.fault result.value }
+    ensures { NumberRead (suc largest) word.now (fault_in result) (value_in result) }
 {
-    let mut value: u64 = 0;
-    for i in 0..word.len() {
-        let digit = digit_of(word[i]);
+    let mut value = 0;
+    for byte in word {
+        let digit = digit_of(*byte);
         if (largest - digit) / 10 < value {
-            return Number {
-                fault: TEXT_LARGE_NUMBER,
-                value: 0,
-            };
+            return Err(Fault::LargeNumber);
         }
         value = 10 * value + digit;
     }
-    Number { fault: 0, value }
+    Ok(value)
 }
 
 fn digit_of(byte: u8) -> u64
     requires { is_digit byte ≡ true }
     ensures { (result ≡ byte - 48) × (result ≤ 9) }
 {
-    (byte - b'0') as u64
+    u64::from(byte - b'0')
 }
 
-// The numbers of a line, unless they have a fault.
-#[derive(Clone, Copy)]
-struct Numbers {
-    fault: u32,
-    values: [u64; TASK_NUMBERS],
-}
-
-fn numbers_in(words: &[u8], due: usize, largest: u64) -> Numbers
-    requires due_bound { due ≤ 4 }
-    requires le_largest { 9 ≤ largest }
-    ensures { NumbersRead (suc largest) due (words_of words.now) result.fault result.values }
+// So many numbers, and no word behind them.
+fn numbers_in<const N: usize>(words: &[u8], largest: u64) -> Result<[u64; N], Fault>
+    requires { 9 ≤ largest }
+    ensures { NumbersRead (suc largest) N (words_of words.now) (fault_in result) (values_in result) }
 {
-    let mut values = [0u64; TASK_NUMBERS];
+    let mut values = [0; N];
     let mut left = words;
-    for i in 0..due {
-        let word = next_word(left);
-        let from = word.from;
-        let to = word.to;
-        if from == to {
-            return Numbers {
-                fault: TEXT_WRONG_COUNT,
-                values,
-            };
-        }
-        let number = number_in(&left[from..to], largest);
-        if number.fault != 0 {
-            return Numbers {
-                fault: number.fault,
-                values,
-            };
-        }
-        values[i] = number.value;
-        left = &left[to..];
+    for i in 0..N {
+        let Some((word, rest)) = next_word(left) else {
+            return Err(Fault::WrongCount);
+        };
+        values[i] = number_in(word, largest)?;
+        left = rest;
     }
-    Numbers {
-        fault: left_over(left),
-        values,
+    match next_word(left) {
+        Some(_) => Err(Fault::WrongCount),
+        None => Ok(values),
     }
 }
 
-// No word may be left.
-fn left_over(left: &[u8]) -> u32
-    ensures { result ≡ numbers_fault 0 0 (words_of left.now) }
-{
-    if pieces::find(left, Mark::Word) < left.len() {
-        return TEXT_WRONG_COUNT;
-    }
-    0
-}
-
-fn budget_line(rest: &[u8], given: bool, count: usize) -> Line
-    ensures { result ≡ budget_line given count (words_of rest.now) }
+fn budget_line(rest: &[u8], given: bool, count: usize) -> Result<Line, Fault>
+    ensures { said result ≡ budget_line given count (words_of rest.now) }
 {
     if given {
-        return Line::Fault(TEXT_SECOND_BUDGET);
+        return Err(Fault::SecondBudget);
     }
     if 0 < count {
-        return Line::Fault(TEXT_BUDGET_NOT_FIRST);
+        return Err(Fault::BudgetNotFirst);
     }
-    let read = numbers_in(rest, BUDGET_NUMBERS, LARGEST_BUDGET);
-    if read.fault != 0 {
-        return Line::Fault(read.fault);
-    }
-    let values = read.values;
-    let budget = values[0];
+    let [budget] = numbers_in::<1>(rest, LARGEST_BUDGET)?;
     if budget == 0 {
-        return Line::Fault(ZERO_BUDGET);
+        return Err(Fault::ZeroBudget);
     }
-    Line::Budget(budget)
+    Ok(Line::Budget(budget))
+}
+
+fn task_line(rest: &[u8], count: usize) -> Result<Line, Fault>
+    ensures { said result ≡ sort_line false count (words_of rest.now) }
+{
+    if TASK_LIMIT <= count {
+        return Err(Fault::TooManyTasks);
+    }
+    let [offset, cost, deadline, period] = numbers_in::<4>(rest, LARGEST_NUMBER)?;
+    Ok(Line::OneTask(Task {
+        sort: Sort::Periodic(offset as u32),
+        cost: cost as u32,
+        deadline: deadline as u32,
+        period: period as u32,
+    }))
 }
 
 // A button has no offset.
-fn numbers_due(button: bool) -> usize
-    ensures { result ≡ numbers_due button }
-{
-    if button {
-        return BUTTON_NUMBERS;
-    }
-    TASK_NUMBERS
-}
-
-fn task_of(button: bool, values: [u64; TASK_NUMBERS]) -> Task
-    requires { WordsFit button values }
-    ensures { result ≡ task_from button values }
-{
-    if button {
-        return Task {
-            sort: Sort::Button,
-            cost: values[0] as u32,
-            deadline: values[1] as u32,
-            period: values[2] as u32,
-        };
-    }
-    Task {
-        sort: Sort::Periodic(values[0] as u32),
-        cost: values[1] as u32,
-        deadline: values[2] as u32,
-        period: values[3] as u32,
-    }
-}
-
-fn task_line(button: bool, rest: &[u8], count: usize) -> Line
-    ensures { result ≡ sort_line button count (words_of rest.now) }
+fn button_line(rest: &[u8], count: usize) -> Result<Line, Fault>
+    ensures { said result ≡ sort_line true count (words_of rest.now) }
 {
     if TASK_LIMIT <= count {
-        return Line::Fault(TEXT_TOO_MANY_TASKS);
+        return Err(Fault::TooManyTasks);
     }
-    let read = numbers_in(rest, numbers_due(button), LARGEST_NUMBER);
-    if read.fault != 0 {
-        return Line::Fault(read.fault);
-    }
-    let values = read.values;
-    Line::OneTask(task_of(button, values))
+    let [cost, deadline, period] = numbers_in::<3>(rest, LARGEST_NUMBER)?;
+    Ok(Line::OneTask(Task {
+        sort: Sort::Button,
+        cost: cost as u32,
+        deadline: deadline as u32,
+        period: period as u32,
+    }))
 }
 
-fn line_of(line: &[u8], given: bool, count: usize) -> Line
-    ensures { result ≡ line_of given count (words_of line.now) }
+fn line_of(line: &[u8], given: bool, count: usize) -> Result<Line, Fault>
+    ensures { said result ≡ line_of given count (words_of line.now) }
 {
-    let word = next_word(line);
-    let from = word.from;
-    let to = word.to;
-    if from == to {
-        return Line::Nothing;
-    }
-    let name = &line[from..to];
-    let rest = &line[to..];
-    if pieces::same(name, b"budget") {
+    let Some((name, rest)) = next_word(line) else {
+        return Ok(Line::Nothing);
+    };
+    if name == b"budget".as_slice() {
         return budget_line(rest, given, count);
     }
-    if pieces::same(name, b"task") {
-        return task_line(false, rest, count);
+    if name == b"task".as_slice() {
+        return task_line(rest, count);
     }
-    if pieces::same(name, b"button") {
-        return task_line(true, rest, count);
+    if name == b"button".as_slice() {
+        return button_line(rest, count);
     }
-    Line::Fault(TEXT_UNKNOWN_WORD)
+    Err(Fault::UnknownWord)
 }
 
-fn without_return(line: &[u8]) -> usize
-    ensures { (result ≤ length line.now) × (take result line.now ≡ without_return line.now) }
+// What stands before the comment or the end of a line.
+fn content(line: &[u8]) -> &[u8]
+    ensures { result.now ≡ content_of line.now }
 {
-    let bytes = line.len();
-    if 0 < bytes {
-        if line[bytes - 1] == RETURN {
-            return bytes - 1;
-        }
-    }
-    bytes
-}
-
-// The bytes of a line before its comment or its end.
-fn content(line: &[u8]) -> usize
-    ensures { (result ≤ length line.now) × (take result line.now ≡ content_of line.now) }
-{
-    let bytes = without_return(line);
-    pieces::find(&line[0..bytes], Mark::Comment)
+    let line = line.strip_suffix(b"\r").unwrap_or(line);
+    &line[..pieces::find(line, |byte| byte == b'#')]
 }
 
 fn read_line(line: &[u8], given: bool, count: usize) -> Line
     ensures { result ≡ line_of given count (words_of (content_of line.now)) }
 {
-    let bytes = content(line);
-    line_of(&line[0..bytes], given, count)
-}
-
-fn next_line(line: u32) -> u32
-    requires { line ≤ 65535 }
-    ensures { result ≡ min (suc line) 65535 }
-{
-    if line < LAST_LINE {
-        return line + 1;
+    match line_of(content(line), given, count) {
+        Ok(said) => said,
+        Err(fault) => Line::Fault(number_of(fault)),
     }
-    line
 }
 
 fn refused_line(number: u32, line: u32) -> Contents
@@ -289,34 +217,21 @@ fn refused_line(number: u32, line: u32) -> Contents
     })
 }
 
-fn with_task(table: Table, task: Task) -> Table
-    requires { table.count < task_limit }
-    ensures { result ≡ with_task table task }
-{
-    let mut longer = table;
-    let count = table.count;
-    longer.tasks[count] = task;
-    longer.count = count + 1;
-    longer
-}
-
 // The text's form alone: its table is not judged.
 pub fn form_of(text: &[u8]) -> Contents
     ensures { result ≡ text_form text.now }
 {
-    let mut given = false;
-    let mut budget = LARGEST_BUDGET;
+    let mut budget = None;
     let mut table = tablefile::no_tasks();
     let mut line: u32 = 0;
     let mut left = text;
     loop {
-        let end = pieces::find(left, Mark::LineEnd);
-        line = next_line(line);
-        match read_line(&left[0..end], given, table.count) {
+        let end = pieces::find(left, |byte| byte == b'\n');
+        line = (line + 1).min(LAST_LINE);
+        match read_line(&left[..end], budget.is_some(), table.count) {
             Line::Nothing => {}
             Line::Budget(slots) => {
-                given = true;
-                budget = slots;
+                budget = Some(slots);
             }
             Line::OneTask(task) => {
                 table = with_task(table, task);
@@ -328,12 +243,21 @@ pub fn form_of(text: &[u8]) -> Contents
         if end == left.len() {
             return Contents {
                 admission: Ok(()),
-                budget,
+                budget: budget.unwrap_or(LARGEST_BUDGET),
                 table,
             };
         }
         left = &left[end + 1..];
     }
+}
+
+fn with_task(mut table: Table, task: Task) -> Table
+    requires { table.count < task_limit }
+    ensures { result ≡ with_task table task }
+{
+    table.tasks[table.count] = task;
+    table.count += 1;
+    table
 }
 
 // Any table, budget and buffer: the table is judged first, then the budget, then the buffer's length.
@@ -356,7 +280,7 @@ fn write_text(table: Table, budget: u64, buffer: &mut [u8]) -> Writing
     }
     let mut aside = [0u8; ASIDE];
     let bytes = put_text(&mut aside, budget, table);
-    copy_text(buffer, &aside[0..bytes])
+    copy_text(buffer, &aside[..bytes])
 }
 
 fn copy_text(buffer: &mut [u8], made: &[u8]) -> Writing
@@ -366,7 +290,7 @@ fn copy_text(buffer: &mut [u8], made: &[u8]) -> Writing
     if buffer.len() < made.len() {
         return writer::short_buffer(buffer.len());
     }
-    Ok(text::put_text(buffer, 0, made))
+    Ok(words::put(buffer, 0, made))
 }
 
 fn put_text(buffer: &mut [u8], budget: u64, table: Table) -> usize
@@ -386,10 +310,9 @@ fn put_tasks(buffer: &mut [u8], at: usize, table: Table) -> usize
     ensures put { Put (task_texts (tasks_of table)) at buffer.old buffer.new result }
     ensures upper_bound { result ≤ longest_text }
 {
-    let count = table.count;
     let mut next = at;
-    for i in 0..count {
-        next = put_task(buffer, next, table.tasks[i]);
+    for task in &table.tasks[..table.count] {
+        next = put_task(buffer, next, *task);
     }
     next
 }
@@ -398,10 +321,9 @@ fn put_task(buffer: &mut [u8], at: usize, task: Task) -> usize
     requires { at + task_room ≤ length buffer.old }
     ensures { Put (task_text task) at buffer.old buffer.new result }
 {
-    let sort = task.sort;
-    let at = put_name(buffer, at, sort, task.cost);
-    let at = text::put_number(buffer, at, b" ", task.deadline as u64);
-    text::put_line(buffer, at, b" ", task.period as u64)
+    let at = put_name(buffer, at, task.sort, task.cost);
+    let at = text::put_number(buffer, at, b" ", u64::from(task.deadline));
+    text::put_line(buffer, at, b" ", u64::from(task.period))
 }
 
 // Up to the cost: a button has no offset before it.
@@ -412,10 +334,10 @@ fn put_name(buffer: &mut [u8], at: usize, sort: Sort, cost: u32) -> usize
 {
     match sort {
         Sort::Periodic(offset) => {
-            let at = text::put_number(buffer, at, b"task ", offset as u64);
-            text::put_number(buffer, at, b" ", cost as u64)
+            let at = text::put_number(buffer, at, b"task ", u64::from(offset));
+            text::put_number(buffer, at, b" ", u64::from(cost))
         }
-        Sort::Button => text::put_number(buffer, at, b"button ", cost as u64),
+        Sort::Button => text::put_number(buffer, at, b"button ", u64::from(cost)),
     }
 }
 

@@ -38,8 +38,8 @@ pub fn write_refusal(buffer: &mut [u8], refusal: Refusal) -> usize
     ensures buffer_after { exported result buffer.new ≡ written (refusal_line refusal) buffer.old }
     ensures upper_bound { result ≤ report_bytes }
 {
-    let number = refusal.number as u64;
-    let place = refusal.place as u64;
+    let number = u64::from(refusal.number);
+    let place = u64::from(refusal.place);
     text::put_pair(buffer, 0, b"refused ", number, b" at ", place)
 }
 
@@ -49,9 +49,9 @@ fn put_quick(buffer: &mut [u8], at: usize, quick: bool) -> usize
     ensures upper_bound { result ≤ at + quick_bytes }
 {
     if quick {
-        text::put_text(buffer, at, b"quick pass\n")
+        words::put(buffer, at, b"quick pass\n")
     } else {
-        text::put_text(buffer, at, b"quick none\n")
+        words::put(buffer, at, b"quick none\n")
     }
 }
 
@@ -61,14 +61,10 @@ fn put_verdict(buffer: &mut [u8], at: usize, verdict: Verdict) -> usize
     ensures upper_bound { result ≤ at + verdict_bytes }
 {
     match verdict {
-        Verdict::Passes => text::put_text(buffer, at, b"verdict passes\n"),
-        Verdict::Overload => text::put_text(buffer, at, b"verdict overload\n"),
-        Verdict::Late {
-            from: _,
-            to: _,
-            demand: _,
-        } => text::put_text(buffer, at, b"verdict late\n"),
-        Verdict::Undecided => text::put_text(buffer, at, b"verdict undecided\n"),
+        Verdict::Passes => words::put(buffer, at, b"verdict passes\n"),
+        Verdict::Overload => words::put(buffer, at, b"verdict overload\n"),
+        Verdict::Late { .. } => words::put(buffer, at, b"verdict late\n"),
+        Verdict::Undecided => words::put(buffer, at, b"verdict undecided\n"),
     }
 }
 
@@ -86,8 +82,7 @@ fn put_details(
 {
     match verdict {
         Verdict::Passes => {
-            let worst = answer.worst;
-            let at = put_worst_lines(buffer, at, tasks, worst);
+            let at = put_worst_lines(buffer, at, tasks, answer.worst);
             text::put_line(buffer, at, b"idle ", answer.idle)
         }
         Verdict::Overload => at,
@@ -103,8 +98,8 @@ fn put_worst_lines(buffer: &mut [u8], at: usize, tasks: usize, worst: [u32; TASK
     ensures upper_bound { result ≤ at + task_limit * worst_bytes }
 {
     let mut next = at;
-    for task in 0..tasks {
-        next = put_worst_line(buffer, next, task, worst[task]);
+    for (task, response) in worst[..tasks].iter().enumerate() {
+        next = put_worst_line(buffer, next, task, *response);
     }
     next
 }
@@ -115,7 +110,7 @@ fn put_worst_line(buffer: &mut [u8], at: usize, task: usize, worst: u32) -> usiz
     ensures put { Put (line (text "worst " ++ decimal task ++ text " " ++ decimal worst)) at buffer.old buffer.new result }
     ensures upper_bound { result ≤ at + worst_bytes }
 {
-    text::put_pair(buffer, at, b"worst ", task as u64, b" ", worst as u64)
+    text::put_pair(buffer, at, b"worst ", task as u64, b" ", u64::from(worst))
 }
 
 fn put_interval(buffer: &mut [u8], at: usize, from: u64, to: u64, demand: u64) -> usize

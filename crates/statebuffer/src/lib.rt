@@ -4,11 +4,12 @@
 ghost use Rattle.std.specs.Prelude.{◌≡◌, ◌+◌, ◌*◌, ◌≤◌, length};
 ghost use Rattle.model.specs.Limits.{task_limit};
 ghost use Rattle.model.specs.TableFile.{bytes_of};
-ghost use Rattle.model.specs.StateBuffer.{state_bytes, halves, buffer_of, words_in, counts_in, state_in};
+ghost use Rattle.model.specs.StateBuffer.{state_bytes, halves, buffer_of, words_in, counts_in, state_in, quiet};
 ghost use Rattle.counting.specs.Put.{Put};
 
 use belonging::Counts;
-use slots::Numbers;
+use slots::{NO_TASK, Numbers};
+use std::array;
 use values::{State, TASK_LIMIT, Turn};
 
 const WORD_BYTES: usize = 4;
@@ -27,14 +28,11 @@ pub fn state_in(buffer: &[u8]) -> State
     requires { state_bytes ≤ length buffer.now }
     ensures { result ≡ state_in buffer.now }
 {
-    let wait = words_in(buffer, 0);
-    let left = words_in(buffer, TASK_LIMIT * WORD_BYTES);
-    let given = counts_in(buffer, COUNTS_AT);
     State {
-        wait,
-        left,
+        wait: words_in(buffer, 0),
+        left: words_in(buffer, TASK_LIMIT * WORD_BYTES),
         last: words::word_at(buffer, LAST_AT),
-        given,
+        given: counts_in(buffer, COUNTS_AT),
         empty: words::long_at(buffer, EMPTY_AT),
     }
 }
@@ -43,22 +41,14 @@ fn words_in(buffer: &[u8], at: usize) -> Numbers
     requires { at + 4 * task_limit ≤ length buffer.now }
     ensures { result ≡ words_in buffer.now at }
 {
-    let mut words = [0u32; TASK_LIMIT];
-    for i in 0..TASK_LIMIT {
-        words[i] = words::word_at(buffer, at + WORD_BYTES * i);
-    }
-    words
+    array::from_fn(|i| words::word_at(buffer, at + WORD_BYTES * i))
 }
 
 fn counts_in(buffer: &[u8], at: usize) -> Counts
     requires { at + 8 * task_limit ≤ length buffer.now }
     ensures { result ≡ counts_in buffer.now at }
 {
-    let mut counts = [0u64; TASK_LIMIT];
-    for i in 0..TASK_LIMIT {
-        counts[i] = words::long_at(buffer, at + COUNT_BYTES * i);
-    }
-    counts
+    array::from_fn(|i| words::long_at(buffer, at + COUNT_BYTES * i))
 }
 
 pub fn write_state(buffer: &mut [u8], d: State, turn: Turn)
@@ -74,16 +64,13 @@ pub fn put_state(buffer: &mut [u8], d: State, turn: Turn) -> usize
     ensures put { Put (buffer_of d turn) 0 buffer.old buffer.new result }
     ensures value { result ≡ state_bytes }
 {
-    let wait = d.wait;
-    let left = d.left;
-    let given = d.given;
-    let at = put_words(buffer, 0, wait);
-    let at = put_words(buffer, at, left);
+    let at = put_words(buffer, 0, d.wait);
+    let at = put_words(buffer, at, d.left);
     let at = words::put_word(buffer, at, d.last);
     let at = words::put_word(buffer, at, turn.late);
     let at = words::put_word(buffer, at, turn.closed);
     let at = words::put_word(buffer, at, turn.lowest);
-    let at = put_counts(buffer, at, given);
+    let at = put_counts(buffer, at, d.given);
     words::put_long(buffer, at, d.empty)
 }
 
@@ -93,8 +80,8 @@ pub fn put_words(buffer: &mut [u8], at: usize, words: Numbers) -> usize
     ensures value { result ≡ at + 4 * task_limit }
 {
     let mut next = at;
-    for i in 0..TASK_LIMIT {
-        next = words::put_word(buffer, next, words[i]);
+    for word in words {
+        next = words::put_word(buffer, next, word);
     }
     next
 }
@@ -105,8 +92,20 @@ fn put_counts(buffer: &mut [u8], at: usize, counts: Counts) -> usize
     ensures value { result ≡ at + 8 * task_limit }
 {
     let mut next = at;
-    for i in 0..TASK_LIMIT {
-        next = words::put_long(buffer, next, counts[i]);
+    for count in counts {
+        next = words::put_long(buffer, next, count);
     }
     next
+}
+
+// Where no step stands behind a state.
+pub fn quiet() -> Turn
+    ensures { result ≡ quiet }
+{
+    Turn {
+        owner: NO_TASK,
+        late: 0,
+        closed: 0,
+        lowest: NO_TASK,
+    }
 }

@@ -1,8 +1,7 @@
 // Numbers of four bytes and of eight, the lowest byte first, read and written where they lie.
 #![tactic(auto)]
 
-ghost use Rattle.std.specs.Prelude.{◌≡◌, not, ◌+◌, ◌/◌, ◌%◌, ◌^◌, ◌<◌, ◌≤◌, min, eqb, length};
-ghost use Rattle.model.specs.Limits.{word_limit};
+ghost use Rattle.std.specs.Prelude.{◌≡◌, ◌+◌, ◌^◌, ◌<◌, ◌≤◌, min, length};
 ghost use Rattle.model.specs.TableFile.{four, eight, word_bytes, two_words, bytes_of};
 ghost use Rattle.counting.specs.Put.{Put};
 
@@ -31,13 +30,6 @@ pub fn smaller(x: u64, y: u64) -> u64
     ensures { result ≡ min x y }
 {
     x.min(y)
-}
-
-// Any word but 0 is yes.
-pub fn is_set(word: u32) -> bool
-    ensures { result ≡ not (eqb word 0) }
-{
-    word != 0
 }
 
 pub fn long_at(s: &[u8], at: usize) -> u64

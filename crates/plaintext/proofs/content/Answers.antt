@@ -1,15 +1,12 @@
 -- The comment is looked for in what stands before the end.
-use mathlib.Core.Path.{ap, ◌∙◌}
-use mathlib.Core.List.{List}
-use Prim.Native.Nat.{ℕ}
-use Rattle.model.specs.PlainText.{is_hash}
-use Rattle.pieces.specs.Marks.{length_to}
-use Rattle.pieces.specs.Pieces.{from_front}
-use Rattle.plaintext.specs.Lines.{before_comment}
+use Rattle.std.proofs.Common.{List, ℕ, get_or, [], sym, ap, ◌∙◌, rules, Bor}
+use Rattle.model.specs.PlainText.{is_hash, split}
+use Rattle.pieces.specs.Pieces.{first_piece}
+use Rattle.plaintext.specs.Lines.{line_end}
 use Rattle.plaintext.proofs.content.Goals as goal
 
 pub returns : goal.returns
 returns c =
-    before_comment c.args.line.now c.without_return-bytes.result _ c.without_return-bytes.ensures.0
-    c.without_return-bytes.ensures.1 (c.find.ensures.value ∙ ap (λ (s : List ℕ). length_to is_hash s)
-    (from_front c.args.line.now c.without_return-bytes.result))
+    let line = ap (λ (l : Bor (List ℕ)). l.now) c.unwrap_or-line.ensures ∙ line_end c.args.line c.strip_suffix.result c.strip_suffix.ensures.cases in
+    let hash = c.find.ensures.value is_hash (λ x answer k. search rules) in
+    rw hash (sym (first_piece is_hash c.unwrap_or-line.result.now) ∙ ap (λ (l : List ℕ). get_or (split is_hash l) 0 []) line)

@@ -1,6 +1,6 @@
 -- The lines of the tasks below `task` are put.
 use mathlib.Core.Path.{◌≡◌}
-use Prim.Native.Nat.{◌≤◌, ◌+◌, ◌*◌, ◌-◌}
+use Prim.Native.Nat.{◌≤◌, ◌+◌, ◌*◌}
 use lib.ListN.{length}
 use Rattle.model.specs.Report.{worst_lines}
 use Rattle.counting.specs.Put.{Put}
@@ -12,7 +12,4 @@ invariant-loop-task l =
     (l.task ≤ l.tasks)
     × (length l.buffer ≡ length l.initial.buffer)
     × (l.next ≤ l.at + l.task * worst_bytes)
-    × Put (worst_lines l.worst l.task) l.at l.initial.buffer l.buffer l.next
-
-abbrev pub decreases-loop-task : goal.decreases-loop-task
-decreases-loop-task l = l.tasks - l.task
+    × Put (worst_lines l.fn.worst l.task) l.at l.initial.buffer l.buffer l.next

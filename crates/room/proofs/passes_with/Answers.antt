@@ -1,8 +1,10 @@
 -- The answer is a pass, or another.
+use Rattle.model.specs.Values.{DistanceAnswer}
+use Rattle.values.specs.declared.ByDistance.{ByDistance}
+use Rattle.std.specs.Prelude.{Ok, Err}
 use mathlib.Core.Path.{◌≡◌, refl, sym, ap, ◌∙◌}
 use mathlib.Core.Bool.{false}
 use native.Mathlib.Omega.{arith}
-use Rattle.values.specs.declared.DistanceAnswer.{DistanceAnswer}
 use Rattle.model.specs.Room.{room_with}
 use Rattle.patterns.specs.Room.{is_passed}
 use Rattle.patterns.proofs.Room.{passed_with}
@@ -17,11 +19,11 @@ told c =
     let some = ((ranged_of c.args.t c.requires.well).each c.args.i c.requires.i_lt_count).cost_pos in
     rw (c.test.ensures, c.with_cost.ensures) (passed_with c.args.t m well c.args.i c.requires.i_lt_count c.args.cost (omega (arith, some, from)) to)
 
-other : (a : DistanceAnswer) → (a ≡ DistanceAnswer.Pass → ⊥) → false ≡ is_passed a
-other (DistanceAnswer.Refused r) h = refl
-other DistanceAnswer.Overload h = refl
-other DistanceAnswer.Pass h = absurd (h refl)
-other DistanceAnswer.NoAnswer h = refl
+other : (a : DistanceAnswer) → (a ≡ Ok ByDistance.Pass → ⊥) → false ≡ is_passed a
+other (Err r) h = refl
+other (Ok ByDistance.Overload) h = refl
+other (Ok ByDistance.Pass) h = absurd (h refl)
+other (Ok ByDistance.NoAnswer) h = refl
 
 pub with_cost-requires : goal.with_cost-requires
 with_cost-requires c = omega (arith, (ranged_of c.args.t c.requires.well).few, c.requires.i_lt_count)

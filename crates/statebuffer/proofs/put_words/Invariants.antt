@@ -1,15 +1,12 @@
 -- The words below `i` are put.
 use mathlib.Core.Path.{◌≡◌}
-use Prim.Native.Nat.{◌≤◌, ◌+◌, ◌*◌, ◌-◌}
+use Prim.Native.Nat.{◌≤◌, ◌+◌, ◌*◌}
 use lib.ListN.{length, take}
 use Rattle.model.specs.Limits.{task_limit}
 use Rattle.model.specs.TableFile.{bytes_of}
 use Rattle.counting.specs.Put.{Put}
 use Rattle.statebuffer.proofs.put_words.Given as goal
 
-abbrev pub invariant-loop-i : goal.invariant-loop-i
-invariant-loop-i l = (l.i ≤ task_limit) × (length l.buffer ≡ length l.initial.buffer) × (l.next ≡ l.at + 4 * l.i) × Put (bytes_of (take l.i l.words))
+abbrev pub invariant-loop-word : goal.invariant-loop-word
+invariant-loop-word l = (l.word-index ≤ task_limit) × (length l.buffer ≡ length l.initial.buffer) × (l.next ≡ l.at + 4 * l.word-index) × Put (bytes_of (take l.word-index l.fn.words))
     l.at l.initial.buffer l.buffer l.next
-
-abbrev pub decreases-loop-i : goal.decreases-loop-i
-decreases-loop-i l = task_limit - l.i

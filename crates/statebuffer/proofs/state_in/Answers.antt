@@ -5,4 +5,4 @@ use Rattle.statebuffer.proofs.state_in.Goals as goal
 pub returns : goal.returns
 unfolding state_in
 returns c =
-    rw (c.words_in-wait.ensures, c.words_in-left.ensures, c.word_at.ensures, c.counts_in-given.ensures, c.long_at.ensures)
+    rw (c.words_in.ensures, c.words_in-2.ensures, c.word_at.ensures, c.counts_in.ensures, c.long_at.ensures)

@@ -1,13 +1,10 @@
--- The words below `i` are read.
-use native.Mathlib.Omega.{arith}
-use Rattle.counting.specs.Fill.{fill_none, fill_put, fill_done}
+-- Each entry is read at its place.
+use Rattle.std.proofs.Common.{◌+◌, ◌*◌, ℕ, rules}
+use Rattle.model.specs.TableFile.{four}
+use Rattle.counting.specs.FromFn.{from_fn_fill}
 use Rattle.statebuffer.proofs.words_in.Goals as goal
 
-pub loop-i-init : goal.loop-i-init
-loop-i-init c = (omega arith, fill_none _ _)
-
-pub loop-i-preserved : goal.loop-i-preserved
-loop-i-preserved c = (omega arith, fill_put _ _ _ c.loop-i.invariant.1 c.word_at.ensures)
-
 pub returns : goal.returns
-returns c = fill_done _ _ _ _ c.loop-i.invariant.0 (omega arith) c.loop-i.invariant.1
+returns c =
+    let buffer = c.args.buffer.now in
+    from_fn_fill _ _ (λ (i : ℕ). four buffer (c.args.at + 4 * i)) (λ x y q k. search rules) 0 c.from_fn.ensures.items
