@@ -1,5 +1,6 @@
 -- Tables in plain text: for any bytes the refusal, or the budget and the tasks;
 -- the text of a budget and tasks; the exported calls.
+use Rattle.values.specs.declared.Entry.{Entry}
 use Rattle.std.specs.Prelude.{List, [], ◌∷◌, ◌++◌, Bool, true, false, cond, ◌&&◌, ◌||◌, ℕ, zero, suc, ◌+◌, ◌-◌, ◌*◌, min, leb, ltb, eqb, get_or, length, take, Ok, Err}
 use Rattle.model.specs.Notation.{text, decimal}
 use Rattle.model.specs.Values.{Sort, Task, Table, Contents, Admission, Line}
@@ -95,17 +96,17 @@ same (x ∷ w) (y ∷ v) = eqb x y && same w v
 -- What words say unless they have a fault.
 abbrev pub unless : ℕ → Line → Line
 unless zero l = l
-unless (suc f) l = Line.Fault (suc f)
+unless (suc f) l = Err (suc f)
 
 -- A budget, once its line has no other fault: one of 0 is 27.
 abbrev pub budget_said : ℕ → Line
-budget_said b = cond (eqb b 0) (Line.Fault 27) (Line.Budget b)
+budget_said b = cond (eqb b 0) (Err 27) (Ok (Entry.Budget b))
 
 -- A budget, if there is one, stands before all tasks and once: a second one is 65, one behind a task 64.
 unfoldable pub budget_line : Bool → ℕ → List (List ℕ) → Line
 budget_line given count ws =
-    cond given (Line.Fault 65)
-    (cond (ltb 0 count) (Line.Fault 64) (unless (numbers_fault budget_limit 1 ws) (budget_said (number ws 0))))
+    cond given (Err 65)
+    (cond (ltb 0 count) (Err 64) (unless (numbers_fault budget_limit 1 ws) (budget_said (number ws 0))))
 
 -- The numbers of a task are O, C, D, T, and of a button C, D and its spacing.
 abbrev pub task_in : List (List ℕ) → Task
@@ -118,16 +119,16 @@ button_in ws = record { sort = Sort.Button; cost = number ws 0; deadline = numbe
 -- A task of so many numbers: one more than a table may have is 66.
 unfoldable pub task_line : ℕ → Task → ℕ → List (List ℕ) → Line
 task_line numbers k count ws =
-    cond (leb task_limit count) (Line.Fault 66) (unless (numbers_fault word_limit numbers ws) (Line.OneTask k))
+    cond (leb task_limit count) (Err 66) (unless (numbers_fault word_limit numbers ws) (Ok (Entry.OneTask k)))
 
 -- What a line of these words says, after a budget or none and so many tasks:
 -- its first word tells which it is, or is 60.
 unfoldable pub line_of : Bool → ℕ → List (List ℕ) → Line
-line_of given count [] = Line.Nothing
+line_of given count [] = Ok Entry.Nothing
 line_of given count (w ∷ ws) =
     cond (same w (text "budget")) (budget_line given count ws)
     (cond (same w (text "task")) (task_line 4 (task_in ws) count ws)
-    (cond (same w (text "button")) (task_line 3 (button_in ws) count ws) (Line.Fault 60)))
+    (cond (same w (text "button")) (task_line 3 (button_in ws) count ws) (Err 60)))
 
 -- A fault is told with its line, counted from 1, or with 65,535.
 abbrev pub refuse_text : ℕ → ℕ → Contents
@@ -135,10 +136,10 @@ refuse_text f n = refuse_file f (min n 65535)
 
 -- What line n leads to after the budget b, given or not, and the tasks ks.
 abbrev pub after_line : (Bool → ℕ → List Task → Contents) → Bool → ℕ → List Task → ℕ → Line → Contents
-after_line go given b ks n Line.Nothing = go given b ks
-after_line go given b ks n (Line.Budget x) = go true x ks
-after_line go given b ks n (Line.OneTask k) = go given b (ks ++ (k ∷ []))
-after_line go given b ks n (Line.Fault f) = refuse_text f n
+after_line go given b ks n (Ok Entry.Nothing) = go given b ks
+after_line go given b ks n (Ok (Entry.Budget x)) = go true x ks
+after_line go given b ks n (Ok (Entry.OneTask k)) = go given b (ks ++ (k ∷ []))
+after_line go given b ks n (Err f) = refuse_text f n
 
 -- The lines after n lines.
 unfoldable pub read_lines : Bool → ℕ → List Task → ℕ → List (List ℕ) → Contents

@@ -15,7 +15,7 @@ pub use Rattle.values.specs.declared.Quick.{Quick}
 pub use Rattle.values.specs.declared.ByDistance.{ByDistance}
 pub use Rattle.values.specs.declared.Easing.{Easing}
 pub use Rattle.values.specs.declared.Contents.{Contents}
-pub use Rattle.values.specs.declared.Line.{Line}
+pub use Rattle.values.specs.declared.Entry.{Entry}
 pub use Rattle.values.specs.declared.State.{State}
 pub use Rattle.values.specs.declared.Turn.{Turn}
 pub use Rattle.values.specs.declared.Finding.{Finding}
@@ -48,6 +48,10 @@ LargestCost = Result Limit Refusal
 
 abbrev pub Fit : Type 0
 Fit = Result Limit Refusal
+
+-- What a line of a plain text says: an entry, or the number of its fault.
+abbrev pub Line : Type 0
+Line = Result Entry ℕ
 
 -- A verdict: its number in the order in which they are said, and the slots that are settled; then the interval and demand
 -- of a late one, or of one that passes the first idle instant and the worst responses.

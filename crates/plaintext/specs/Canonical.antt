@@ -1,5 +1,5 @@
 -- The text of a budget and tasks is read as this budget and these tasks.
-use Rattle.std.specs.Prelude.{◌≡◌, ◌≢◌, Bool, true, false, ◌&&◌, ℕ, zero, suc, ◌+◌, ◌-◌, ◌*◌, ◌/◌, ◌%◌, ◌≤◌, ◌<◌, length, get_or}
+use Rattle.std.specs.Prelude.{◌≡◌, ◌≢◌, Bool, true, false, ◌&&◌, ℕ, zero, suc, ◌+◌, ◌-◌, ◌*◌, ◌/◌, ◌%◌, ◌≤◌, ◌<◌, length, get_or, Ok}
 use Rattle.std.proofs.Math.Path.{refl, ap}
 use Rattle.std.proofs.Common.{sym, ◌∙◌, arith, lit≤, lit<, length-append}
 use mathlib.Core.List.{List, [], ◌∷◌, ◌++◌, append-nil, append_assoc}
@@ -8,7 +8,7 @@ use borrow.Author.Tests.{ne_eqb, le-leb, lt-ltb, lt-leb}
 use Rattle.std.proofs.Math.Seq.{append_snoc}
 use Rattle.values.specs.declared.Sort.{Sort}
 use Rattle.values.specs.declared.Task.{Task}
-use Rattle.values.specs.declared.Line.{Line}
+use Rattle.values.specs.declared.Entry.{Entry}
 use Rattle.model.specs.Notation.{text, decimal}
 use Rattle.model.specs.Limits.{task_limit, word_limit, budget_limit}
 use Rattle.model.specs.TableFile.{refuse_file, admit}
@@ -238,7 +238,7 @@ module _ (c d p : ℕ) where
       ap (λ (l : List ℕ). words_of l) grouped ∙ word_then (text "button") _ button_name (lit< tt) ∙ ap (λ (ws : List (List ℕ)). text "button" ∷ ws) number_words
 
   sort_said_lem : (q : Sort) (given : Bool) (count : ℕ) → count < task_limit → Fits32 (sorted q)
-      → line_of given count (words_of (content_of (sort_content q))) ≡ Line.OneTask (sorted q)
+      → line_of given count (words_of (content_of (sort_content q))) ≡ Ok (Entry.OneTask (sorted q))
   unfolding line_of task_line numbers_fault same text
   sort_said_lem (Sort.Periodic o) given count room (a, b, e, t) =
       rw (
@@ -274,7 +274,7 @@ module _ (k : Task) where
   task_clear : All InLine task_content
   task_clear = sort_clear k.cost k.deadline k.period k.sort
 
-  task_said : (given : Bool) (count : ℕ) → count < task_limit → Fits32 k → line_of given count (words_of (content_of task_content)) ≡ Line.OneTask k
+  task_said : (given : Bool) (count : ℕ) → count < task_limit → Fits32 k → line_of given count (words_of (content_of task_content)) ≡ Ok (Entry.OneTask k)
   task_said given count room fits = sort_said_lem k.cost k.deadline k.period k.sort given count room fits
 
 -- ---- The whole text

@@ -1,5 +1,5 @@
 -- The lines of a text: what a line says, and reading on from line to line.
-use Rattle.std.specs.Prelude.{◌≡◌, refl, ◌≢◌, Bool, true, false, cond, ◌&&◌, ℕ, zero, suc, ◌+◌, ◌-◌, min, ◌≤◌, ◌<◌, leb, ltb, eqb, length, get_or, take, drop, Ok}
+use Rattle.std.specs.Prelude.{◌≡◌, refl, ◌≢◌, Bool, true, false, cond, ◌&&◌, ℕ, zero, suc, ◌+◌, ◌-◌, min, ◌≤◌, ◌<◌, leb, ltb, eqb, length, get_or, take, drop, Ok, Err}
 use Rattle.std.proofs.Math.Path.{sym, ap}
 use Rattle.std.proofs.Common.{◌∙◌, arith, length-take-le, take-take, take_all, drop-cons, Bor, Option, None, Some}
 use lib.Pointwise.{pointwise}
@@ -11,7 +11,8 @@ use borrow.Author.Tests.{eq-eqb, ne_eqb, lt-leb, lt-ltb, le-ltb, leb-false}
 use Rattle.values.specs.declared.Sort.{Sort}
 use Rattle.values.specs.declared.Task.{Task}
 use Rattle.values.specs.declared.Table.{Table}
-use Rattle.values.specs.declared.Line.{Line}
+use Rattle.model.specs.Values.{Line}
+use Rattle.values.specs.declared.Entry.{Entry}
 use Rattle.model.specs.Limits.{task_limit, word_limit, budget_limit}
 use Rattle.model.specs.Notation.{text}
 use Rattle.model.specs.TableFile.{table_of, refuse_file}
@@ -54,28 +55,28 @@ line_end l None h = rw (← return_is l.now, h)
 line_end l (Some x) h = rw (← return_is l.now, h.0) h.1
 
 -- What words say that have a fault.
-said_fault : (f : ℕ) (l : Line) → f ≢ 0 → unless f l ≡ Line.Fault f
+said_fault : (f : ℕ) (l : Line) → f ≢ 0 → unless f l ≡ Err f
 said_fault zero l h = absurd (h refl)
 said_fault (suc f) l h = refl
 
 module _ {ws : List (List ℕ)} {f : ℕ} {vs : List ℕ} (count : ℕ) (first : count ≤ 0) (r : NumbersRead budget_limit 1 ws f vs) where
-  pub budget_fault : f ≢ 0 → Line.Fault f ≡ budget_line false count ws
+  pub budget_fault : f ≢ 0 → Err f ≡ budget_line false count ws
   unfolding budget_line
   budget_fault h = rw (le-ltb 0 count first, ← r.fault_is) (sym (said_fault f _ h))
 
-  pub budget_nothing : f ≡ 0 → get_or vs 0 0 ≡ 0 → Line.Fault 27 ≡ budget_line false count ws
+  pub budget_nothing : f ≡ 0 → get_or vs 0 0 ≡ 0 → Err 27 ≡ budget_line false count ws
   unfolding budget_line
   budget_nothing z none = rw (le-ltb 0 count first, ← r.fault_is, z, ← r.values z 0 (omega arith), eq-eqb (get_or vs 0 0) 0 none)
 
-  pub budget_good : f ≡ 0 → get_or vs 0 0 ≢ 0 → Line.Budget (get_or vs 0 0) ≡ budget_line false count ws
+  pub budget_good : f ≡ 0 → get_or vs 0 0 ≢ 0 → Ok (Entry.Budget (get_or vs 0 0)) ≡ budget_line false count ws
   unfolding budget_line
   budget_good z some = rw (le-ltb 0 count first, ← r.fault_is, z, ← r.values z 0 (omega arith), ne_eqb (get_or vs 0 0) 0 some)
 
-pub second_budget : (count : ℕ) (ws : List (List ℕ)) → Line.Fault 65 ≡ budget_line true count ws
+pub second_budget : (count : ℕ) (ws : List (List ℕ)) → Err 65 ≡ budget_line true count ws
 unfolding budget_line
 second_budget count ws = refl
 
-pub budget_behind : (count : ℕ) (ws : List (List ℕ)) → 0 < count → Line.Fault 64 ≡ budget_line false count ws
+pub budget_behind : (count : ℕ) (ws : List (List ℕ)) → 0 < count → Err 64 ≡ budget_line false count ws
 unfolding budget_line
 budget_behind count ws h = rw (lt-ltb 0 count h)
 
@@ -108,29 +109,29 @@ module _ {ws : List (List ℕ)} {f : ℕ} {vs : List ℕ} where
   task_numbers false r z = rw (r.values z 0 (omega arith), r.values z 1 (omega arith), r.values z 2 (omega arith), r.values z 3 (omega arith))
 
   module _ (button : Bool) (count : ℕ) (room : count < task_limit) (r : NumbersRead word_limit (numbers_due button) ws f vs) where
-    pub task_fault_lem : f ≢ 0 → Line.Fault f ≡ sort_line button count ws
+    pub task_fault_lem : f ≢ 0 → Err f ≡ sort_line button count ws
     unfolding task_line
     task_fault_lem h = rw (lt-leb task_limit count room, ← r.fault_is) (sym (said_fault f _ h))
 
-    pub task_good : {k : Task} → f ≡ 0 → k ≡ task_from button vs → Line.OneTask k ≡ sort_line button count ws
+    pub task_good : {k : Task} → f ≡ 0 → k ≡ task_from button vs → Ok (Entry.OneTask k) ≡ sort_line button count ws
     unfolding task_line
-    task_good z e = rw (lt-leb task_limit count room, ← r.fault_is, z) (ap Line.OneTask (e ∙ task_numbers button r z))
+    task_good z e = rw (lt-leb task_limit count room, ← r.fault_is, z) (ap (λ (x : Task). Ok (Entry.OneTask x)) (e ∙ task_numbers button r z))
 
 -- A line that says a task found room for it.
-room_for_task : (given : Bool) (count : ℕ) (ws : List (List ℕ)) (k : Task) → line_of given count ws ≡ Line.OneTask k → count < task_limit
+room_for_task : (given : Bool) (count : ℕ) (ws : List (List ℕ)) (k : Task) → line_of given count ws ≡ Ok (Entry.OneTask k) → count < task_limit
 unfolding line_of budget_line task_line
 room_for_task given count [] k e = let z : ◌≡◌ {A = ℕ} 0 1 = cc in absurd (omega arith)
 room_for_task given count (w ∷ ws) k e =
     go (same w (text "budget")) (same w (text "task")) (same w (text "button")) given (ltb 0 count) (eqb (number ws 0) 0) (numbers_fault budget_limit 1 ws) e
   where
     taken : (n : ℕ) (j : Task) (full : Bool) → leb task_limit count ≡ full
-        → cond full (Line.Fault 66) (unless (numbers_fault word_limit n ws) (Line.OneTask j)) ≡ Line.OneTask k → count < task_limit
+        → cond full (Err 66) (unless (numbers_fault word_limit n ws) (Ok (Entry.OneTask j))) ≡ Ok (Entry.OneTask k) → count < task_limit
     taken n j true q e = let z : ◌≡◌ {A = ℕ} 0 1 = cc in absurd (omega arith)
     taken n j false q e = leb-false task_limit count q
 
     go : (budget task button g behind nothing : Bool) (f : ℕ)
-        → cond budget (cond g (Line.Fault 65) (cond behind (Line.Fault 64) (unless f (cond nothing (Line.Fault 27) (Line.Budget (number ws 0))))))
-        (cond task (task_line 4 (task_in ws) count ws) (cond button (task_line 3 (button_in ws) count ws) (Line.Fault 60))) ≡ Line.OneTask k
+        → cond budget (cond g (Err 65) (cond behind (Err 64) (unless f (cond nothing (Err 27) (Ok (Entry.Budget (number ws 0)))))))
+        (cond task (task_line 4 (task_in ws) count ws) (cond button (task_line 3 (button_in ws) count ws) (Err 60))) ≡ Ok (Entry.OneTask k)
         → count < task_limit
     go true task button true behind nothing f e = let z : ◌≡◌ {A = ℕ} 0 1 = cc in absurd (omega arith)
     go true task button false true nothing f e = let z : ◌≡◌ {A = ℕ} 0 1 = cc in absurd (omega arith)
@@ -155,10 +156,10 @@ start s e = record { n = 0; ks = []; table = e; at = omega arith; same = refl }
 
 -- What a line leads to, with these lines behind it.
 abbrev pub Follows : List ℕ → Bool → ℕ → Table → ℕ → List (List ℕ) → Line → Type 0
-Follows s given b t line ls Line.Nothing = Reached s given b t line ls
-Follows s given b t line ls (Line.Budget x) = Reached s true x t line ls
-Follows s given b t line ls (Line.OneTask k) = (t.count < task_limit) × Reached s given b (with_task t k) line ls
-Follows s given b t line ls (Line.Fault f) = refuse_file f line ≡ text_form s
+Follows s given b t line ls (Ok Entry.Nothing) = Reached s given b t line ls
+Follows s given b t line ls (Ok (Entry.Budget x)) = Reached s true x t line ls
+Follows s given b t line ls (Ok (Entry.OneTask k)) = (t.count < task_limit) × Reached s given b (with_task t k) line ls
+Follows s given b t line ls (Err f) = refuse_file f line ≡ text_form s
 
 -- The first line, and those behind it.
 first_line : (s : List ℕ) → lines_of s ≡ take (length_to is_line_feed s) s ∷ drop 1 (lines_of s)
@@ -187,13 +188,13 @@ module _ {s : List ℕ} {given : Bool} {b : ℕ} {t : Table} {line : ℕ} (left 
       ∙ r.same
 
   pub follows : {line' : ℕ} (l : Line) → line' ≡ min (suc line) 65535 → said_first ≡ l → Follows s given b t line' (drop 1 (lines_of left)) l
-  follows Line.Nothing e q = record { n = suc r.n; ks = r.ks; table = r.table; at = omega (arith, r.at); same = leads Line.Nothing q }
-  follows (Line.Budget x) e q = record { n = suc r.n; ks = r.ks; table = r.table; at = omega (arith, r.at); same = leads (Line.Budget x) q }
-  follows (Line.OneTask k) e q =
+  follows (Ok Entry.Nothing) e q = record { n = suc r.n; ks = r.ks; table = r.table; at = omega (arith, r.at); same = leads (Ok Entry.Nothing) q }
+  follows (Ok (Entry.Budget x)) e q = record { n = suc r.n; ks = r.ks; table = r.table; at = omega (arith, r.at); same = leads (Ok (Entry.Budget x)) q }
+  follows (Ok (Entry.OneTask k)) e q =
       let room : t.count < task_limit = room_for_task given t.count _ k q in
       let held : with_task t k ≡ table_of (r.ks ++ (k ∷ [])) = ap (λ (x : Table). with_task x k) r.table ∙ stored r.ks k (omega (arith, counted)) in
-      (room, record { n = suc r.n; ks = r.ks ++ (k ∷ []); table = held; at = omega (arith, r.at); same = leads (Line.OneTask k) q })
-  follows (Line.Fault f) e q = let at : min (suc line) 65535 ≡ min (suc r.n) 65535 = omega (arith, r.at) in rw (e, at) (leads (Line.Fault f) q)
+      (room, record { n = suc r.n; ks = r.ks ++ (k ∷ []); table = held; at = omega (arith, r.at); same = leads (Ok (Entry.OneTask k)) q })
+  follows (Err f) e q = let at : min (suc line) 65535 ≡ min (suc r.n) 65535 = omega (arith, r.at) in rw (e, at) (leads (Err f) q)
 
   -- Behind the last line nothing is left; behind any other the lines of what follows its line feed.
   pub last_line : length left ≤ length_to is_line_feed left → drop 1 (lines_of left) ≡ []

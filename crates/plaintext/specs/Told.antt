@@ -3,7 +3,8 @@ use Rattle.std.specs.Prelude.{◌≡◌, refl, Bool, true, false, cond, List, []
 use Rattle.std.proofs.Common.{sym, ap, ◌∙◌, inr, arith, lit<, length-append, length-take-le, get_or-take}
 use Rattle.values.specs.declared.Task.{Task}
 use Rattle.values.specs.declared.Table.{Table}
-use Rattle.values.specs.declared.Line.{Line}
+use Rattle.model.specs.Values.{Line}
+use Rattle.values.specs.declared.Entry.{Entry}
 use Rattle.values.specs.declared.Refusal.{Refusal}
 use Rattle.values.specs.declared.Contents.{Contents}
 use Rattle.model.specs.Notation.{text}
@@ -27,10 +28,10 @@ use Rattle.plaintext.specs.Texts.{task_line_bytes, task_short}
 
 -- A line that has no fault, or one above 0.
 abbrev Faulty : Line → Type 0
-Faulty Line.Nothing = Unit
-Faulty (Line.Budget b) = Unit
-Faulty (Line.OneTask k) = Unit
-Faulty (Line.Fault f) = 0 < f
+Faulty (Ok Entry.Nothing) = Unit
+Faulty (Ok (Entry.Budget b)) = Unit
+Faulty (Ok (Entry.OneTask k)) = Unit
+Faulty (Err f) = 0 < f
 
 unless_faulty : (f : ℕ) (l : Line) → Faulty l → Faulty (unless f l)
 unless_faulty zero l h = h
@@ -49,15 +50,15 @@ line_faulty given count (w ∷ ws) =
     (either (same w (text "task")) _ _ (task 4 (task_in ws)) (either (same w (text "button")) _ _ (task 3 (button_in ws)) (lit< tt)))
   where
     task : (n : ℕ) (k : Task) → Faulty (task_line n k count ws)
-    task n k = either (leb task_limit count) _ _ (lit< tt) (unless_faulty (numbers_fault word_limit n ws) (Line.OneTask k) tt)
+    task n k = either (leb task_limit count) _ _ (lit< tt) (unless_faulty (numbers_fault word_limit n ws) (Ok (Entry.OneTask k)) tt)
 
 -- What a line leads to is tellable if what follows it is.
 after_tellable : (go : Bool → ℕ → List Task → Contents) (given : Bool) (b : ℕ) (ks : List Task) (n : ℕ) (l : Line) → Faulty l
     → ((g : Bool) (x : ℕ) (js : List Task) → AdmissionTellable (go g x js).admission) → AdmissionTellable (after_line go given b ks n l).admission
-after_tellable go given b ks n Line.Nothing h next = next given b ks
-after_tellable go given b ks n (Line.Budget x) h next = next true x ks
-after_tellable go given b ks n (Line.OneTask k) h next = next given b (ks ++ (k ∷ []))
-after_tellable go given b ks n (Line.Fault f) h next = (h, omega arith)
+after_tellable go given b ks n (Ok Entry.Nothing) h next = next given b ks
+after_tellable go given b ks n (Ok (Entry.Budget x)) h next = next true x ks
+after_tellable go given b ks n (Ok (Entry.OneTask k)) h next = next given b (ks ++ (k ∷ []))
+after_tellable go given b ks n (Err f) h next = (h, omega arith)
 
 lines_tellable : (given : Bool) (b : ℕ) (ks : List Task) (n : ℕ) (ls : List (List ℕ)) → AdmissionTellable (read_lines given b ks n ls).admission
 unfolding read_lines

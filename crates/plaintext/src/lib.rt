@@ -14,14 +14,10 @@ ghost use Rattle.tablefile.specs.Built.{with_task};
 ghost use Rattle.writer.specs.Records.{filled};
 ghost use Rattle.plaintext.specs.Numbers.{NumberRead, NumbersRead};
 ghost use Rattle.plaintext.specs.Lines.{sort_line};
-ghost use Rattle.plaintext.specs.Faults.{fault_number, fault_in, value_in, values_in, said};
+ghost use Rattle.plaintext.specs.Faults.{fault_in, value_in, values_in, said};
 ghost use Rattle.plaintext.specs.Texts.{budget_line_bytes, name_room, task_room, aside};
 
-use values::{
-    Admission, Contents, Judgement, Line, Refusal, Sort, TASK_LIMIT, TEXT_BUDGET_NOT_FIRST,
-    TEXT_LARGE_NUMBER, TEXT_NOT_A_NUMBER, TEXT_SECOND_BUDGET, TEXT_TOO_MANY_TASKS,
-    TEXT_UNKNOWN_WORD, TEXT_WRONG_COUNT, Table, Task, Writing, ZERO_BUDGET,
-};
+use values::{Contents, Entry, Fault, Refusal, Sort, TASK_LIMIT, Table, Task, Writing};
 
 const LARGEST_NUMBER: u64 = 4_294_967_295;
 
@@ -31,35 +27,6 @@ const LAST_LINE: u32 = 65_535;
 
 // Room for the longest text, the lines of a budget and of every task, and for numbers of 64 bits in its last line.
 const ASIDE: usize = 28 + TASK_LIMIT * 29 + 60;
-
-// What a line can have wrong.
-#[derive(Clone, Copy)]
-enum Fault {
-    UnknownWord,
-    NotANumber,
-    LargeNumber,
-    WrongCount,
-    BudgetNotFirst,
-    SecondBudget,
-    TooManyTasks,
-    ZeroBudget,
-}
-
-// The number by which a refusal tells it.
-fn number_of(fault: Fault) -> u32
-    ensures { result ≡ fault_number fault }
-{
-    match fault {
-        Fault::UnknownWord => TEXT_UNKNOWN_WORD,
-        Fault::NotANumber => TEXT_NOT_A_NUMBER,
-        Fault::LargeNumber => TEXT_LARGE_NUMBER,
-        Fault::WrongCount => TEXT_WRONG_COUNT,
-        Fault::BudgetNotFirst => TEXT_BUDGET_NOT_FIRST,
-        Fault::SecondBudget => TEXT_SECOND_BUDGET,
-        Fault::TooManyTasks => TEXT_TOO_MANY_TASKS,
-        Fault::ZeroBudget => ZERO_BUDGET,
-    }
-}
 
 // The first word, if there is one, and what stands behind it.
 fn next_word(s: &[u8]) -> Option<(&[u8], &[u8])>
@@ -78,7 +45,7 @@ fn number_in(word: &[u8], largest: u64) -> Result<u64, Fault>
     ensures { NumberRead (suc largest) word.now (fault_in result) (value_in result) }
 {
     if !word.iter().all(|byte| byte.is_ascii_digit()) {
-        return Err(Fault::NotANumber);
+        return Err(Fault::TextNotANumber);
     }
     value_of(word, largest)
 }
@@ -92,7 +59,7 @@ fn value_of(word: &[u8], largest: u64) -> Result<u64, Fault>
     for byte in word {
         let digit = digit_of(*byte);
         if (largest - digit) / 10 < value {
-            return Err(Fault::LargeNumber);
+            return Err(Fault::TextLargeNumber);
         }
         value = 10 * value + digit;
     }
@@ -115,41 +82,41 @@ fn numbers_in<const N: usize>(words: &[u8], largest: u64) -> Result<[u64; N], Fa
     let mut left = words;
     for i in 0..N {
         let Some((word, rest)) = next_word(left) else {
-            return Err(Fault::WrongCount);
+            return Err(Fault::TextWrongCount);
         };
         values[i] = number_in(word, largest)?;
         left = rest;
     }
     match next_word(left) {
-        Some(_) => Err(Fault::WrongCount),
+        Some(_) => Err(Fault::TextWrongCount),
         None => Ok(values),
     }
 }
 
-fn budget_line(rest: &[u8], given: bool, count: usize) -> Result<Line, Fault>
+fn budget_line(rest: &[u8], given: bool, count: usize) -> Result<Entry, Fault>
     ensures { said result ≡ budget_line given count (words_of rest.now) }
 {
     if given {
-        return Err(Fault::SecondBudget);
+        return Err(Fault::TextSecondBudget);
     }
     if 0 < count {
-        return Err(Fault::BudgetNotFirst);
+        return Err(Fault::TextBudgetNotFirst);
     }
     let [budget] = numbers_in::<1>(rest, LARGEST_BUDGET)?;
     if budget == 0 {
         return Err(Fault::ZeroBudget);
     }
-    Ok(Line::Budget(budget))
+    Ok(Entry::Budget(budget))
 }
 
-fn task_line(rest: &[u8], count: usize) -> Result<Line, Fault>
+fn task_line(rest: &[u8], count: usize) -> Result<Entry, Fault>
     ensures { said result ≡ sort_line false count (words_of rest.now) }
 {
     if TASK_LIMIT <= count {
-        return Err(Fault::TooManyTasks);
+        return Err(Fault::TextTooManyTasks);
     }
     let [offset, cost, deadline, period] = numbers_in::<4>(rest, LARGEST_NUMBER)?;
-    Ok(Line::OneTask(Task {
+    Ok(Entry::OneTask(Task {
         sort: Sort::Periodic(offset as u32),
         cost: cost as u32,
         deadline: deadline as u32,
@@ -158,14 +125,14 @@ fn task_line(rest: &[u8], count: usize) -> Result<Line, Fault>
 }
 
 // A button has no offset.
-fn button_line(rest: &[u8], count: usize) -> Result<Line, Fault>
+fn button_line(rest: &[u8], count: usize) -> Result<Entry, Fault>
     ensures { said result ≡ sort_line true count (words_of rest.now) }
 {
     if TASK_LIMIT <= count {
-        return Err(Fault::TooManyTasks);
+        return Err(Fault::TextTooManyTasks);
     }
     let [cost, deadline, period] = numbers_in::<3>(rest, LARGEST_NUMBER)?;
-    Ok(Line::OneTask(Task {
+    Ok(Entry::OneTask(Task {
         sort: Sort::Button,
         cost: cost as u32,
         deadline: deadline as u32,
@@ -173,11 +140,11 @@ fn button_line(rest: &[u8], count: usize) -> Result<Line, Fault>
     }))
 }
 
-fn line_of(line: &[u8], given: bool, count: usize) -> Result<Line, Fault>
+fn line_of(line: &[u8], given: bool, count: usize) -> Result<Entry, Fault>
     ensures { said result ≡ line_of given count (words_of line.now) }
 {
     let Some((name, rest)) = next_word(line) else {
-        return Ok(Line::Nothing);
+        return Ok(Entry::Nothing);
     };
     if name == b"budget".as_slice() {
         return budget_line(rest, given, count);
@@ -188,7 +155,7 @@ fn line_of(line: &[u8], given: bool, count: usize) -> Result<Line, Fault>
     if name == b"button".as_slice() {
         return button_line(rest, count);
     }
-    Err(Fault::UnknownWord)
+    Err(Fault::TextUnknownWord)
 }
 
 // What stands before the comment or the end of a line.
@@ -197,24 +164,6 @@ fn content(line: &[u8]) -> &[u8]
 {
     let line = line.strip_suffix(b"\r").unwrap_or(line);
     &line[..pieces::find(line, |byte| byte == b'#')]
-}
-
-fn read_line(line: &[u8], given: bool, count: usize) -> Line
-    ensures { result ≡ line_of given count (words_of (content_of line.now)) }
-{
-    match line_of(content(line), given, count) {
-        Ok(said) => said,
-        Err(fault) => Line::Fault(number_of(fault)),
-    }
-}
-
-fn refused_line(number: u32, line: u32) -> Contents
-    ensures { result ≡ refuse_file number line }
-{
-    tablefile::refused_file(Refusal {
-        number,
-        place: line,
-    })
 }
 
 // The text's form alone: its table is not judged.
@@ -228,16 +177,17 @@ pub fn form_of(text: &[u8]) -> Contents
     loop {
         let end = pieces::find(left, |byte| byte == b'\n');
         line = (line + 1).min(LAST_LINE);
-        match read_line(&left[..end], budget.is_some(), table.count) {
-            Line::Nothing => {}
-            Line::Budget(slots) => {
+        let entry = match line_of(content(&left[..end]), budget.is_some(), table.count) {
+            Ok(entry) => entry,
+            Err(fault) => return tablefile::refused_file(Refusal::new(fault, line)),
+        };
+        match entry {
+            Entry::Nothing => {}
+            Entry::Budget(slots) => {
                 budget = Some(slots);
             }
-            Line::OneTask(task) => {
+            Entry::OneTask(task) => {
                 table = with_task(table, task);
-            }
-            Line::Fault(number) => {
-                return refused_line(number, line);
             }
         }
         if end == left.len() {
@@ -264,10 +214,8 @@ fn with_task(mut table: Table, task: Task) -> Table
 pub fn write(table: Table, budget: u64, buffer: &mut [u8]) -> Writing
     ensures { filled result buffer.new ≡ text_written table budget buffer.old }
 {
-    match table::judge_mixed(table) {
-        Err(why) => Err(why),
-        Ok(_) => write_text(table, budget, buffer),
-    }
+    table::judge_mixed(table)?;
+    write_text(table, budget, buffer)
 }
 
 // The text is made aside, where there is room for every one, so that a short buffer stays as it is.
@@ -346,14 +294,8 @@ pub fn file_of(text: &[u8], buffer: &mut [u8]) -> Writing
     ensures { filled result buffer.new ≡ from_text text.now buffer.old }
 {
     let form = form_of(text);
-    let admission = form.admission;
-    match admission {
-        Err(why) => Err(why),
-        Ok(()) => {
-            let table = form.table;
-            writer::write(table, form.budget, buffer)
-        }
-    }
+    form.admission?;
+    writer::write(form.table, form.budget, buffer)
 }
 
 // The text of a file, in a lent buffer.
@@ -361,12 +303,6 @@ pub fn text_of(file: &[u8], buffer: &mut [u8]) -> Writing
     ensures { filled result buffer.new ≡ to_text file.now buffer.old }
 {
     let form = tablefile::form_of(file);
-    let admission = form.admission;
-    match admission {
-        Err(why) => Err(why),
-        Ok(()) => {
-            let table = form.table;
-            write(table, form.budget, buffer)
-        }
-    }
+    form.admission?;
+    write(form.table, form.budget, buffer)
 }

@@ -247,13 +247,12 @@ pub struct Contents {
 // What a writer into a lent buffer says: how many bytes it wrote at the buffer's front, or a refusal.
 pub type Writing = Result<usize, Refusal>;
 
-// What a line of a plain text says: nothing, a budget, a task, or by its number the fault that it has.
+// What a line of a plain text says that has no fault: nothing, a budget or a task.
 #[derive(Clone, Copy)]
-pub enum Line {
+pub enum Entry {
     Nothing,
     Budget(u64),
     OneTask(Task),
-    Fault(u32),
 }
 
 // A dispatcher's state: for each task its wait, the slots until its next release, and the slots left to its open job; which task ran

@@ -5,11 +5,11 @@ use Rattle.model.specs.PlainText.{lines_of, largest_budget}
 use Rattle.plaintext.specs.Lines.{Reached}
 use Rattle.plaintext.proofs.form_of.Given as goal
 
-abbrev pub invariant-loop-slots : goal.invariant-loop-slots
-invariant-loop-slots l = record {
+abbrev pub invariant-loop-entry : goal.invariant-loop-entry
+invariant-loop-entry l = record {
   part : length l.left ≤ length l.text;
   reached : Reached l.text (is_some l.budget) (unwrap_or l.budget largest_budget) l.table l.line (lines_of l.left);
 }
 
-abbrev pub decreases-loop-slots : goal.decreases-loop-slots
-decreases-loop-slots l = length l.left
+abbrev pub decreases-loop-entry : goal.decreases-loop-entry
+decreases-loop-entry l = length l.left

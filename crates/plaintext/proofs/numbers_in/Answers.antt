@@ -2,7 +2,7 @@
 use Rattle.std.proofs.Common.{refl, arith}
 use Rattle.model.specs.PlainText.{numbers_fault}
 use Rattle.std.proofs.lemmas.Result.{err_from_is_err_and}
-use Rattle.plaintext.specs.Faults.{fault_some}
+use Rattle.values.specs.Numbers.{number_some}
 use Rattle.plaintext.specs.Numbers.{too_few, faulty, one_more, all_read, no_values}
 use Rattle.plaintext.proofs.numbers_in.Goals as goal
 
@@ -15,7 +15,7 @@ returns-in_default g c = too_few c.loop-i.invariant c.loop-i-test.true c.in_defa
 pub returns-in_err-values : goal.returns-in_err-values
 returns-in_err-values g c =
     let p = err_from_is_err_and c.from_residual.result c.from_residual.ensures.1 in
-    rw (p.1, p.2) (faulty c.loop-i.invariant c.in-Some.rest.now c.loop-i-test.true c.in-Some.ensures c.in_err-values.ensures (fault_some _))
+    rw (p.1, p.2) (faulty c.loop-i.invariant c.in-Some.rest.now c.loop-i-test.true c.in-Some.ensures c.in_err-values.ensures (number_some _))
 
 pub returns-in-Some-next_word : goal.returns-in-Some-next_word
 unfolding numbers_fault

@@ -3,7 +3,7 @@ use Rattle.std.proofs.Common.{false, refl, arith}
 use borrow.Author.Tests.{le-leb}
 use Rattle.model.specs.PlainText.{task_line}
 use Rattle.std.proofs.lemmas.Result.{err_from_is_err_and}
-use Rattle.plaintext.specs.Faults.{fault_some}
+use Rattle.values.specs.Numbers.{number_some}
 use Rattle.plaintext.specs.Lines.{task_fault_lem, task_good}
 use Rattle.plaintext.proofs.task_line.Goals as goal
 
@@ -14,7 +14,7 @@ returns-then-count-ge-TASK_LIMIT c = rw (le-leb _ _ c.if-count-ge-TASK_LIMIT.tru
 pub returns-in_err-offset : goal.returns-in_err-offset
 returns-in_err-offset c =
     let p = err_from_is_err_and c.from_residual.result c.from_residual.ensures.1 in
-    rw (p.1, p.2) (task_fault_lem false c.args.count (omega arith) c.in_err-offset.ensures (fault_some _))
+    rw (p.1, p.2) (task_fault_lem false c.args.count (omega arith) c.in_err-offset.ensures (number_some _))
 
 pub returns : goal.returns
 returns c = task_good false c.args.count (omega arith) c.in_ok-offset.ensures refl refl
