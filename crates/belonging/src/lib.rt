@@ -46,7 +46,10 @@ fn room_for(given: &[u64], empty: u64) -> Result<u64, Refusal>
 {
     let mut room = SLOT_COUNT_LIMIT - empty;
     for slots in given {
-        room = room.checked_sub(*slots).ok_or(strange_state(SUM_PLACE))?;
+        if room < *slots {
+            return Err(strange_state(SUM_PLACE));
+        }
+        room -= *slots;
     }
     Ok(room)
 }
