@@ -1,6 +1,5 @@
 -- A refusal, an overload, or what the patterns tell.
 use mathlib.Core.Path.{◌≡◌, sym, ◌∙◌}
-use borrow.Author.Rules.{rules}
 use Rattle.values.specs.declared.Judgement.{Judgement}
 use Rattle.model.specs.Tasks.{judged_mixed}
 use Rattle.model.specs.Patterns.{distance_pass, distance_answer}
