@@ -1,3 +1,4 @@
 pub mod Machine
+pub mod Euclid
 pub mod Lift
 pub mod Passing

@@ -1,9 +1,9 @@
 // The distance test: each periodic task as first at 0, every other at its smallest distance, and a walk to the first idle instant.
 #![tactic(auto)]
 
-ghost use Rattle.std.specs.Prelude.{◌≡◌, not, ◌||◌, ◌^◌, ◌≤◌, ◌<◌, pos, ◌-ℤ◌, Ok};
-ghost use Rattle.std.specs.Int.Signed.{rem_z};
-ghost use Rattle.model.specs.Notation.{some, every};
+ghost use Rattle.std.specs.Prelude.{◌≡◌, not, ◌||◌, ◌≤◌, ◌<◌, pos, ◌-ℤ◌, Ok};
+ghost use Rattle.std.specs.List.{list_any};
+ghost use Rattle.model.specs.Notation.{every};
 ghost use Rattle.model.specs.Tasks.{task, is_button, judged_mixed};
 ghost use Rattle.model.specs.Patterns.{calm as calmly, reduced as reducedTo, common_divisor, distance, pattern, calm_patterns, distance_answer};
 ghost use Rattle.wellformed.specs.Ranges.{Ranged};
@@ -12,24 +12,10 @@ ghost use Rattle.slots.specs.Columns.{column};
 use slots::Numbers;
 use values::{ByDistance, DistanceAnswer, Judgement, Measure, Table, Task, TASK_LIMIT};
 
-fn signed(x: u32) -> i64
-    ensures { (result ≡ pos x) × (x < 2 ^ 32) }
-{
-    x as i64
-}
-
 fn difference(a: u32, b: u32) -> i64
     ensures { result ≡ pos a -ℤ pos b }
 {
-    signed(a) - signed(b)
-}
-
-// It has the sign of z.
-fn remainder(z: i64, g: u32) -> i64
-    requires { 0 < g }
-    ensures { result ≡ rem_z z (pos g) }
-{
-    z % signed(g)
+    i64::from(a) - i64::from(b)
 }
 
 // Upward, into 0 to g - 1.
@@ -37,19 +23,14 @@ fn reduced(z: i64, g: u32) -> u32
     requires { 0 < g }
     ensures { result ≡ reducedTo z g }
 {
-    let m = remainder(z, g);
-    if m < 0 {
-        (m + signed(g)) as u32
-    } else {
-        m as u32
-    }
+    z.rem_euclid(i64::from(g)) as u32
 }
 
 fn common_divisor(a: u32, b: u32) -> u32
     requires { 0 < a }
     ensures { result ≡ common_divisor a b }
 {
-    divisor::divisor(a as u64, b as u64) as u32
+    divisor::divisor(u64::from(a), u64::from(b)) as u32
 }
 
 fn distance_of(one: Task, other: Task) -> u32
@@ -72,11 +53,10 @@ fn distances(t: Table, i: usize) -> Numbers
     requires i_lt_count { i < t.count }
     ensures { result ≡ column t.count (λ k. distance (task t i) (task t k)) }
 {
-    let n = t.count;
     let first = t.tasks[i];
     let mut start = [0u32; TASK_LIMIT];
-    for k in 0..n {
-        start[k] = distance_of(first, t.tasks[k]);
+    for (k, task) in t.tasks[..t.count].iter().enumerate() {
+        start[k] = distance_of(first, *task);
     }
     start
 }
@@ -109,17 +89,10 @@ fn each_calm(t: Table, m: Measure) -> bool
     true
 }
 
-fn some_periodic(t: Table) -> bool
-    requires { Ranged t }
-    ensures { result ≡ some (λ i. not (is_button (task t i))) t.count }
+fn some_periodic(tasks: &[Task]) -> bool
+    ensures { result ≡ list_any (λ task. not (is_button task)) tasks.now }
 {
-    let n = t.count;
-    for i in 0..n {
-        if !sorts::is_button(t.tasks[i]) {
-            return true;
-        }
-    }
-    false
+    tasks.iter().any(|task| !sorts::is_button(*task))
 }
 
 // A quick pass is a pass of every pattern, so no pattern is walked. Buttons alone have one pattern, the quick test's.
@@ -129,7 +102,7 @@ fn all_calm(t: Table, m: Measure) -> bool
     ensures { result ≡ calm_patterns t }
 {
     let passed = quick::passes(t, m);
-    if !passed && some_periodic(t) {
+    if !passed && some_periodic(&t.tasks[..t.count]) {
         return each_calm(t, m);
     }
     passed

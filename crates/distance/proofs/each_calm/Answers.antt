@@ -1,15 +1,10 @@
 -- The patterns of the periodic tasks that the loop has passed are calm.
-use mathlib.Core.Path.{◌≡◌, refl, sym, subst, ◌∙◌}
-use mathlib.Core.Bool.{Bool, ◌||◌}
-use Prim.Native.Nat.{ℕ, ◌-◌, ◌≤◌, ◌<◌}
+use mathlib.Core.Path.{refl, sym, subst, ◌∙◌}
+use Prim.Native.Nat.{ℕ}
 use native.Mathlib.Omega.{arith}
 use borrow.Author.Count.{below_more}
-use borrow.Author.Tests.{not-true, not-false}
-use borrow.Author.Rules.{rules}
 use lib.Dec.{T}
 use Rattle.values.specs.declared.Table.{Table}
-use Rattle.model.specs.Tasks.{task, is_button}
-use Rattle.model.specs.Patterns.{calm, pattern}
 use Rattle.counting.specs.Count.{all_pass, one_fails}
 use Rattle.distance.proofs.each_calm.Invariants.{stands}
 use Rattle.distance.proofs.each_calm.Goals.{In-loop-i}

@@ -1,7 +1,6 @@
 -- A refusal, an overload, or what the patterns tell.
 use Rattle.std.specs.Prelude.{Ok}
 use mathlib.Core.Path.{◌≡◌, sym, ◌∙◌}
-use borrow.Author.Rules.{rules}
 use Rattle.model.specs.Tasks.{judged_mixed}
 use Rattle.model.specs.Patterns.{distance_pass, distance_answer}
 use Rattle.distance.specs.Passing.{is_heavy, is_light}
