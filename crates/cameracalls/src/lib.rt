@@ -3,23 +3,11 @@
 
 ghost use Rattle.std.specs.Prelude.{◌≡◌, not, eqb, length};
 ghost use Rattle.model.specs.Dispatcher.{started, stepped};
-ghost use Rattle.model.specs.StateBuffer.{state_bytes, state_in, quiet, start_written, step_written, start_exported, step_exported};
+ghost use Rattle.model.specs.StateBuffer.{state_bytes, state_in, start_written, step_written, start_exported, step_exported};
 ghost use Rattle.report.specs.Put.{exported};
 
 use dispatch::Dispatcher;
-use slots::NO_TASK;
-use values::{Admission, STATE_BYTES, SlotAnswer, Table, Turn};
-
-pub fn quiet() -> Turn
-    ensures { result ≡ quiet }
-{
-    Turn {
-        owner: NO_TASK,
-        late: 0,
-        closed: 0,
-        lowest: NO_TASK,
-    }
-}
+use values::{Admission, STATE_BYTES, SlotAnswer, Table};
 
 fn start_table(table: Table, state: &mut [u8]) -> u64
     requires { length state.old ≡ state_bytes }
@@ -35,7 +23,7 @@ fn start_table(table: Table, state: &mut [u8]) -> u64
         Admission::Admitted => {
             let begun = started.dispatcher;
             let first = begun.state;
-            statebuffer::write_state(state, first, quiet());
+            statebuffer::write_state(state, first, statebuffer::quiet());
             0
         }
     }
