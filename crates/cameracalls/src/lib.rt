@@ -2,24 +2,12 @@
 #![tactic(auto)]
 
 ghost use Rattle.std.specs.Prelude.{◌≡◌, not, eqb};
-ghost use Rattle.model.specs.StateBuffer.{quiet, start_exported, step_exported};
+ghost use Rattle.model.specs.StateBuffer.{start_exported, step_exported};
 ghost use Rattle.numbers.specs.Form.{told_number};
 ghost use Rattle.report.specs.Put.{exported};
 
 use dispatch::Dispatcher;
-use slots::NO_TASK;
-use values::{Refusal, STATE_BYTES, Turn};
-
-pub fn quiet() -> Turn
-    ensures { result ≡ quiet }
-{
-    Turn {
-        owner: NO_TASK,
-        late: 0,
-        closed: 0,
-        lowest: NO_TASK,
-    }
-}
+use values::{Refusal, STATE_BYTES};
 
 // Any file and any buffer: the buffer is looked at before the file.
 pub fn start(file: &[u8], state: &mut [u8]) -> u64
@@ -35,7 +23,7 @@ fn start_on(file: &[u8], state: &mut [u8]) -> Result<u64, Refusal>
     let held = statebuffer::state_in(state);
     let started = Dispatcher { state: held }.start(table);
     started.admission?;
-    statebuffer::write_state(state, started.dispatcher.state, quiet());
+    statebuffer::write_state(state, started.dispatcher.state, statebuffer::quiet());
     Ok(0)
 }
 

@@ -25,7 +25,7 @@ fn start_table(table: Table, state: &mut [u8]) -> u64
         Ok(()) => {
             let begun = started.presses;
             let first = begun.state;
-            statebuffer::write_state(state, first, cameracalls::quiet());
+            statebuffer::write_state(state, first, statebuffer::quiet());
             0
         }
     }
