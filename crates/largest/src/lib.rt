@@ -74,34 +74,22 @@ fn told(t: Table, m: Measure, i: usize, budget: u64) -> LargestCost
     requires i_lt_count { i < t.count }
     ensures { result ≡ cost_told t i budget (verdict t budget) }
 {
-    let said = verdict_on(t, m, budget);
-    match said {
-        Verdict::Passes => LargestCost::Cost(search(t, m, i, budget)),
+    match verdict_on(t, m, budget) {
+        Verdict::Passes => Ok(Limit::At(search(t, m, i, budget))),
         Verdict::Overload => Ok(Limit::Overload),
         Verdict::Late { .. } => Ok(Limit::Late),
         Verdict::Undecided => Ok(Limit::Undecided),
     }
 }
 
-fn refused_task(task: u32) -> LargestCost
-    ensures { result ≡ Err (refusal 12 task) }
-{
-    Err(Refusal::new(Fault::NoSuchTask, task))
-}
-
 // The one permitted answer to any table, task number and budget.
 pub fn largest_cost(t: Table, task: u32, budget: u64) -> LargestCost
     ensures { result ≡ cost_answer t task budget }
 {
-    match table::judge(t) {
-        Err(why) => Err(why),
-        Ok(m) => {
-            let i = task as usize;
-            if i < t.count {
-                told(t, m, i, budget)
-            } else {
-                refused_task(task)
-            }
-        }
+    let m = table::judge(t)?;
+    let i = task as usize;
+    if t.count <= i {
+        return Err(Refusal::new(Fault::NoSuchTask, task));
     }
+    told(t, m, i, budget)
 }
