@@ -1,17 +1,18 @@
 // The calls on table files alone: the quick test, the distance test, the largest cost of a task, the room of a table, and whether one is an easing of another.
 #![tactic(auto)]
 
-ghost use Rattle.std.specs.Prelude.{◌≡◌, ◌+◌, ◌*◌, ◌<◌, ◌≤◌, min, Ok};
+ghost use Rattle.std.specs.Prelude.{◌≡◌, ℕ, ◌+◌, ◌*◌, ◌<◌, ◌≤◌, Ok};
+ghost use Rattle.values.specs.declared.Table.{Table};
 ghost use Rattle.model.specs.Limits.{task_limit};
-ghost use Rattle.model.specs.TableFile.{periodic_from};
-ghost use Rattle.model.specs.Report.{quick_number, quick_exported, distance_number, distance_exported};
+ghost use Rattle.model.specs.TableFile.{form_of, periodic_from};
+ghost use Rattle.model.specs.Report.{file_number, quick_number, quick_exported, distance_number, distance_exported};
 ghost use Rattle.model.specs.Easing.{easing_number, eased_number, eased_exported};
 ghost use Rattle.model.specs.Largest.{cost_number, largest_exported};
 ghost use Rattle.model.specs.Room.{room_exported};
 
-use values::{Admission, ByDistance, DistanceAnswer, Easing, LargestCost, Limit, Quick, QuickAnswer, Refusal, Table};
-
-const LARGEST_TASK: u32 = 65535;
+use values::{
+    ByDistance, DistanceAnswer, Easing, LargestCost, Limit, Quick, QuickAnswer, Refusal, Table,
+};
 
 const OLD_REFUSED: u64 = 2;
 
@@ -31,15 +32,7 @@ fn quick_number(answer: QuickAnswer) -> u64
 pub fn quick_file(file: &[u8]) -> u64
     ensures { result ≡ quick_exported file.now }
 {
-    let form = tablefile::form_of(file);
-    let admission = form.admission;
-    match admission {
-        Err(why) => numbers::refusal_number(why),
-        Ok(()) => {
-            let table = form.table;
-            quick_number(quick::test(table))
-        }
-    }
+    on_file(file, |table, _| quick_number(quick::test(table)))
 }
 
 fn distance_number(answer: DistanceAnswer) -> u64
@@ -53,19 +46,10 @@ fn distance_number(answer: DistanceAnswer) -> u64
     }
 }
 
-// Any file: its form is looked at before its table.
 pub fn distance_file(file: &[u8]) -> u64
     ensures { result ≡ distance_exported file.now }
 {
-    let form = tablefile::form_of(file);
-    let admission = form.admission;
-    match admission {
-        Err(why) => numbers::refusal_number(why),
-        Ok(()) => {
-            let table = form.table;
-            distance_number(distance::test(table))
-        }
-    }
+    on_file(file, |table, _| distance_number(distance::test(table)))
 }
 
 fn cost_number(answer: LargestCost) -> u64
@@ -76,18 +60,7 @@ fn cost_number(answer: LargestCost) -> u64
         Ok(Limit::Overload) => 60_001,
         Ok(Limit::Undecided) => 60_002,
         Ok(Limit::Late) => 60_003,
-        Ok(Limit::At(cost)) => cost as u64,
-    }
-}
-
-// No table has a task with the largest place as its number, so that it stands for every larger one.
-fn tellable_task(task: u32) -> u32
-    ensures { result ≡ min task 65535 }
-{
-    if task < LARGEST_TASK {
-        task
-    } else {
-        LARGEST_TASK
+        Ok(Limit::At(cost)) => u64::from(cost),
     }
 }
 
@@ -95,29 +68,31 @@ fn tellable_task(task: u32) -> u32
 pub fn largest_file(file: &[u8], task: u32) -> u64
     ensures { result ≡ largest_exported file.now task }
 {
-    let form = tablefile::form_of(file);
-    let admission = form.admission;
-    match admission {
-        Err(why) => numbers::refusal_number(why),
-        Ok(()) => {
-            let table = form.table;
-            cost_number(largest::largest_cost(table, tellable_task(task), form.budget))
-        }
-    }
+    on_file(file, |table, budget| {
+        cost_number(largest::largest_cost(table, numbers::tellable_task(task), budget))
+    })
 }
 
 // Any file and any task number, with buttons or without.
 pub fn room_file(file: &[u8], task: u32) -> u64
     ensures { result ≡ room_exported file.now task }
 {
+    on_file(
+        file,
+        |table, _| room::room_number(table, numbers::tellable_task(task)),
+    )
+}
+
+// What is told of a file's table and budget, or the refusal of its form.
+fn on_file<F: FnOnce(Table, u64) -> u64>(file: &[u8], tell: F) -> u64
+    requires { F.IsAlwaysCallable tell }
+    ensures { (go : Table → ℕ) → ((n : ℕ) → F.post tell (form_of file.now).table (form_of file.now).budget n → n ≡ go (form_of file.now).table)
+        → result ≡ file_number file.now go }
+{
     let form = tablefile::form_of(file);
-    let admission = form.admission;
-    match admission {
+    match form.admission {
+        Ok(()) => tell(form.table, form.budget),
         Err(why) => numbers::refusal_number(why),
-        Ok(()) => {
-            let table = form.table;
-            room::room_number(table, tellable_task(task))
-        }
     }
 }
 
@@ -133,8 +108,8 @@ fn easing_number(told: Easing) -> u64
     ensures { result ≡ easing_number told }
 {
     match told {
-        Easing::Unmatched(task) => 4 * (task as u64),
-        Easing::Kept(tasks) => 4 * (tasks as u64) + 1,
+        Easing::Unmatched(task) => 4 * u64::from(task),
+        Easing::Kept(tasks) => 4 * u64::from(tasks) + 1,
     }
 }
 
@@ -143,13 +118,9 @@ fn eased_from(table: Table, new: &[u8]) -> u64
     ensures { result ≡ eased_number table (periodic_from new.now).table (Ok tt) (periodic_from new.now).admission }
 {
     let contents = tablefile::read_periodic(new);
-    let admission = contents.admission;
-    match admission {
+    match contents.admission {
+        Ok(()) => easing_number(easing::compare(table, contents.table)),
         Err(why) => refused_file(why, NEW_REFUSED),
-        Ok(()) => {
-            let eased = contents.table;
-            easing_number(easing::compare(table, eased))
-        }
     }
 }
 
@@ -158,12 +129,8 @@ pub fn eased_files(old: &[u8], new: &[u8]) -> u64
     ensures { result ≡ eased_exported old.now new.now }
 {
     let contents = tablefile::read_periodic(old);
-    let admission = contents.admission;
-    match admission {
+    match contents.admission {
+        Ok(()) => eased_from(contents.table, new),
         Err(why) => refused_file(why, OLD_REFUSED),
-        Ok(()) => {
-            let table = contents.table;
-            eased_from(table, new)
-        }
     }
 }

@@ -1,5 +1,4 @@
 -- Each return rewrites with what the old file turned out to be.
-use borrow.Author.Rules.{rules}
 use Rattle.tablefile.specs.Periodic.{few_periodic}
 use Rattle.filecalls.proofs.eased_files.Goals as goal
 

@@ -1,6 +1,5 @@
 -- Each return rewrites with what the new file turned out to be.
 use mathlib.Core.Path.{ap, ◌∙◌}
-use borrow.Author.Rules.{rules}
 use Rattle.model.specs.Easing.{easing_number}
 use Rattle.tablefile.specs.Periodic.{few_periodic}
 use Rattle.filecalls.proofs.eased_from.Goals as goal
