@@ -12,9 +12,7 @@ ghost use Rattle.model.specs.AnswerBuffer.{answer_bytes, numbers_written, Answer
 ghost use Rattle.report.specs.Put.{exported};
 ghost use Rattle.checkcalls.specs.Outcomes.{refused_by, answered, told_of, FileFound, TableFound};
 
-use values::{
-    ANSWER_BYTES, Admission, Answer, Judgement, Outcome, REPORT_BYTES, Refusal, SHORT_REPORT, Table,
-};
+use values::{ANSWER_BYTES, Answer, Fault, REPORT_BYTES, Refusal, Table};
 
 // What a check finds of a file: an answer, which may be a refusal, to so many tasks, which the quick test passes or not.
 #[derive(Clone, Copy)]
@@ -55,13 +53,9 @@ fn check_file(file: &[u8], plainly: bool) -> FileAnswer
     ensures tasks_le_task_limit { result.tasks ≤ task_limit }
 {
     let form = tablefile::form_of(file);
-    let admission = form.admission;
-    match admission {
+    match form.admission {
         Err(why) => refuse(why),
-        Ok(()) => {
-            let table = form.table;
-            check_table(table, form.budget, plainly)
-        }
+        Ok(()) => check_table(form.table, form.budget, plainly),
     }
 }
 
@@ -71,8 +65,7 @@ fn export_report(found: FileAnswer, buffer: &mut [u8]) -> u64
     ensures { exported result buffer.new ≡ told_of (λ w. refused w buffer.old) (report_written buffer.old) found }
 {
     let answer = found.answer;
-    let outcome = answer.outcome;
-    match outcome {
+    match answer.outcome {
         Err(why) => numbers::refusal_number(why),
         Ok(verdict) => {
             report::write_report(buffer, found.tasks, found.quick, answer, verdict) as u64
@@ -86,8 +79,7 @@ fn export_numbers(found: FileAnswer, buffer: &mut [u8]) -> u64
     ensures { exported result buffer.new ≡ told_of (λ w. refused w buffer.old) (numbers_written buffer.old) found }
 {
     let answer = found.answer;
-    let outcome = answer.outcome;
-    match outcome {
+    match answer.outcome {
         Err(why) => numbers::refusal_number(why),
         Ok(verdict) => {
             let numbers = answerbuffer::numbers_of(found.tasks, found.quick, answer, verdict);
@@ -102,7 +94,7 @@ pub fn check(file: &[u8], report: &mut [u8], plainly: bool) -> u64
     ensures { Checked file.now report.old (exported result report.new) }
 {
     if report.len() < REPORT_BYTES {
-        return numbers::refused_at(SHORT_REPORT, report.len());
+        return numbers::refusal_number(numbers::refusal_at(Fault::ShortReport, report.len()));
     }
     let found = check_file(file, plainly);
     export_report(found, report)
@@ -113,7 +105,7 @@ pub fn answer(file: &[u8], buffer: &mut [u8]) -> u64
     ensures { Answered file.now buffer.old (exported result buffer.new) }
 {
     if buffer.len() < ANSWER_BYTES {
-        return numbers::refused_at(SHORT_REPORT, buffer.len());
+        return numbers::refusal_number(numbers::refusal_at(Fault::ShortReport, buffer.len()));
     }
     let found = check_file(file, false);
     export_numbers(found, buffer)
@@ -126,9 +118,5 @@ pub fn passes(report: &[u8]) -> u64
     if REPORT_BYTES < report.len() {
         return 0;
     }
-    if pieces::has_line(report, b"verdict passes") {
-        1
-    } else {
-        0
-    }
+    u64::from(pieces::has_line(report, b"verdict passes"))
 }

@@ -2,11 +2,11 @@
 #![tactic(auto)]
 
 ghost use Rattle.std.specs.Prelude.{◌≡◌};
-ghost use Rattle.model.specs.Writer.{write_exported};
+ghost use Rattle.model.specs.Writer.{fill_told, write_exported};
 ghost use Rattle.model.specs.PlainText.{from_text_exported, to_text_exported};
 ghost use Rattle.writecalls.specs.Told.{ToldAs};
 
-use values::{BROKEN_ROWS, STRANGE_ROW, Writing};
+use values::{Fault, Writing};
 
 // What a writer says as a number; the buffer is as it left it.
 fn told(said: Writing) -> u64
@@ -22,14 +22,20 @@ fn told(said: Writing) -> u64
 pub fn write_rows(words: &[u32], budget: u64, file: &mut [u8]) -> u64
     ensures { record { number = result; buffer = file.new } ≡ write_exported words.now budget file.old }
 {
+    told(rows_written(words, budget, file))
+}
+
+fn rows_written(words: &[u32], budget: u64, file: &mut [u8]) -> Writing
+    ensures { fill_told file.new result ≡ write_exported words.now budget file.old }
+{
     if rows::broken(words.len()) {
-        return numbers::refused_at(BROKEN_ROWS, words.len());
+        return Err(numbers::refusal_at(Fault::BrokenRows, words.len()));
     }
     let stranger = rows::first_stranger(words);
     if stranger < rows::count(words.len()) {
-        return numbers::refused_at(STRANGE_ROW, stranger);
+        return Err(numbers::refusal_at(Fault::StrangeRow, stranger));
     }
-    told(writer::write(rows::table_in(words), budget, file))
+    writer::write(rows::table_in(words), budget, file)
 }
 
 // Any text and any buffer: the text's form comes first, then the table, then the buffer's length.

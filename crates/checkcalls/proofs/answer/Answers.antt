@@ -3,7 +3,6 @@ use mathlib.Core.Path.{◌≡◌}
 use Prim.Native.Nat.{min}
 use native.Mathlib.Omega.{arith}
 use lib.ListN.{length}
-use borrow.Author.Rules.{rules}
 use borrow.Author.Tests.{lt-ltb, le-ltb}
 use Rattle.model.specs.Report.{refused}
 use Rattle.model.specs.AnswerBuffer.{numbers_written}
@@ -14,7 +13,7 @@ pub returns-then-buffer-lt-ANSWER_BYTES : goal.returns-then-buffer-lt-ANSWER_BYT
 returns-then-buffer-lt-ANSWER_BYTES c =
     let n = length c.args.buffer.now in
     let whole : min n 65535 ≡ n = omega (arith, c.if-buffer-lt-ANSWER_BYTES.true) in
-    rw (lt-ltb _ _ c.if-buffer-lt-ANSWER_BYTES.true, c.refused_at.ensures, whole)
+    rw (lt-ltb _ _ c.if-buffer-lt-ANSWER_BYTES.true, c.refusal_number.ensures, c.refusal_at.ensures, whole)
 
 pub returns : goal.returns
 returns c =

@@ -3,7 +3,6 @@ use mathlib.Core.Path.{◌≡◌}
 use Prim.Native.Nat.{min}
 use native.Mathlib.Omega.{arith}
 use lib.ListN.{length}
-use borrow.Author.Rules.{rules}
 use borrow.Author.Tests.{lt-ltb, le-ltb}
 use Rattle.model.specs.Report.{refused, report_written}
 use Rattle.checkcalls.specs.Outcomes.{told_of_lem}
@@ -13,7 +12,7 @@ pub returns-then-report-lt-REPORT_BYTES : goal.returns-then-report-lt-REPORT_BYT
 returns-then-report-lt-REPORT_BYTES c =
     let n = length c.args.report.now in
     let whole : min n 65535 ≡ n = omega (arith, c.if-report-lt-REPORT_BYTES.true) in
-    rw (lt-ltb _ _ c.if-report-lt-REPORT_BYTES.true, c.refused_at.ensures, whole)
+    rw (lt-ltb _ _ c.if-report-lt-REPORT_BYTES.true, c.refusal_number.ensures, c.refusal_at.ensures, whole)
 
 pub returns : goal.returns
 returns c =

@@ -1,6 +1,5 @@
 -- Each return goes by what the form turned out to be.
 use mathlib.Core.Path.{sym, ap, ◌∙◌}
-use borrow.Author.Rules.{rules}
 use Rattle.values.specs.declared.Contents.{Contents}
 use Rattle.tablefile.specs.Told.{form_refused, table_told}
 use Rattle.checkcalls.specs.Outcomes.{refused_by, answered}

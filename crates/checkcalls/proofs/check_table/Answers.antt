@@ -2,7 +2,6 @@
 use Rattle.std.specs.Prelude.{Ok}
 use mathlib.Core.Path.{◌≡◌, sym, ap, ◌∙◌}
 use mathlib.Core.Bool.{Bool}
-use borrow.Author.Rules.{rules}
 use Rattle.model.specs.Tasks.{judged}
 use Rattle.model.specs.Report.{outcome_told}
 use Rattle.wellformed.specs.WellFormed.{periodic_iff, well_formed}

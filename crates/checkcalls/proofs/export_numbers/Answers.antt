@@ -1,5 +1,4 @@
 -- Each return goes by the outcome that its arm found.
-use borrow.Author.Rules.{rules}
 use Rattle.model.specs.Report.{refused}
 use Rattle.model.specs.AnswerBuffer.{numbers_written}
 use Rattle.checkcalls.specs.Outcomes.{by_outcome_of}

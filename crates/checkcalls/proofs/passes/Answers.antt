@@ -1,24 +1,18 @@
--- The length decides first, then the line.
-use mathlib.Core.Path.{◌≡◌, sym, ◌∙◌}
-use mathlib.Core.Bool.{true, false}
-use borrow.Author.Rules.{rules}
-use borrow.Author.Tests.{le-leb, lt-leb}
+-- The line decides.
+use mir.Val.{bool_byte}
+use mathlib.Core.Bool.{Bool, true, false}
+use mathlib.Core.Path.{◌≡◌, refl}
+use Rattle.std.specs.Prelude.{cond}
 use Rattle.model.specs.Notation.{text}
 use Rattle.model.specs.PlainText.{lines_of}
 use Rattle.model.specs.ReportRead.{has_line}
+use borrow.Author.Tests.{le-leb}
 use Rattle.checkcalls.proofs.passes.Goals as goal
 
-pub returns-then-report-gt-REPORT_BYTES : goal.returns-then-report-gt-REPORT_BYTES
-returns-then-report-gt-REPORT_BYTES c = rw (lt-leb _ _ c.if-report-gt-REPORT_BYTES.true)
+as_number : (b : Bool) → bool_byte b ≡ cond b 1 0
+as_number true = refl
+as_number false = refl
 
-pub returns-then-has_line : goal.returns-then-has_line
+pub returns : goal.returns
 unfolding text
-returns-then-has_line c =
-    let has : has_line (text "verdict passes") (lines_of c.args.report.now) ≡ true = sym c.has_line.ensures ∙ c.if-has_line.true in
-    rw (le-leb _ _ c.if-report-gt-REPORT_BYTES.false, has)
-
-pub returns-else-has_line : goal.returns-else-has_line
-unfolding text
-returns-else-has_line c =
-    let lacks : has_line (text "verdict passes") (lines_of c.args.report.now) ≡ false = sym c.has_line.ensures ∙ c.if-has_line.false in
-    rw (le-leb _ _ c.if-report-gt-REPORT_BYTES.false, lacks)
+returns c = rw (le-leb _ _ c.if-report-gt-REPORT_BYTES.false, c.from.ensures, c.has_line.ensures) (as_number (has_line (text "verdict passes") (lines_of c.args.report.now)))

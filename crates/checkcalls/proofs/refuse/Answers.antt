@@ -1,6 +1,5 @@
 -- The answer is the refusal.
 use native.Mathlib.Omega.{arith}
-use borrow.Author.Rules.{rules}
 use Rattle.checkcalls.proofs.refuse.Goals as goal
 
 pub returns : goal.returns

@@ -1,11 +1,11 @@
 -- The rows decide first.
 use mathlib.Core.Path.{sym, ◌∙◌}
 use borrow.Author.Tests.{lt-ltb, le-ltb}
-use Rattle.writecalls.proofs.write_rows.Goals as goal
+use Rattle.writecalls.proofs.rows_written.Goals as goal
 
 pub returns-then-broken : goal.returns-then-broken
 returns-then-broken c =
-    rw (sym c.broken.ensures ∙ c.if-broken.true, c.refused_at.ensures)
+    rw (sym c.broken.ensures ∙ c.if-broken.true, c.refusal_at.ensures)
 
 pub returns-then-stranger-count : goal.returns-then-stranger-count
 returns-then-stranger-count c =
@@ -14,7 +14,7 @@ returns-then-stranger-count c =
       ← c.first_stranger-stranger.ensures,
       ← c.count.ensures,
       lt-ltb _ _ c.if-stranger-count.true,
-      c.refused_at-then-stranger-count.ensures,
+      c.refusal_at-then-stranger-count.ensures,
     )
 
 pub returns : goal.returns
@@ -26,4 +26,4 @@ returns c =
       le-ltb _ _ c.if-stranger-count.false,
       ← c.table_in.ensures,
       ← c.write.ensures,
-    ) (c.told.ensures _)
+    )
