@@ -43,9 +43,8 @@ fn judge_table(t: Table, budget: u64, output: &mut [u8]) -> usize
         Err(why) => report::write_refusal(output, why),
         Ok(m) => {
             let answer = exact::tested(t, m, budget, false);
-            let outcome = answer.outcome;
             let quick = quick::passes(t, m);
-            write_outcome(output, t.count, quick, answer, outcome)
+            write_outcome(output, t.count, quick, answer, answer.outcome)
         }
     }
 }
@@ -56,13 +55,9 @@ fn judge(input: &[u8], output: &mut [u8]) -> usize
     ensures prefix_len { IsPrefixLen result output.new }
 {
     let form = tablefile::form_of(input);
-    let admission = form.admission;
-    match admission {
+    match form.admission {
         Err(why) => report::write_refusal(output, why),
-        Ok(()) => {
-            let table = form.table;
-            judge_table(table, form.budget, output)
-        }
+        Ok(()) => judge_table(form.table, form.budget, output),
     }
 }
 

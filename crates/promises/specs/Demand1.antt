@@ -35,7 +35,6 @@ use Rattle.backlog.proofs.Unique.{permitted_unique}
 use Rattle.backlog.proofs.Computed.{answer_of, computed}
 use Rattle.backlog.specs.Taken.{Belongs, belongs_after, slots_after}
 use Rattle.tablefile.specs.declared.Record.{Record}
-use Rattle.tablefile.specs.declared.Reading.{Reading}
 use Rattle.tablefile.specs.Reading.{reading_at}
 use Rattle.tablefile.specs.Said.{record_said, numbers_at, Has, record_said_lem}
 use Rattle.tablefile.specs.Admitted.{admitted}
@@ -245,7 +244,7 @@ refused_form file r e = rw e refl
 
 -- A record that is read has the numbers that stand in the file: its kind byte, and those of its body.
 pub record_read : (s : List ℕ) (at n : ℕ) (k : Record)
-    → reading_at s at n ≡ Reading.Whole k → record_said k ≡ numbers_at s at
+    → reading_at s at n ≡ Ok k → record_said k ≡ numbers_at s at
 record_read s at n k e = subst (Has (numbers_at s at)) e (record_said_lem s at n)
 
 -- A table that is refused is refused by the test with the same number and place, and nothing else is told.

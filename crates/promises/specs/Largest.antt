@@ -1,5 +1,6 @@
 -- HOW MUCH COST A TASK CAN TAKE (section 3.11 of the specification): the number told passes,
 -- and no larger one within the deadline does; where there is none to tell, why.
+use Rattle.model.specs.Values.{Outcome}
 use Rattle.values.specs.declared.Limit.{Limit}
 use Rattle.std.specs.Prelude.{◌≡◌, refl, ◌⊎◌, List, [], ◌∷◌, ℕ, ◌+◌, min, ◌≤◌, ◌<◌, Ok, Err}
 use Rattle.std.proofs.Common.{sym, ap, subst, ◌∙◌, inl, inr, arith}
@@ -60,7 +61,7 @@ cost_exactly t i budget c e =
     let (l, pass, (m, well), same) = cost_case t i budget c e in
     (l, pass, subst (LargestRight t i budget) same (right l pass m well))
   where
-    tested_same : {v w : Verdict} → Ok v ≡ Ok w → v ≡ w
+    tested_same : {v w : Verdict} → ◌≡◌ {A = Outcome} (Ok v) (Ok w) → v ≡ w
     tested_same e = cc
 
     right : i < t.count → verdict t budget ≡ Verdict.Passes → (m : Measure) → judged t ≡ Ok m

@@ -38,30 +38,23 @@ fn anything() -> Dispatcher {
 fn start(vector: &[u8], t: Table) -> Dispatcher {
     say::about(b"start", vector);
     let started = anything().start(t);
-    let admission = started.admission;
-    let d = started.dispatcher;
-    say_admission(admission);
-    say_state(d);
-    d
+    say_admission(started.admission);
+    say_state(started.dispatcher);
+    started.dispatcher
 }
 
 fn step(vector: &[u8], d: Dispatcher, t: Table, done: bool) -> Dispatcher {
     say::about(b"step", vector);
     let stepped = d.step(t, done);
-    let answer = stepped.answer;
-    let next = stepped.next;
-    say_answer(answer);
-    say_state(next);
-    next
+    say_answer(stepped.answer);
+    say_state(stepped.next);
+    stepped.next
 }
 
 fn say_admission(admission: Admission) {
-    match admission {
-        Err(why) => {
-            say::refusal(why);
-            say::words(b", ");
-        }
-        Ok(()) => {}
+    if let Err(why) = admission {
+        say::refusal(why);
+        say::words(b", ");
     }
 }
 
@@ -86,12 +79,10 @@ fn say_turn(turn: Turn) {
 
 fn say_state(d: Dispatcher) {
     let state = d.state;
-    let wait = state.wait;
-    let left = state.left;
     say::words(b"wait ");
-    say::numbers(wait);
+    say::numbers(state.wait);
     say::words(b", left ");
-    say::numbers(left);
+    say::numbers(state.left);
     say::words(b", last ");
     say_task(state.last);
     say::words(b"\n");

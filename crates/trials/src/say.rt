@@ -13,7 +13,7 @@ pub fn number(n: u64) {
 }
 
 pub fn small(n: u32) {
-    number(n as u64);
+    number(u64::from(n));
 }
 
 pub fn about(call: &[u8], vector: &[u8]) {

@@ -1,5 +1,4 @@
 // The specification's tables, and the means to write others.
-use std::num::wrapping_add_u32;
 use values::{Sort, TASK_LIMIT, Table, Task};
 
 pub fn task(offset: u32, cost: u32, deadline: u32, period: u32) -> Task {
@@ -32,9 +31,9 @@ pub fn periods(first: u32, second: u32) -> Table {
 pub fn most(shortest: u32, more: u32) -> Table {
     let mut t = alike(TASK_LIMIT, task(0, 1, 16, shortest));
     let mut period = shortest;
-    for i in 0..TASK_LIMIT {
-        t.tasks[i] = task(i as u32, 1, 16, period);
-        period = wrapping_add_u32(period, more);
+    for (i, own) in t.tasks.iter_mut().enumerate() {
+        *own = task(i as u32, 1, 16, period);
+        period = period.wrapping_add(more);
     }
     t
 }

@@ -44,16 +44,13 @@ fn test(vector: &[u8], t: Table, budget: u64) {
 }
 
 fn say_answer(a: Answer) {
-    let outcome = a.outcome;
-    let measure = a.measure;
-    let worst = a.worst;
-    say_outcome(outcome);
+    say_outcome(a.outcome);
     say::words(b", settled ");
     say::number(a.settled);
     say::words(b", ");
-    say::measure(measure);
+    say::measure(a.measure);
     say::words(b", worst ");
-    say::numbers(worst);
+    say::numbers(a.worst);
     say::words(b", idle ");
     say::number(a.idle);
 }
