@@ -1,0 +1,21 @@
+-- The loop has moved the entries from j on; what is left to do is to put x in among the first j.
+use mathlib.Core.Path.{refl, ◌∙◌}
+use native.Mathlib.Omega.{arith}
+use Rattle.leaps.specs.Queue.{inserted_none, inserted_here, inserted_below}
+use Rattle.leaps.proofs.queues.Queue.insert.Goals.{else-loop-j-test, then-loop-j-test+then-x-above}
+use Rattle.leaps.proofs.queues.Queue.insert.Goals as goal
+
+pub loop-j-preserved : goal.loop-j-preserved
+loop-j-preserved c =
+    let v = c.loop-j.invariant in
+    (v.0, omega (arith, v.1), inserted_below _ _ _ c.loop-j-test.true (omega (arith, c.if-x-above.false)) ∙ v.2)
+
+pub returns : goal.returns
+returns c =
+    let v = c.loop-j.invariant in record {
+      entries = elim c.loop-j-test.branch [
+        | else-loop-j-test w ↦ inserted_none _ _ _ (omega (arith, w.loop-j-test.false)) ∙ v.2
+        | then-loop-j-test+then-x-above w ↦ inserted_here _ _ _ w.loop-j-test.true (omega (arith, w.if-x-above.true)) ∙ v.2
+      ];
+      len = omega (arith, v.0);
+    }
