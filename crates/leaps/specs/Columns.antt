@@ -1,5 +1,5 @@
 -- A table unpacked: a list for each number that a walk reads.
-use Rattle.std.specs.Prelude.{◌≡◌, refl, List, ℕ, ◌-◌, ◌≤◌, replicate}
+use Rattle.std.specs.Prelude.{◌≡◌, List, ℕ, ◌≤◌, replicate}
 use Rattle.values.specs.declared.Table.{Table}
 use Rattle.model.specs.Limits.{task_limit}
 use Rattle.model.specs.Tasks.{task}

@@ -1,12 +1,11 @@
 -- What the laws say of a walk's lists, of the lists that a table's columns and a walk's `Kept` hold. Of each task the next release is queued.
-use Rattle.std.specs.Prelude.{◌≡◌, ℕ, ◌≤◌}
+use Rattle.std.specs.Prelude.{◌≡◌, ℕ}
 use Rattle.std.proofs.Common.{ap}
 use Rattle.values.specs.declared.Table.{Table}
-use Rattle.model.specs.Limits.{task_limit}
 use Rattle.leaps.specs.Held.{Held}
 use Rattle.leaps.specs.Turn.{Landing}
 use Rattle.leaps.specs.Leaping.{Due, Ready, Here}
-use Rattle.leaps.specs.Columns.{columns_of, Columned, columned}
+use Rattle.leaps.specs.Columns.{columns_of}
 use Rattle.leaps.specs.declared.Columns.{Columns}
 use Rattle.leaps.specs.declared.Kept.{Kept}
 use Rattle.leaps.specs.declared.Landed.{Landed}

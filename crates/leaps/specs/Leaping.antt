@@ -1,5 +1,5 @@
 -- What holds before a leap, before its turn and before its releases.
-use Rattle.std.specs.Prelude.{◌≡◌, List, false, ℕ, suc, ◌-◌, ◌≤◌}
+use Rattle.std.specs.Prelude.{List, false, ℕ, suc, ◌≤◌}
 use Rattle.values.specs.declared.Table.{Table}
 use Rattle.model.specs.Tasks.{task, round, load}
 use Rattle.model.specs.Dispatcher.{wait_of, left_of, wait_released, left_released}

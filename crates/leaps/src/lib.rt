@@ -21,7 +21,6 @@ ghost use Rattle.leaps.specs.Skipping.{Stops};
 mod queues;
 
 pub use queues::Queue;
-
 use slots::Numbers;
 use values::{TASK_LIMIT, Table};
 

@@ -16,7 +16,7 @@ use Rattle.leaps.specs.declared.Way.{Way}
 use Rattle.leaps.specs.Landed.{is_late}
 use Rattle.leaps.specs.Kept.{here_in, landing_of}
 use Rattle.leaps.proofs.Leaping.{leaping_start, here_next}
-use Rattle.leaping.specs.Start.{searching_start, some_left, crowded, asked_le, task_lt, length_in, found, goes_on}
+use Rattle.leaping.specs.Start.{searching_start, some_left, asked_le, task_lt, length_in, found, goes_on}
 use Rattle.leaping.specs.Ended.{late_ended, quiet_ended, idled}
 use Rattle.leaping.proofs.search.Goals.{then-idling, else-idling+in_default, else-idling+in-Late+then-length-count, After-leap-here, After-task_of-i, After-time_of-length, At-loop-count, At-search}
 use Rattle.leaping.proofs.search.Goals as goal
@@ -46,7 +46,7 @@ search-init c =
     let r = p.ranged in
     let q = c.first_releases.ensures in (
       rw (c.new.ensures.entries, c.new.ensures.len)
-      (leaping_start _ r p.t_bound (columned _ r.few c.unpack-columns.ensures) p.end_le_horizon_limit q.coming c.going-here.ensures),
+          (leaping_start _ r p.t_bound (columned _ r.few c.unpack-columns.ensures) p.end_le_horizon_limit q.coming c.going-here.ensures),
       q.len,
       refl,
       refl,

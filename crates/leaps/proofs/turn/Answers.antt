@@ -4,7 +4,7 @@ use mathlib.Core.Path.{◌≡◌, refl, sym, ap, ◌∙◌}
 use Prim.Native.Nat.{ℕ, ◌-◌, ◌/◌, ◌%◌, ◌≤◌, ◌<◌}
 use Rattle.std.proofs.lemmas.Bool.{eqb-true, eqb-false}
 use native.Mathlib.Omega.{arith}
-use Rattle.model.specs.Limits.{task_limit, slot_limit}
+use Rattle.model.specs.Limits.{slot_limit}
 use Rattle.slots.specs.Slot.{at}
 use Rattle.leaps.specs.Entry.{places, span}
 use Rattle.leaps.proofs.Turns.{rests, owner_is, bound, left_small, spare_le, stops, preempt, finishes}
@@ -51,7 +51,7 @@ pub returns-then-is_empty : goal.returns-then-is_empty
 returns-then-is_empty c =
     let y = c.requires.0 in (
       rw c.rest.ensures (rests _ y.ranged y.light y.clear y.held y.tally (soon (goal.at.returns-then-is_empty c).After-time_of-soon) y.before
-      (eqb-true _ _ (sym c.is_empty.ensures ∙ c.if-is_empty.true))),
+          (eqb-true _ _ (sym c.is_empty.ensures ∙ c.if-is_empty.true))),
       c.requires.1,
     )
 
@@ -66,9 +66,9 @@ returns-then-due-soon c =
     let y = c.requires.0 in
     let at = goal.at.returns-then-due-soon c in (
       rw c.stop.ensures
-      (stops _ y.ranged y.light y.clear y.held y.tally (soon at.After-time_of-soon) y.before (busy at.After-task_of-i)
-      (task_is at.After-task_of-i) (due_is at.After-time_of-due) refl
-      (inl (omega (arith, c.if-due-soon.true, c.if-soon-done.true), omega (arith, c.if-due-soon.true)))),
+          (stops _ y.ranged y.light y.clear y.held y.tally (soon at.After-time_of-soon) y.before (busy at.After-task_of-i)
+          (task_is at.After-task_of-i) (due_is at.After-time_of-due) refl
+          (inl (omega (arith, c.if-due-soon.true, c.if-soon-done.true), omega (arith, c.if-due-soon.true)))),
       c.requires.1,
     )
 
@@ -77,9 +77,9 @@ returns-then-end-soon c =
     let y = c.requires.0 in
     let at = goal.at.returns-then-end-soon c in (
       rw c.stop-then-end-soon.ensures
-      (stops _ y.ranged y.light y.clear y.held y.tally (soon at.After-time_of-soon) y.before (busy at.After-task_of-i)
-      (task_is at.After-task_of-i) (due_is at.After-time_of-due) refl
-      (inr (omega (arith, c.if-end-soon.true, c.if-soon-done.true), omega (arith, c.if-end-soon.true), omega (arith, c.if-end-soon.true, c.if-due-soon.false)))),
+          (stops _ y.ranged y.light y.clear y.held y.tally (soon at.After-time_of-soon) y.before (busy at.After-task_of-i)
+          (task_is at.After-task_of-i) (due_is at.After-time_of-due) refl
+          (inr (omega (arith, c.if-end-soon.true, c.if-soon-done.true), omega (arith, c.if-end-soon.true), omega (arith, c.if-end-soon.true, c.if-due-soon.false)))),
       c.requires.1,
     )
 
@@ -88,9 +88,9 @@ returns-then-soon-done c =
     let y = c.requires.0 in
     let at = goal.at.returns-then-soon-done c in (
       rw c.going.ensures
-      (preempt _ y.ranged y.light y.clear y.held y.tally (soon at.After-time_of-soon) y.before (busy at.After-task_of-i)
-      (task_is at.After-task_of-i) (due_is at.After-time_of-due) refl
-      (omega (arith, c.if-soon-done.true)) (omega (arith, c.if-due-soon.false)) (omega (arith, c.if-end-soon.false))),
+          (preempt _ y.ranged y.light y.clear y.held y.tally (soon at.After-time_of-soon) y.before (busy at.After-task_of-i)
+          (task_is at.After-task_of-i) (due_is at.After-time_of-due) refl
+          (omega (arith, c.if-soon-done.true)) (omega (arith, c.if-due-soon.false)) (omega (arith, c.if-end-soon.false))),
       c.requires.1,
     )
 
@@ -99,9 +99,9 @@ returns-then-due-done c =
     let y = c.requires.0 in
     let at = goal.at.returns-then-due-done c in (
       rw c.stop-then-due-done.ensures
-      (stops _ y.ranged y.light y.clear y.held y.tally (soon at.After-time_of-soon) y.before (busy at.After-task_of-i)
-      (task_is at.After-task_of-i) (due_is at.After-time_of-due) refl
-      (inl (omega (arith, c.if-due-done.true), omega (arith, c.if-due-done.true, c.if-soon-done.false)))),
+          (stops _ y.ranged y.light y.clear y.held y.tally (soon at.After-time_of-soon) y.before (busy at.After-task_of-i)
+          (task_is at.After-task_of-i) (due_is at.After-time_of-due) refl
+          (inl (omega (arith, c.if-due-done.true), omega (arith, c.if-due-done.true, c.if-soon-done.false)))),
       c.requires.1,
     )
 
@@ -110,9 +110,9 @@ returns-then-end-done c =
     let y = c.requires.0 in
     let at = goal.at.returns-then-end-done c in (
       rw c.stop-then-end-done.ensures
-      (stops _ y.ranged y.light y.clear y.held y.tally (soon at.After-time_of-soon) y.before (busy at.After-task_of-i)
-      (task_is at.After-task_of-i) (due_is at.After-time_of-due) refl
-      (inr (omega (arith, c.if-end-done.true), omega (arith, c.if-end-done.true, c.if-soon-done.false), omega (arith, c.if-end-done.true, c.if-due-done.false)))),
+          (stops _ y.ranged y.light y.clear y.held y.tally (soon at.After-time_of-soon) y.before (busy at.After-task_of-i)
+          (task_is at.After-task_of-i) (due_is at.After-time_of-due) refl
+          (inr (omega (arith, c.if-end-done.true), omega (arith, c.if-end-done.true, c.if-soon-done.false), omega (arith, c.if-end-done.true, c.if-due-done.false)))),
       c.requires.1,
     )
 
@@ -134,8 +134,8 @@ returns c =
     let at = goal.at.returns c in
     let e = c.finish.ensures in (
       rw (e.releases, e.ready, e.ready_len, e.left, e.worst, e.landed)
-      (finishes _ y.ranged y.light y.clear y.held y.tally (soon at.After-time_of-soon) y.before (busy at.After-task_of-i)
-      (task_is at.After-task_of-i) (due_is at.After-time_of-due) (omega arith)
-      (omega (arith, c.if-soon-done.false)) (omega (arith, c.if-due-done.false)) (omega (arith, c.if-end-done.false))),
+          (finishes _ y.ranged y.light y.clear y.held y.tally (soon at.After-time_of-soon) y.before (busy at.After-task_of-i)
+          (task_is at.After-task_of-i) (due_is at.After-time_of-due) (omega arith)
+          (omega (arith, c.if-soon-done.false)) (omega (arith, c.if-due-done.false)) (omega (arith, c.if-end-done.false))),
       rw e.releases c.requires.1,
     )

@@ -1,5 +1,5 @@
 -- The loop has moved the entries from j on; what is left to do is to put x in among the first j.
-use mathlib.Core.Path.{refl, ◌∙◌}
+use mathlib.Core.Path.{◌∙◌}
 use native.Mathlib.Omega.{arith}
 use Rattle.leaps.specs.Queue.{inserted_none, inserted_here, inserted_below}
 use Rattle.leaps.proofs.queues.Queue.insert.Goals.{else-loop-j-test, then-loop-j-test+then-x-above}
