@@ -39,23 +39,14 @@ impl Queue {
         self.entries[self.len - 1]
     }
 
-    // The smaller entries move up.
     pub fn insert(&mut self, x: u64)
         requires { self.old.len < task_limit }
         ensures entries { self.new.entries ≡ inserted self.old.entries self.old.len x }
         ensures len { self.new.len ≡ self.old.len + 1 }
     {
-        let mut j = self.len;
-        while 0 < j {
-            let above = self.entries[j - 1];
-            if x <= above {
-                break;
-            }
-            self.entries[j] = above;
-            j = j - 1;
-        }
-        self.entries[j] = x;
-        self.len += 1;
+        let len = self.len;
+        put(&mut self.entries, len, x);
+        self.len = len + 1;
     }
 
     pub fn drop_least(&mut self)
@@ -71,7 +62,23 @@ impl Queue {
         ensures entries { self.new.entries ≡ inserted self.old.entries (self.old.len - 1) x }
         ensures len { self.new.len ≡ self.old.len }
     {
-        self.drop_least();
-        self.insert(x);
+        put(&mut self.entries, self.len - 1, x);
     }
+}
+
+// One more entry among the first m: the smaller ones move up.
+fn put(entries: &mut [u64; TASK_LIMIT], m: usize, x: u64)
+    requires { m < task_limit }
+    ensures { entries.new ≡ inserted entries.old m x }
+{
+    let mut j = m;
+    while 0 < j {
+        let above = entries[j - 1];
+        if x <= above {
+            break;
+        }
+        entries[j] = above;
+        j = j - 1;
+    }
+    entries[j] = x;
 }
