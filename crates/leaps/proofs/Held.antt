@@ -47,10 +47,6 @@ module _ (t : Table) (r : Ranged t) {n : ℕ} {W L : ℕ → ℕ} {releases read
       let (lb, pb, eb) = open_of b m in
       omega (arith, h.waiting.falls a b k m, ea ∙ ap (λ (j : ℕ). entry t (n + (W j - slack t j)) j) f ∙ sym eb)
 
-  -- There are no more than tasks.
-  pub crowd : jobs ≤ t.count
-  crowd = at_most t.count jobs (λ a. at ready a % places) (λ a k. (open_of a k).0) open_apart
-
   -- Where a task is not open, there is room for one more.
   pub room : (i : ℕ) → i < t.count → (0 < L i → ⊥) → jobs < t.count
   room i l shut = at_most t.count (suc jobs) (λ a. cond (ltb a jobs) (at ready a % places) i) low apart
