@@ -1,6 +1,6 @@
 -- WHAT THE WALK HOLDS (`release_one`): the next releases and the open jobs, each as a queue in the order in which they come, and the slots left. A
 -- release moves a task in both.
-use Rattle.std.specs.Prelude.{◌≡◌, refl, ◌⊎◌, List, cond, ℕ, suc, ◌+◌, ◌-◌, ◌%◌, ◌≤◌, ◌<◌, ltb, eqb, set}
+use Rattle.std.specs.Prelude.{◌≡◌, refl, ◌⊎◌, List, cond, ℕ, suc, ◌+◌, ◌-◌, ◌%◌, ◌<◌, ltb, eqb, set}
 use Rattle.std.proofs.Common.{sym, ap, subst, ◌∙◌, inl, inr, arith, eq-eqb, ne_eqb, lt-ltb, le-ltb, length-set, get_or-set_same, get_or-set_other}
 use Rattle.std.proofs.Math.Decide.{ℕ_discrete, dec_lt}
 use Rattle.values.specs.declared.Table.{Table}

@@ -3,14 +3,8 @@ use mathlib.Core.Path.{◌≡◌}
 use native.Mathlib.Omega.{arith}
 use Rattle.std.proofs.lemmas.List.{get_or-take}
 use Rattle.model.specs.Tasks.{no_task}
-use Rattle.leaps.proofs.Firsts.{firsts_none, firsts_more}
+use Rattle.leaps.proofs.Firsts.{firsts_more}
 use Rattle.leaps.proofs.first_releases.Goals as goal
-
-pub loop-i-init : goal.loop-i-init
-loop-i-init c = (rw c.new-queue.ensures.entries (firsts_none c.args.t), c.new-queue.ensures.len)
-
-pub insert-requires : goal.insert-requires
-insert-requires c = omega (arith, c.loop-i.invariant.1, c.requires.ranged.few, c.loop-i-test.true)
 
 pub loop-i-preserved : goal.loop-i-preserved
 loop-i-preserved c =

@@ -7,6 +7,3 @@ release_all-requires c = (due_now c.requires.0, c.requires.1)
 
 pub turn-requires : goal.turn-requires
 turn-requires c = rw c.release_all.ensures.worst (ready_now c.requires.0 c.release_all.ensures.held.0, c.release_all.ensures.held.1)
-
-pub returns : goal.returns
-returns c = c.turn.ensures

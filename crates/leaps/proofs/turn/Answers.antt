@@ -44,9 +44,6 @@ small c =
     rw (task_is c)
     (left_small _ y.ranged y.light y.clear y.held y.tally (soon (goal.at.After-task_of-i c).After-time_of-soon) y.before (busy c))
 
-pub rest-requires : goal.rest-requires
-rest-requires c = let y = c.requires.0 in omega (arith, y.before, y.limit)
-
 pub returns-then-is_empty : goal.returns-then-is_empty
 returns-then-is_empty c =
     let y = c.requires.0 in (
@@ -54,9 +51,6 @@ returns-then-is_empty c =
           (eqb-true _ _ (sym c.is_empty.ensures ∙ c.if-is_empty.true))),
       c.requires.1,
     )
-
-pub bounds-kept-i : goal.bounds-kept-i
-bounds-kept-i c = omega (arith, own (goal.at.bounds-kept-i c).After-task_of-i, c.requires.0.ranged.few)
 
 pub overflow_add-done : goal.overflow_add-done
 overflow_add-done c = let y = c.requires.0 in omega (arith, small (goal.at.overflow_add-done c).After-task_of-i, y.before, y.limit)
