@@ -6,8 +6,7 @@ use Rattle.std.proofs.lemmas.List.{get_or-take}
 use Rattle.values.specs.declared.Task.{Task}
 use Rattle.model.specs.Tasks.{no_task}
 use Rattle.model.specs.Demand.{jobs_in}
-use Rattle.leaps.proofs.Entries.{mark_small}
-use Rattle.leaping.specs.Start.{due_by, released_before, jobs_due, lasts_none, lasts_skip, lasts_more}
+use Rattle.leaping.specs.Start.{due_by, released_before, jobs_due, lasts_skip, lasts_more}
 use Rattle.leaping.proofs.last_jobs.Goals.{After-jobs_in-due, After-from}
 use Rattle.leaping.proofs.last_jobs.Goals.{then-due-gt0, else-due-gt0}
 use Rattle.leaping.proofs.last_jobs.Goals as goal
@@ -25,9 +24,6 @@ last_lt c =
     (released_before _ c.requires.ranged _ c.loop-i.i (c.jobs_in-due.result - 1) (omega arith)
     (omega (arith, many (goal.at.After-from c).After-jobs_in-due, c.if-due-gt0.true)))
 
-pub loop-i-init : goal.loop-i-init
-loop-i-init c = (omega (arith, c.new-queue.ensures.len), rw (c.new-queue.ensures.entries, c.new-queue.ensures.len) (lasts_none c.args.t c.args.to))
-
 pub overflow_mul-last : goal.overflow_mul-last
 overflow_mul-last c = omega (arith, last_lt (goal.at.overflow_mul-last c).After-from)
 
@@ -36,13 +32,6 @@ overflow_add-last c = omega (arith, last_lt (goal.at.overflow_add-last c).After-
 
 pub overflow_sub-to : goal.overflow_sub-to
 overflow_sub-to c = omega (arith, last_lt (goal.at.overflow_sub-to c).After-from)
-
-pub entry-requires : goal.entry-requires
-entry-requires c =
-    let l : c.loop-i.i < c.args.t.count = omega arith in (
-      omega (arith, c.requires.to_le_horizon_limit),
-      omega (arith, c.requires.marked c.loop-i.i l, mark_small c.args.t c.requires.ranged c.loop-i.i l),
-    )
 
 pub loop-i-preserved : goal.loop-i-preserved
 loop-i-preserved c =
@@ -62,8 +51,3 @@ loop-i-preserved c =
         rw w.queue-is (lasts_skip _ c.requires.ranged _ c.loop-i.i l v.1 (omega (arith, enough, w.if-due-gt0.false))),
       )
     ]
-
-pub returns : goal.returns
-returns c =
-    let e : c.loop-i.i ≡ c.args.t.count = omega arith in
-    rw e at c.loop-i.invariant.1

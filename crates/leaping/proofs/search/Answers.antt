@@ -5,7 +5,6 @@ use Prim.Native.Nat.{ℕ, ◌-◌, ◌/◌, ◌%◌, ◌≤◌, ◌<◌}
 use native.Mathlib.Omega.{arith}
 use mathlib.Core.Bool.{false}
 use lib.Dec.{T}
-use Rattle.model.specs.Limits.{task_limit}
 use Rattle.model.specs.Tasks.{task, offset}
 use Rattle.backlog.specs.Taken.{wait_start}
 use Rattle.slots.specs.Slot.{at as entry_at}
@@ -32,9 +31,6 @@ busy c =
     let h = c.search.invariant.0 in
     some_left _ h.ranged _ c.loop-count.invariant ((landing_of _ c.unpack-columns.ensures c.leap-here.new.kept c.leap-here.ensures).0.late (ap is_late c.in-Late.is))
 
-pub unpack-columns-requires : goal.unpack-columns-requires
-unpack-columns-requires c = c.requires.ranged
-
 pub first_releases-requires : goal.first_releases-requires
 first_releases-requires c =
     let r = c.requires.ranged in
@@ -55,9 +51,6 @@ search-init c =
 pub leap-here-requires : goal.leap-here-requires
 leap-here-requires c = let i = c.search.invariant in here_in _ c.unpack-columns.ensures c.search.kept i.0 i.1
 
-pub offsets-offset-requires : goal.offsets-offset-requires
-offsets-offset-requires c = c.search.invariant.0.ranged.few
-
 pub last_jobs-queue-requires : goal.last_jobs-queue-requires
 last_jobs-queue-requires c =
     let i = c.search.invariant in
@@ -76,9 +69,6 @@ key_task c = c.task_of-i.ensures ∙ ap (λ (x : ℕ). x % places) c.least-key.e
 own : (c : After-task_of-i) → c.task_of-i.result < c.args.t.count
 own c =
     omega (arith, key_task c, task_lt _ c.search.invariant.0.ranged _ c.loop-count.invariant (busy (goal.at.After-task_of-i c).At-loop-count))
-
-low : (c : After-task_of-i) → c.task_of-i.result < task_limit
-low c = omega (arith, own c, c.search.invariant.0.ranged.few)
 
 cost-is : (c : After-task_of-i) → entry_at c.unpack-columns.result.cost c.task_of-i.result
     ≡ (task c.args.t (entry_at c.loop-count.queue.entries (c.loop-count.queue.len - 1) % places)).cost
@@ -118,11 +108,6 @@ overflow_add-count c =
       each.deadline_le,
       each.period_le,
     )
-
-pub demand-asked-requires : goal.demand-asked-requires
-demand-asked-requires c =
-    let h = c.search.invariant.0 in
-    record { ranged = h.ranged; from_le_to = (omega arith, omega (arith, (landing_of _ c.unpack-columns.ensures c.leap-here.new.kept c.leap-here.ensures).0.upto, h.limit)) }
 
 pub requeue-requires : goal.requeue-requires
 requeue-requires c =
@@ -164,11 +149,6 @@ loop-count-preserved c =
     (goes_on _ r _ c.loop-count.invariant (busy at.At-loop-count)
     (omega (arith, c.if-length-count.false, cost-is at.After-task_of-i, key_length at.After-time_of-length)) c.loop-count.queue.few
     (rw (period, first, c.least-key.ensures) at c.requeue.ensures))
-
-pub search-smaller : goal.search-smaller
-search-smaller c =
-    let (z, full) = landing_of _ c.unpack-columns.ensures c.leap-here.new.kept c.leap-here.ensures in
-    omega (arith, z.upto, (z.goes (c.stops.ensures.0 c.if-stops.false)).0)
 
 pub search-preserved : goal.search-preserved
 search-preserved c =
