@@ -17,7 +17,7 @@ pub fn jobs_in(k: Task, from: u64, to: u64) -> u64
     ensures { result ≡ jobs_in k from to }
 {
     let period = u64::from(k.period);
-    let offset = sorts::wide_offset_of(k);
+    let offset = u64::from(sorts::offset_of(k));
     let due = (to + period).saturating_sub(offset + u64::from(k.deadline)) / period;
     let released = (from.saturating_sub(offset) + (period - 1)) / period;
     due.saturating_sub(released)
@@ -41,7 +41,7 @@ fn release_before(k: Task, from: u64) -> u64
     requires { InRange k }
     ensures { (0 < from → result < from) × NoRelease k result from }
 {
-    let offset = sorts::wide_offset_of(k);
+    let offset = u64::from(sorts::offset_of(k));
     if from <= offset {
         return 0;
     }

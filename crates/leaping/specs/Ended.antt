@@ -21,8 +21,8 @@ Ended t end c = Tally t c.at c.worst c.idle × (Quiet t end c ⊎ Late t end c)
 abbrev pub Idled : Table → ℕ → ℕ → Type 0
 Idled t end idle = (n : ℕ) × Clear t n × (idle ≡ idle_by t n) × (T (late_at t n) ⊎ ((n ≡ end) ⊎ (0 < idle)))
 
-module _ (t : Table) (r : Ranged t) (light : load t ≤ round t) {n end : ℕ} {releases ready left worst : List ℕ} {x : Landed}
-    (z : Landing t n end releases ready left worst x) where
+module _ (t : Table) (r : Ranged t) (light : load t ≤ round t) {n end : ℕ} {releases ready left worst : List ℕ} {jobs : ℕ} {x : Landed}
+    (z : Landing t n end releases ready left worst jobs x) where
   -- At a late deadline, with its start.
   pub late_ended : is_late x.way ≡ true → (from asked : ℕ) → from < x.time → asked ≡ demand t from x.time → x.time - from < asked
       → ((later : ℕ) → from < later → later < x.time → T (asks_too_much t later x.time) → ⊥)
@@ -32,7 +32,7 @@ module _ (t : Table) (r : Ranged t) (light : load t ≤ round t) {n end : ℕ} {
     inr (record { upto = z.upto; clear = z.clear; late = z.late late; before = before; asks = asks; much = much; last = last }),
   )
 
-  module _ {again : ℕ} (stopped : Stopped again x) where
+  module _ {again : ℕ} (stopped : Stopped again jobs x) where
     pub quiet_ended : Rounded t again → is_late x.way ≡ false → (from asked at : ℕ) → asked ≡ 0 → at ≡ end
         → Ended t end (record { from = from; asked = asked; at = at; worst = worst; idle = x.idle })
     quiet_ended rounded calm from asked at none at_end_lem =

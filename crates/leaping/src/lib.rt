@@ -2,59 +2,51 @@
 #![tactic(auto)]
 
 ghost use Rattle.std.specs.Prelude.{◌≡◌, true, false, ◌/◌, ◌≤◌, ◌<◌, Ok};
-ghost use Rattle.model.specs.Limits.{task_limit, slot_limit};
+ghost use Rattle.model.specs.Limits.{slot_limit};
 ghost use Rattle.model.specs.Tasks.{judged, round, load};
 ghost use Rattle.wellformed.specs.Ranges.{Ranged};
 ghost use Rattle.wellformed.specs.WellFormed.{horizon_limit};
 ghost use Rattle.walks.specs.Course.{Ends};
 ghost use Rattle.leaps.specs.Entry.{span};
-ghost use Rattle.leaps.specs.Queue.{Queue};
+ghost use Rattle.leaps.specs.Queue.{Queue as IsQueue};
 ghost use Rattle.leaps.specs.Columns.{Marked};
 ghost use Rattle.leaps.specs.Skipping.{Rounded};
 ghost use Rattle.leaping.specs.Start.{Last, due_by, Requeued};
 ghost use Rattle.leaping.specs.Ended.{Ended, Idled};
 
-use leaps::{Kept, Times, Way};
+use leaps::{Kept, Queue, Times, Way};
 use values::{Measure, TASK_LIMIT, Table};
 use walks::Course;
 
-// The jobs to be counted next in a search for a start: how far before the late deadline each is released.
-#[derive(Clone, Copy)]
-pub struct Lasts {
-    pub queue: Times,
-    pub jobs: usize,
-}
-
-// Of each task the last job that is due by then.
-fn last_jobs(t: Table, mark: &Times, to: u64) -> Lasts
+// Of each task the last job that is due by then, by how far before it the job is released.
+fn last_jobs(t: Table, mark: &Times, to: u64) -> Queue
     requires ranged { Ranged t }
     requires marked { Marked t mark.now }
     requires to_le_horizon_limit { to ≤ horizon_limit }
-    ensures { Queue (Last t to t.count (due_by t to)) result.queue result.jobs }
+    ensures { IsQueue (Last t to t.count (due_by t to)) result.entries result.len }
 {
-    let mut queue = [0u64; TASK_LIMIT];
-    let mut jobs = 0;
+    let mut queue = Queue::new();
     for (i, task) in t.tasks[..t.count].iter().enumerate() {
         let due = intervals::jobs_in(*task, 0, to);
         if 0 < due {
-            let last = sorts::wide_offset_of(*task) + (due - 1) * u64::from(task.period);
-            leaps::insert(&mut queue, jobs, leaps::entry(to - last, mark[i]));
-            jobs += 1;
+            let first = u64::from(sorts::offset_of(*task));
+            let last = first + (due - 1) * u64::from(task.period);
+            queue.insert(leaps::entry(to - last, mark[i]));
         }
     }
-    Lasts { queue, jobs }
+    queue
 }
 
-// The job before a counted one, if there is one, is queued in its place; how many are queued then.
-fn requeue(queue: &mut Times, jobs: usize, key: u64, period: u64, offset: u32, to: u64) -> usize
-    requires { (0 < jobs) × (jobs ≤ task_limit) × (key / span ≤ to) × (to ≤ horizon_limit) × (period ≤ slot_limit) }
-    ensures { Requeued to key period offset queue.old jobs queue.new result }
+// The job before a counted one, if there is one, is queued in its place.
+fn requeue(queue: &mut Queue, key: u64, period: u64, offset: u32, to: u64)
+    requires { (0 < queue.old.len) × (key / span ≤ to) × (to ≤ horizon_limit) × (period ≤ slot_limit) }
+    ensures { Requeued to key period offset queue.old.entries queue.old.len queue.new.entries queue.new.len }
 {
     if leaps::time_of(key) + period + u64::from(offset) <= to {
-        leaps::insert(queue, jobs - 1, key + leaps::entry(period, 0));
-        return jobs;
+        queue.replace_least(key + leaps::entry(period, 0));
+    } else {
+        queue.drop_least();
     }
-    jobs - 1
 }
 
 // From event to event; at the first late deadline, unless only an idle instant is asked for, from job to job to the largest start that asks too much.
@@ -69,18 +61,18 @@ pub fn search(t: Table, end: u64, again: u64, idling: bool) -> Course
     let columns = leaps::unpack(t);
     let mut kept = Kept {
         releases: leaps::first_releases(t, &columns.mark),
-        ready: [0u64; TASK_LIMIT],
+        ready: Queue::new(),
         left: [0u64; TASK_LIMIT],
         worst: [0u32; TASK_LIMIT],
     };
-    let mut here = leaps::going(0, 0, 0);
+    let mut here = leaps::going(0, 0);
     let mut from = 0;
     let mut asked = 0;
     // A walk that stops and is not late has seen all up to its end.
     let mut at = end;
     'search: loop {
         here = leaps::leap(&columns, &mut kept, end, here);
-        if leaps::stops(here, again) {
+        if leaps::stops(here, &kept, again) {
             if idling {
                 break 'search;
             }
@@ -89,12 +81,10 @@ pub fn search(t: Table, end: u64, again: u64, idling: bool) -> Course
             };
             at = here.time;
             let offset = slots::offsets(t);
-            let lasts = last_jobs(t, &columns.mark, at);
-            let mut queue = lasts.queue;
-            let mut jobs = lasts.jobs;
+            let mut queue = last_jobs(t, &columns.mark, at);
             let mut count = 0;
             loop {
-                let key = queue[jobs - 1];
+                let key = queue.least();
                 let i = leaps::task_of(key);
                 let length = leaps::time_of(key);
                 from = at - length;
@@ -104,7 +94,7 @@ pub fn search(t: Table, end: u64, again: u64, idling: bool) -> Course
                     break 'search;
                 }
                 let period = leaps::time_of(columns.period[i]);
-                jobs = requeue(&mut queue, jobs, key, period, offset[i], at);
+                requeue(&mut queue, key, period, offset[i], at);
             }
         }
     }

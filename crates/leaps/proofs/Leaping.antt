@@ -23,25 +23,24 @@ use Rattle.leaps.proofs.Turns.{calm_clear}
 use Rattle.leaps.specs.declared.Landed.{Landed}
 use Rattle.leaps.specs.Leaping.{Due, Ready, Here}
 
-module _ {t : Table} {period cost deadline releases ready left worst : List ℕ} {last end : ℕ} {x : Landed}
-    (h : Here t period cost deadline releases ready left worst last end x) where
+module _ {t : Table} {period cost deadline releases ready left worst : List ℕ} {jobs end : ℕ} {x : Landed}
+    (h : Here t period cost deadline releases ready left worst jobs end x) where
   -- No deadline up to now is late.
   clear_now : Clear t (suc x.time)
   clear_now = calm_clear t h.ranged h.clear h.held.ahead
 
   -- So there is what the releases are made from, and after them what the turn is made from.
-  pub due_now : Due t period cost deadline releases ready left last x.time x.jobs
+  pub due_now : Due t period cost deadline releases ready left jobs x.time
   due_now = record { ranged = h.ranged; columns = h.columns; soon = omega (arith, h.before, h.limit); clear = clear_now; held = h.held }
 
   pub ready_now : {releases' ready' left' : List ℕ} {jobs' : ℕ} → Held t x.time (wait_released t (walked t x.time) false)
       (left_released t (walked t x.time) false) releases' ready' left' jobs'
-      → Ready t deadline releases' ready' left' worst last x.time end jobs' x.idle
+      → Ready t deadline releases' ready' left' worst jobs' x.time end x.idle
   ready_now held =
       record {
         ranged = h.ranged;
         light = h.light;
         deadlines = h.columns.deadlines;
-        last_is = h.columns.last_is;
         before = h.before;
         limit = h.limit;
         clear = clear_now;
@@ -50,8 +49,8 @@ module _ {t : Table} {period cost deadline releases ready left worst : List ℕ}
       }
 
   -- Where the walk goes on, it does so from the landing.
-  pub here_next : {releases' ready' left' worst' : List ℕ} {y : Landed} → Landing t x.time end releases' ready' left' worst' y → is_over y.way ≡ false
-      → Here t period cost deadline releases' ready' left' worst' last end y
+  pub here_next : {releases' ready' left' worst' : List ℕ} {jobs' : ℕ} {y : Landed} → Landing t x.time end releases' ready' left' worst' jobs' y → is_over y.way ≡ false
+      → Here t period cost deadline releases' ready' left' worst' jobs' end y
   here_next z e =
       record {
         ranged = h.ranged;
@@ -73,10 +72,10 @@ module _ (t : Table) (r : Ranged t) where
   unfolding state_at_by
   left_first i = left_start t i
 
-  pub leaping_start : load t ≤ round t → {period cost deadline releases : List ℕ} {last end : ℕ} → Columned t last period cost deadline
+  pub leaping_start : load t ≤ round t → {period cost deadline releases : List ℕ} {end : ℕ} → Columned t period cost deadline
       → end ≤ horizon_limit → Queue (Coming t 0 (λ i. offset (task t i))) releases t.count
-      → {x : Landed} → x ≡ going_at 0 0 0 → Here t period cost deadline releases (replicate task_limit 0) (replicate task_limit 0)
-      (replicate task_limit 0) last end x
+      → {x : Landed} → x ≡ going_at 0 0 → Here t period cost deadline releases (replicate task_limit 0) (replicate task_limit 0)
+      (replicate task_limit 0) 0 end x
   leaping_start light c limit q e = rw e (record {
     ranged = r;
     light = light;

@@ -75,8 +75,8 @@ module _
     noted_at x f g = record { worsts = f ∙ rw w.worsts (sym x.worst); idles = g }
 
     -- The end is now.
-    stays : (jobs' first : ℕ) → end ≡ n → first ≡ idle → Landing t n end releases ready left worst (over_at end jobs' first false)
-    stays jobs' first e f = record {
+    stays : (first : ℕ) → end ≡ n → first ≡ idle → Landing t n end releases ready left worst jobs (over_at end first false)
+    stays first e f = record {
       upto = le_refl end;
       clear = λ u m. clear u (omega arith);
       tally = rw (e, f) w;
@@ -114,10 +114,10 @@ module _
             noted_at rest_leap (rw (le-ltb (owner t r n) t.count (omega (arith, nobody, r.few))))
             (rw (w.idles, add-one) (sym (idle_rest t r light clear e a (within_rest e l) shut nobody)))
 
-        rest_held : Held t e (wait_of (walked t e)) (left_of (walked t e)) releases ready left 0
-        rest_held = rw (← none) (rested t r a rest_leap h nobody shut)
+        rest_held : Held t e (wait_of (walked t e)) (left_of (walked t e)) releases ready left jobs
+        rest_held = rested t r a rest_leap h nobody shut
 
-      rest_on : soon < end → Landing t n end releases ready left worst (going_at soon 0 (cond (ltb 0 idle) idle (n + 1)))
+      rest_on : soon < end → Landing t n end releases ready left worst jobs (going_at soon (cond (ltb 0 idle) idle (n + 1)))
       rest_on l = record {
         upto = omega arith;
         clear = (rest_leap soon soon_gt (le_refl soon)).clear;
@@ -127,7 +127,7 @@ module _
         ends = λ e. absurd (subst T (sym e) tt);
       }
 
-      rest_end : n < end → end ≤ soon → Landing t n end releases ready left worst (over_at end 0 (cond (ltb 0 idle) idle (n + 1)) false)
+      rest_end : n < end → end ≤ soon → Landing t n end releases ready left worst jobs (over_at end (cond (ltb 0 idle) idle (n + 1)) false)
       rest_end a l = record {
         upto = le_refl end;
         clear = (rest_leap end a l).clear;
@@ -137,12 +137,12 @@ module _
         ends = λ e g. (refl, calm_clear t r (rest_leap end a l).clear (rest_held end a l).ahead);
       }
 
-      pub rests : Landing t n end releases ready left worst (rested_at n soon end idle)
+      pub rests : Landing t n end releases ready left worst jobs (rested_at n soon end idle)
       rests = elim (dec_lt soon end) [
         | yes l ↦ rw (lt-ltb soon end l, lt-ltb n end (omega (arith, soon_gt))) (rest_on l)
         | no l ↦ elim (dec_lt n end) [
           | yes a ↦ rw (le-ltb soon end (omega arith), lt-ltb n end a) (rest_end a (omega arith))
-          | no a ↦ rw (le-ltb soon end (omega arith), le-ltb n end (omega arith)) (stays 0 _ (omega arith) (idle_same idle))
+          | no a ↦ rw (le-ltb soon end (omega arith), le-ltb n end (omega arith)) (stays _ (omega arith) (idle_same idle))
         ]
       ]
 
@@ -286,7 +286,7 @@ module _
         spare_le = rw task_is (omega (arith, due_at, done_at_lem, due_most))
 
         -- A release comes first.
-        pub preempt : soon < done → soon < due → soon ≤ end → Landing t n end releases ready (set left i (done - soon)) worst (going_at soon jobs idle)
+        pub preempt : soon < done → soon < due → soon ≤ end → Landing t n end releases ready (set left i (done - soon)) worst jobs (going_at soon idle)
         preempt a b c =
             let y = within_busy soon (le_refl soon) (omega (arith, done_at_lem)) (omega (arith, due_at)) in
             let x = leap t r n clear soon soon_gt y in
@@ -304,7 +304,7 @@ module _
             }
 
         -- The deadline comes first.
-        pub stop_late : due < done → due ≤ soon → due ≤ end → Landing t n end releases ready left worst (over_at due jobs idle true)
+        pub stop_late : due < done → due ≤ soon → due ≤ end → Landing t n end releases ready left worst jobs (over_at due idle true)
         stop_late a b c =
             let l : n < due = omega (arith, due_at, due_gt) in
             let y = within_busy due b (omega (arith, done_at_lem)) (omega (arith, due_at)) in
@@ -319,11 +319,11 @@ module _
             }
 
         -- The end comes first.
-        pub stop_end : end < done → end ≤ soon → end < due → Landing t n end releases ready left worst (over_at end jobs idle false)
+        pub stop_end : end < done → end ≤ soon → end < due → Landing t n end releases ready left worst jobs (over_at end idle false)
         stop_end a b c = go (dec_lt n end)
           where
-            go : Dec (n < end) → Landing t n end releases ready left worst (over_at end jobs idle false)
-            go (no l) = stays jobs idle (omega arith) refl
+            go : Dec (n < end) → Landing t n end releases ready left worst jobs (over_at end idle false)
+            go (no l) = stays idle (omega arith) refl
             go (yes l) =
                 let y = within_busy end b (omega (arith, done_at_lem)) (omega (arith, due_at)) in
                 let x = leap t r n clear end l y in
@@ -342,7 +342,7 @@ module _
                 }
 
         pub stops : ((due < done) × (due ≤ soon)) ⊎ ((end < done) × (end ≤ soon) × (end < due))
-            → Landing t n end releases ready left worst (cond (leb due end) (over_at due jobs idle true) (over_at end jobs idle false))
+            → Landing t n end releases ready left worst jobs (cond (leb due end) (over_at due idle true) (over_at end idle false))
         stops (inl (a, b)) = elim (dec_le due end) [
           | yes c ↦ rw (le-leb due end c) (stop_late a b c)
           | no c ↦ rw (lt-leb due end (omega arith)) (stop_end (omega arith) (omega arith) (omega arith))
@@ -375,7 +375,7 @@ module _
               → Held t done (wait_of (walked t done)) (left_of (walked t done)) releases ready (set left i 0) (jobs - 1)
           finish_held calm = rw task_is (finished t r l x h bound done_at_lem busy key_is calm)
 
-          pub finish_early : done < due → Landing t n end releases ready (set left i 0) (noted worst i ((task t i).deadline - (due - done)))
+          pub finish_early : done < due → Landing t n end releases ready (set left i 0) (noted worst i ((task t i).deadline - (due - done))) (jobs - 1)
               (done_at done (jobs - 1) idle false)
           finish_early d = record {
             upto = c;
@@ -410,7 +410,7 @@ module _
                     later y z a b c = omega arith
 
             pub finish_edge : (b : Bool) → b ≡ (ltb 0 (jobs - 1) && eqb (next / span) done)
-                → Landing t n end releases ready (set left i 0) (noted worst i ((task t i).deadline - (due - done))) (done_at done (jobs - 1) idle b)
+                → Landing t n end releases ready (set left i 0) (noted worst i ((task t i).deadline - (due - done))) (jobs - 1) (done_at done (jobs - 1) idle b)
             finish_edge b e = record {
               upto = c;
               clear = x.clear;
@@ -427,7 +427,7 @@ module _
               ends = λ f g. absurd (subst T (sym f ∙ done_over b ∙ sym (done_late b) ∙ g) tt);
             }
 
-          pub finishes : Landing t n end releases ready (set left i 0) (noted worst i ((task t i).deadline - (due - done)))
+          pub finishes : Landing t n end releases ready (set left i 0) (noted worst i ((task t i).deadline - (due - done))) (jobs - 1)
               (done_at done (jobs - 1) idle (next_late ready (jobs - 1) due done))
           finishes = elim (dec_lt done due) [
             | yes d ↦ rw (lt-ltb done due d) (finish_early d)

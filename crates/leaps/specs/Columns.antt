@@ -1,5 +1,5 @@
 -- A table unpacked: a list for each number that a walk reads.
-use Rattle.std.specs.Prelude.{◌≡◌, refl, List, ℕ, ◌-◌, ◌≤◌, replicate}
+use Rattle.std.specs.Prelude.{◌≡◌, List, ℕ, ◌≤◌, replicate}
 use Rattle.values.specs.declared.Table.{Table}
 use Rattle.model.specs.Limits.{task_limit}
 use Rattle.model.specs.Tasks.{task}
@@ -12,7 +12,6 @@ unfoldable pub columns_of : Table → Columns
 columns_of t =
     record {
       table = t;
-      last = t.count - 1;
       period = column t.count (λ i. entry t (task t i).period i);
       cost = column t.count (λ i. (task t i).cost);
       deadline = column t.count (λ i. entry t (task t i).deadline i);
@@ -23,23 +22,21 @@ columns_of t =
 abbrev pub Marked : Table → List ℕ → Type 0
 Marked t mark = Has t.count mark (mark_of t)
 
--- The lists are the table's columns, and the last task is told.
-pub record Columned (t : Table) (last : ℕ) (period cost deadline : List ℕ) : Type 0 where
+-- The lists are the table's columns.
+pub record Columned (t : Table) (period cost deadline : List ℕ) : Type 0 where
   pub periods : Has t.count period (λ i. entry t (task t i).period i)
   pub costs : Has t.count cost (λ i. (task t i).cost)
   pub deadlines : Has t.count deadline (λ i. entry t (task t i).deadline i)
-  pub last_is : last ≡ t.count - 1
 
 module _ (t : Table) (few : t.count ≤ task_limit) {c : Columns} (e : c ≡ columns_of t) where
   pub marked : Marked t c.mark
   unfolding columns_of
   marked = rw e (fill_has t.count _ (replicate task_limit 0) few)
 
-  pub columned : Columned t (t.count - 1) c.period c.cost c.deadline
+  pub columned : Columned t c.period c.cost c.deadline
   unfolding columns_of
   columned = rw e (record {
     periods = fill_has t.count _ (replicate task_limit 0) few;
     costs = fill_has t.count _ (replicate task_limit 0) few;
     deadlines = fill_has t.count _ (replicate task_limit 0) few;
-    last_is = refl;
   })

@@ -36,19 +36,19 @@ pub done_late : (late : Bool) → is_late (done_way late) ≡ late
 done_late true = refl
 done_late false = refl
 
--- The walk goes on from a time; it is over there, late or not; a job is done, and another may be late.
-abbrev pub going_at : ℕ → ℕ → ℕ → Landed
-going_at time jobs idle = record { time = time; jobs = jobs; idle = idle; way = Way.Going }
+-- The walk goes on from a time; it is over there, late or not; a job is done, and another may be late: so many are still open.
+abbrev pub going_at : ℕ → ℕ → Landed
+going_at time idle = record { time = time; idle = idle; way = Way.Going }
 
-abbrev pub over_at : ℕ → ℕ → ℕ → Bool → Landed
-over_at time jobs idle late = record { time = time; jobs = jobs; idle = idle; way = over_way late }
+abbrev pub over_at : ℕ → ℕ → Bool → Landed
+over_at time idle late = record { time = time; idle = idle; way = over_way late }
 
 abbrev pub done_at : ℕ → ℕ → ℕ → Bool → Landed
-done_at time jobs idle late = record { time = time; jobs = jobs; idle = idle_then idle (eqb jobs 0) time; way = done_way late }
+done_at time jobs idle late = record { time = time; idle = idle_then idle (eqb jobs 0) time; way = done_way late }
 
 -- With no job open at n: the first idle instant, and where the walk goes.
 abbrev pub rested_at : ℕ → ℕ → ℕ → ℕ → Landed
-rested_at n soon end idle = let first = idle_then idle (ltb n end) (n + 1) in cond (ltb soon end) (going_at soon 0 first) (over_at end 0 first false)
+rested_at n soon end idle = let first = idle_then idle (ltb n end) (n + 1) in cond (ltb soon end) (going_at soon first) (over_at end first false)
 
 -- A job done at its deadline, and the next of the open ones has the same.
 abbrev pub next_late : List ℕ → ℕ → ℕ → ℕ → Bool

@@ -28,18 +28,18 @@ abbrev pub Rounded : Table → ℕ → Type 0
 Rounded t again = (i : ℕ) → i < t.count → offset (task t i) + round t ≤ again
 
 -- Where a walk may stop: it is over, or no job is open at `again` or later.
-abbrev pub Stopped : ℕ → Landed → Type 0
-Stopped again x = (is_over x.way ≡ true) ⊎ ((is_over x.way ≡ false) × (x.jobs ≡ 0) × (again ≤ x.time))
+abbrev pub Stopped : ℕ → ℕ → Landed → Type 0
+Stopped again jobs x = (is_over x.way ≡ true) ⊎ ((is_over x.way ≡ false) × (jobs ≡ 0) × (again ≤ x.time))
 
-abbrev pub Stops : ℕ → Landed → Bool → Type 0
-Stops again x stopped = (stopped ≡ false → is_over x.way ≡ false) × (stopped ≡ true → Stopped again x)
+abbrev pub Stops : ℕ → ℕ → Landed → Bool → Type 0
+Stops again jobs x stopped = (stopped ≡ false → is_over x.way ≡ false) × (stopped ≡ true → Stopped again jobs x)
 
-module _ (t : Table) (r : Ranged t) (light : load t ≤ round t) {n end : ℕ} {releases ready left worst : List ℕ} {x : Landed}
-    (z : Landing t n end releases ready left worst x) where
+module _ (t : Table) (r : Ranged t) (light : load t ≤ round t) {n end : ℕ} {releases ready left worst : List ℕ} {jobs : ℕ} {x : Landed}
+    (z : Landing t n end releases ready left worst jobs x) where
   abbrev first : ℕ
   first = first_idle t (tie_order t)
 
-  module _ (on : is_over x.way ≡ false) (none : x.jobs ≡ 0) where
+  module _ (on : is_over x.way ≡ false) (none : jobs ≡ 0) where
     shut : (i : ℕ) → i < t.count → left_of (walked t x.time) i ≡ 0
     shut i l =
         elim (dec_lt 0 (left_of (walked t x.time) i)) [
@@ -87,6 +87,6 @@ module _ (t : Table) (r : Ranged t) (light : load t ≤ round t) {n end : ℕ} {
           }
 
   -- Where the walk stops and no deadline is late, it has seen all up to its end.
-  pub skipped : {again : ℕ} → Rounded t again → is_late x.way ≡ false → Stopped again x → Tally t end worst x.idle × Clear t (suc end)
+  pub skipped : {again : ℕ} → Rounded t again → is_late x.way ≡ false → Stopped again jobs x → Tally t end worst x.idle × Clear t (suc end)
   skipped rounded calm (inl over) = let (e, c) = z.ends over calm in (subst (λ (v : ℕ). Tally t v worst x.idle) e z.tally, rw e at c)
   skipped rounded calm (inr (on, none, past)) = (tally on none rounded past, clear on none rounded past (suc end))

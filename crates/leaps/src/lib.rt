@@ -11,17 +11,20 @@ ghost use Rattle.backlog.specs.WalkWorst.{noted};
 ghost use Rattle.slots.specs.Slot.{at as entry_at};
 ghost use Rattle.walks.specs.Tally.{idle_then};
 ghost use Rattle.leaps.specs.Entry.{places, span, time_limit};
-ghost use Rattle.leaps.specs.Queue.{Queue, inserted};
+ghost use Rattle.leaps.specs.Queue.{Queue as IsQueue, inserted};
 ghost use Rattle.leaps.specs.Held.{Coming};
 ghost use Rattle.leaps.specs.Columns.{columns_of, Marked};
 ghost use Rattle.leaps.specs.Kept.{DueIn, HeldIn, ReadyIn, HereIn, LandingIn};
 ghost use Rattle.leaps.specs.Landed.{going_at, over_at, rested_at, done_at, done_way, next_late};
 ghost use Rattle.leaps.specs.Skipping.{Stops};
 
+mod queues;
+
+pub use queues::Queue;
 use slots::Numbers;
 use values::{TASK_LIMIT, Table};
 
-// A number for each task; or a queue of entries, whose last one is the least.
+// A number for each task.
 pub type Times = [u64; TASK_LIMIT];
 
 // An entry of a queue is a time, below it a rank, and below that a task: its mark.
@@ -48,28 +51,10 @@ pub fn task_of(x: u64) -> usize
     (x % PLACES) as usize
 }
 
-// One more entry among the first m: the smaller ones move up.
-pub fn insert(queue: &mut Times, m: usize, x: u64)
-    requires { m < task_limit }
-    ensures { queue.new ≡ inserted queue.old m x }
-{
-    let mut j = m;
-    while 0 < j {
-        let above = queue[j - 1];
-        if x <= above {
-            break;
-        }
-        queue[j] = above;
-        j = j - 1;
-    }
-    queue[j] = x;
-}
-
-// What a walk reads of a table: the last task, and a list for each number. Period and deadline are entries: now as an entry is added to them.
+// What a walk reads of a table: a list for each number. Period and deadline are entries: now as an entry is added to them.
 #[derive(Clone, Copy)]
 pub struct Columns {
     pub table: Table,
-    pub last: usize,
     pub period: Times,
     pub cost: Times,
     pub deadline: Times,
@@ -93,7 +78,6 @@ pub fn unpack(t: Table) -> Columns
     }
     Columns {
         table: t,
-        last: t.count - 1,
         period,
         cost,
         deadline,
@@ -102,15 +86,15 @@ pub fn unpack(t: Table) -> Columns
 }
 
 // The first release of each task.
-pub fn first_releases(t: Table, mark: &Times) -> Times
+pub fn first_releases(t: Table, mark: &Times) -> Queue
     requires ranged { Ranged t }
     requires marked { Marked t mark.now }
-    ensures { Queue (Coming t 0 (λ i. offset (task t i))) result t.count }
+    ensures coming { IsQueue (Coming t 0 (λ i. offset (task t i))) result.entries t.count }
+    ensures len { result.len ≡ t.count }
 {
-    let mut queue = [0u64; TASK_LIMIT];
+    let mut queue = Queue::new();
     for (i, task) in t.tasks[..t.count].iter().enumerate() {
-        let first = entry(sorts::wide_offset_of(*task), mark[i]);
-        insert(&mut queue, i, first);
+        queue.insert(entry(u64::from(sorts::offset_of(*task)), mark[i]));
     }
     queue
 }
@@ -118,46 +102,39 @@ pub fn first_releases(t: Table, mark: &Times) -> Times
 // What a walk keeps: the next releases, the deadlines of the open jobs, the slots left to each, and the worst responses so far.
 #[derive(Clone, Copy)]
 pub struct Kept {
-    pub releases: Times,
-    pub ready: Times,
+    pub releases: Queue,
+    pub ready: Queue,
     pub left: Times,
     pub worst: Numbers,
 }
 
 // A job of task i, whose release is the next, is released.
-fn release(columns: &Columns, kept: &mut Kept, at: u64, i: usize, jobs: usize)
-    requires i_lt_task_limit { (i < task_limit) × (columns.now.last < task_limit) × (jobs < task_limit) }
+fn release(columns: &Columns, kept: &mut Kept, at: u64, i: usize)
+    requires i_lt_task_limit { (i < task_limit) × (0 < kept.old.releases.len) × (kept.old.ready.len < task_limit) }
     requires at_lt_time_limit { (at < time_limit) × (entry_at columns.now.period i < 2 ^ 62) × (entry_at columns.now.deadline i < 2 ^ 62) }
-    ensures { kept.new ≡ record {
-      releases = inserted kept.old.releases columns.now.last (at * span + entry_at columns.now.period i);
-      ready = inserted kept.old.ready jobs (at * span + entry_at columns.now.deadline i);
-      left = set kept.old.left i (entry_at columns.now.cost i);
-      worst = kept.old.worst;
-    } }
+    ensures releases { kept.new.releases.entries ≡ inserted kept.old.releases.entries (kept.old.releases.len - 1) (at * span + entry_at columns.now.period i) }
+    ensures releases_len { kept.new.releases.len ≡ kept.old.releases.len }
+    ensures ready { kept.new.ready.entries ≡ inserted kept.old.ready.entries kept.old.ready.len (at * span + entry_at columns.now.deadline i) }
+    ensures ready_len { kept.new.ready.len ≡ kept.old.ready.len + 1 }
+    ensures left { kept.new.left ≡ set kept.old.left i (entry_at columns.now.cost i) }
+    ensures worst { kept.new.worst ≡ kept.old.worst }
 {
-    insert(
-        &mut kept.releases,
-        columns.last,
-        at * SPAN + columns.period[i],
-    );
-    insert(&mut kept.ready, jobs, at * SPAN + columns.deadline[i]);
+    kept.releases.replace_least(at * SPAN + columns.period[i]);
+    kept.ready.insert(at * SPAN + columns.deadline[i]);
     kept.left[i] = columns.cost[i];
 }
 
-// The jobs that are released now, and how many are open then.
-fn release_all(columns: &Columns, kept: &mut Kept, at: u64, opened: usize) -> usize
-    requires { DueIn columns.now kept.old at opened }
+// The jobs that are released now.
+fn release_all(columns: &Columns, kept: &mut Kept, at: u64)
+    requires { DueIn columns.now kept.old at }
     ensures held { HeldIn columns.now at (wait_released columns.now.table (walked columns.now.table at) false)
-        (left_released columns.now.table (walked columns.now.table at) false) kept.new result }
+        (left_released columns.now.table (walked columns.now.table at) false) kept.new }
     ensures worst { kept.new.worst ≡ kept.old.worst }
 {
-    let mut jobs = opened;
-    while time_of(kept.releases[columns.last]) == at {
-        let i = task_of(kept.releases[columns.last]);
-        release(columns, kept, at, i, jobs);
-        jobs += 1;
+    while time_of(kept.releases.least()) == at {
+        let i = task_of(kept.releases.least());
+        release(columns, kept, at, i);
     }
-    jobs
 }
 
 // How a walk goes on: further, over at its end, or over at a late deadline.
@@ -168,34 +145,21 @@ pub enum Way {
     Late,
 }
 
-// Where a leap ends: the time, the open jobs, the first idle instant so far or 0, and how the walk goes on.
+// Where a leap ends: the time, the first idle instant so far or 0, and how the walk goes on.
 #[derive(Clone, Copy)]
 pub struct Landed {
     pub time: u64,
-    pub jobs: usize,
     pub idle: u64,
     pub way: Way,
 }
 
-pub fn going(time: u64, jobs: usize, idle: u64) -> Landed
-    ensures { result ≡ going_at time jobs idle }
+pub fn going(time: u64, idle: u64) -> Landed
+    ensures { result ≡ going_at time idle }
 {
     Landed {
         time,
-        jobs,
         idle,
         way: Way::Going,
-    }
-}
-
-fn ended(time: u64, jobs: usize, idle: u64, way: Way) -> Landed
-    ensures { result ≡ record { time = time; jobs = jobs; idle = idle; way = way } }
-{
-    Landed {
-        time,
-        jobs,
-        idle,
-        way,
     }
 }
 
@@ -216,20 +180,32 @@ fn rest(at: u64, soon: u64, end: u64, idle: u64) -> Landed
 {
     let first = first_idle(idle, at < end, at + 1);
     if soon < end {
-        going(soon, 0, first)
+        going(soon, first)
     } else {
-        ended(end, 0, first, Way::Over)
+        Landed {
+            time: end,
+            idle: first,
+            way: Way::Over,
+        }
     }
 }
 
 // The deadline or the end comes before all else.
-fn stop(due: u64, end: u64, jobs: usize, idle: u64) -> Landed
-    ensures { result ≡ cond (leb due end) (over_at due jobs idle true) (over_at end jobs idle false) }
+fn stop(due: u64, end: u64, idle: u64) -> Landed
+    ensures { result ≡ cond (leb due end) (over_at due idle true) (over_at end idle false) }
 {
     if due <= end {
-        ended(due, jobs, idle, Way::Late)
+        Landed {
+            time: due,
+            idle,
+            way: Way::Late,
+        }
     } else {
-        ended(end, jobs, idle, Way::Over)
+        Landed {
+            time: end,
+            idle,
+            way: Way::Over,
+        }
     }
 }
 
@@ -243,40 +219,33 @@ fn note(worst: &mut Numbers, i: usize, response: u32)
 }
 
 // Of a job that is done at its deadline: late, if the next open one has the same deadline.
-fn next_way(ready: &Times, jobs: usize, due: u64, done: u64) -> Way
-    requires { jobs ≤ task_limit }
-    ensures { result ≡ done_way (next_late ready.now jobs due done) }
+fn next_way(ready: &Queue, due: u64, done: u64) -> Way
+    ensures { result ≡ done_way (next_late ready.now.entries ready.now.len due done) }
 {
     if done < due {
         return Way::Going;
     }
-    if jobs == 0 {
+    if ready.is_empty() {
         return Way::Going;
     }
-    if time_of(ready[jobs - 1]) == done {
+    if time_of(ready.least()) == done {
         Way::Late
     } else {
         Way::Going
     }
 }
 
-// The job of task i is done, no later than its deadline; `jobs` others are open.
-fn finish(
-    columns: &Columns,
-    kept: &mut Kept,
-    i: usize,
-    due: u64,
-    done: u64,
-    jobs: usize,
-    idle: u64,
-) -> Landed
-    requires { (i < task_limit) × (jobs ≤ task_limit) × (done ≤ due) × (due - done ≤ (task columns.now.table i).deadline) }
-    ensures kept { kept.new ≡ record kept.old {
-      left = set kept.old.left i 0;
-      worst = noted kept.old.worst i ((task columns.now.table i).deadline - (due - done));
-    } }
-    ensures landed { result ≡ done_at done jobs idle (next_late kept.old.ready jobs due done) }
+// The first open job, of task i, is done, no later than its deadline.
+fn finish(columns: &Columns, kept: &mut Kept, i: usize, due: u64, done: u64, idle: u64) -> Landed
+    requires { (i < task_limit) × (0 < kept.old.ready.len) × (done ≤ due) × (due - done ≤ (task columns.now.table i).deadline) }
+    ensures releases { kept.new.releases ≡ kept.old.releases }
+    ensures ready { kept.new.ready.entries ≡ kept.old.ready.entries }
+    ensures ready_len { kept.new.ready.len ≡ kept.old.ready.len - 1 }
+    ensures left { kept.new.left ≡ set kept.old.left i 0 }
+    ensures worst { kept.new.worst ≡ noted kept.old.worst i ((task columns.now.table i).deadline - (due - done)) }
+    ensures landed { result ≡ done_at done (kept.old.ready.len - 1) idle (next_late kept.old.ready.entries (kept.old.ready.len - 1) due done) }
 {
+    kept.ready.drop_least();
     kept.left[i] = 0;
     note(
         &mut kept.worst,
@@ -285,42 +254,41 @@ fn finish(
     );
     Landed {
         time: done,
-        jobs,
-        idle: first_idle(idle, jobs == 0, done),
-        way: next_way(&kept.ready, jobs, due, done),
+        idle: first_idle(idle, kept.ready.is_empty(), done),
+        way: next_way(&kept.ready, due, done),
     }
 }
 
 // From now, with all releases made, to the next release or finish, or to where the walk is over.
-fn turn(columns: &Columns, kept: &mut Kept, at: u64, end: u64, jobs: usize, idle: u64) -> Landed
-    requires { ReadyIn columns.now kept.old at end jobs idle }
+fn turn(columns: &Columns, kept: &mut Kept, at: u64, end: u64, idle: u64) -> Landed
+    requires { ReadyIn columns.now kept.old at end idle }
     ensures { LandingIn columns.now at end kept.new result }
 {
-    let soon = time_of(kept.releases[columns.last]);
-    if jobs == 0 {
+    let soon = time_of(kept.releases.least());
+    if kept.ready.is_empty() {
         return rest(at, soon, end, idle);
     }
-    let key = kept.ready[jobs - 1];
+    let key = kept.ready.least();
     let i = task_of(key);
     let due = time_of(key);
     let done = at + kept.left[i];
     if soon < done {
         if due <= soon {
-            return stop(due, end, jobs, idle);
+            return stop(due, end, idle);
         }
         if end < soon {
-            return stop(due, end, jobs, idle);
+            return stop(due, end, idle);
         }
         kept.left[i] = done - soon;
-        return going(soon, jobs, idle);
+        return going(soon, idle);
     }
     if due < done {
-        return stop(due, end, jobs, idle);
+        return stop(due, end, idle);
     }
     if end < done {
-        return stop(due, end, jobs, idle);
+        return stop(due, end, idle);
     }
-    finish(columns, kept, i, due, done, jobs - 1, idle)
+    finish(columns, kept, i, due, done, idle)
 }
 
 // The releases of now, and the turn after them.
@@ -328,17 +296,16 @@ pub fn leap(columns: &Columns, kept: &mut Kept, end: u64, here: Landed) -> Lande
     requires { HereIn columns.now kept.old end here }
     ensures { LandingIn columns.now here.time end kept.new result }
 {
-    let jobs = release_all(columns, kept, here.time, here.jobs);
-    turn(columns, kept, here.time, end, jobs, here.idle)
+    release_all(columns, kept, here.time);
+    turn(columns, kept, here.time, end, here.idle)
 }
 
 // A walk stops where it is over, or where no job is open at `again` or later.
-pub fn stops(here: Landed, again: u64) -> bool
-    ensures { Stops again here result }
+pub fn stops(here: Landed, kept: &Kept, again: u64) -> bool
+    ensures { Stops again kept.now.ready.len here result }
 {
-    let way = here.way;
-    match way {
-        Way::Going => here.jobs == 0 && again <= here.time,
+    match here.way {
+        Way::Going => kept.ready.is_empty() && again <= here.time,
         Way::Over | Way::Late => true,
     }
 }

@@ -13,9 +13,6 @@ pub returns-then-is_button : goal.returns-then-is_button
 unfolding distance
 returns-then-is_button c = rw (← c.is_button.ensures, c.if-is_button.true)
 
-pub common_divisor-g-requires : goal.common_divisor-g-requires
-common_divisor-g-requires c = c.requires.0
-
 pub reduced-requires : goal.reduced-requires
 reduced-requires c =
     rw c.common_divisor-g.ensures (divisor_pos c.args.one c.args.other c.requires.0 c.requires.1)

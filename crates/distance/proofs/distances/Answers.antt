@@ -1,5 +1,4 @@
 -- The loop has the distances of the tasks that it has passed.
-use mathlib.Core.Path.{◌≡◌}
 use native.Mathlib.Omega.{arith}
 use Rattle.std.proofs.lemmas.List.{get_or-take}
 use Rattle.model.specs.Tasks.{no_task}
@@ -13,6 +12,3 @@ pub loop-k-preserved : goal.loop-k-preserved
 loop-k-preserved c =
     fill_put _ _ _ c.loop-k.invariant
     (rw (get_or-take c.args.t.count c.args.t.tasks c.loop-k.k no_task (omega arith)) at c.distance_of.ensures)
-
-pub returns : goal.returns
-returns c = let e : c.loop-k.k ≡ c.args.t.count = omega arith in rw e at c.loop-k.invariant

@@ -26,9 +26,6 @@ offset_bounds-t-i c = omega (arith, c.requires.i_lt_count, (ranged (goal.at.offs
 pub bounds-t-i : goal.bounds-t-i
 bounds-t-i c = omega (arith, c.requires.i_lt_count, (ranged (goal.at.bounds-t-i c).Start).few)
 
-pub returns-then-is_button : goal.returns-then-is_button
-returns-then-is_button c = rw (← c.is_button.ensures, c.if-is_button.true)
-
 pub distances-requires : goal.distances-requires
 distances-requires c = record { ranged = ranged (goal.at.distances-requires c).Start; i_lt_count = c.requires.i_lt_count }
 

@@ -11,9 +11,6 @@ use Rattle.distance.proofs.test.Goals as goal
 well : (c : In-Ok) → judged_mixed c.args.t ≡ Ok c.in-Ok.m
 well c = sym c.judge_mixed.ensures ∙ c.in-Ok.is
 
-pub all_calm-requires : goal.all_calm-requires
-all_calm-requires c = record { t_value = well (goal.at.all_calm-requires c).In-Ok; load_le_round = c.if-m.false }
-
 pub returns-in-Err : goal.returns-in-Err
 unfolding distance_answer
 returns-in-Err c = rw (← c.judge_mixed.ensures, c.in-Err.is)

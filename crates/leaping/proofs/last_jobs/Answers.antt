@@ -6,8 +6,7 @@ use Rattle.std.proofs.lemmas.List.{get_or-take}
 use Rattle.values.specs.declared.Task.{Task}
 use Rattle.model.specs.Tasks.{no_task}
 use Rattle.model.specs.Demand.{jobs_in}
-use Rattle.leaps.proofs.Entries.{mark_small}
-use Rattle.leaping.specs.Start.{due_by, released_before, jobs_due, lasts_none, lasts_skip, lasts_more}
+use Rattle.leaping.specs.Start.{due_by, released_before, jobs_due, lasts_skip, lasts_more}
 use Rattle.leaping.proofs.last_jobs.Goals.{After-jobs_in-due, After-from}
 use Rattle.leaping.proofs.last_jobs.Goals.{then-due-gt0, else-due-gt0}
 use Rattle.leaping.proofs.last_jobs.Goals as goal
@@ -19,14 +18,11 @@ many c =
     ∙ ap (λ (k : Task). jobs_in k 0 c.args.to) (get_or-take c.args.t.count c.args.t.tasks c.loop-i.i no_task (omega arith))
     ∙ jobs_due _ c.requires.ranged _ c.loop-i.i (omega arith)
 
-last_lt : (c : After-from) → c.wide_offset_of.result + (c.jobs_in-due.result - 1) * c.from.result < c.args.to
+last_lt : (c : After-from) → c.from-first.result + (c.jobs_in-due.result - 1) * c.from.result < c.args.to
 last_lt c =
-    rw (c.wide_offset_of.ensures.0, c.from.ensures, get_or-take c.args.t.count c.args.t.tasks c.loop-i.i no_task (omega arith))
+    rw (c.from-first.ensures, c.offset_of.ensures, c.from.ensures, get_or-take c.args.t.count c.args.t.tasks c.loop-i.i no_task (omega arith))
     (released_before _ c.requires.ranged _ c.loop-i.i (c.jobs_in-due.result - 1) (omega arith)
     (omega (arith, many (goal.at.After-from c).After-jobs_in-due, c.if-due-gt0.true)))
-
-pub loop-i-init : goal.loop-i-init
-loop-i-init c = (omega arith, lasts_none c.args.t c.args.to)
 
 pub overflow_mul-last : goal.overflow_mul-last
 overflow_mul-last c = omega (arith, last_lt (goal.at.overflow_mul-last c).After-from)
@@ -37,13 +33,6 @@ overflow_add-last c = omega (arith, last_lt (goal.at.overflow_add-last c).After-
 pub overflow_sub-to : goal.overflow_sub-to
 overflow_sub-to c = omega (arith, last_lt (goal.at.overflow_sub-to c).After-from)
 
-pub entry-requires : goal.entry-requires
-entry-requires c =
-    let l : c.loop-i.i < c.args.t.count = omega arith in (
-      omega (arith, c.requires.to_le_horizon_limit),
-      omega (arith, c.requires.marked c.loop-i.i l, mark_small c.args.t c.requires.ranged c.loop-i.i l),
-    )
-
 pub loop-i-preserved : goal.loop-i-preserved
 loop-i-preserved c =
     let v = c.loop-i.invariant in
@@ -52,18 +41,13 @@ loop-i-preserved c =
     let enough = many (goal.at.loop-i-preserved c).After-jobs_in-due in
     elim c.if-due-gt0.branch [
       | then-due-gt0 w ↦ (
-        omega (arith, v.0, w.jobs-is),
-        rw (w.queue-is, w.jobs-is, w.insert.ensures, w.entry.ensures, w.wide_offset_of.ensures.0, w.from.ensures, e, c.requires.marked c.loop-i.i l)
+        rw (w.queue-is, w.insert.ensures.len) (omega (arith, v.0)),
+        rw (w.queue-is, w.insert.ensures.entries, w.insert.ensures.len, w.entry.ensures, w.from-first.ensures, w.offset_of.ensures, w.from.ensures, e, c.requires.marked c.loop-i.i l)
             (lasts_more _ c.requires.ranged _ c.loop-i.i l v.1 (c.jobs_in-due.result - 1) (omega (arith, enough, w.if-due-gt0.true))
             (omega (arith, v.0, l, c.requires.ranged.few))),
       )
       | else-due-gt0 w ↦ (
-        omega (arith, v.0, w.jobs-is),
-        rw (w.queue-is, w.jobs-is) (lasts_skip _ c.requires.ranged _ c.loop-i.i l v.1 (omega (arith, enough, w.if-due-gt0.false))),
+        rw w.queue-is (omega (arith, v.0)),
+        rw w.queue-is (lasts_skip _ c.requires.ranged _ c.loop-i.i l v.1 (omega (arith, enough, w.if-due-gt0.false))),
       )
     ]
-
-pub returns : goal.returns
-returns c =
-    let e : c.loop-i.i ≡ c.args.t.count = omega arith in
-    rw e at c.loop-i.invariant.1

@@ -1,6 +1,4 @@
 -- A round is within the horizon, and one before its end every task has had its first release for a round.
-use mathlib.Core.Path.{◌≡◌, refl}
-use Prim.Native.Nat.{min}
 use native.Mathlib.Omega.{arith}
 use Rattle.wellformed.specs.WellFormed.{well_formed}
 use Rattle.leaping.proofs.walk.Goals as goal
@@ -16,9 +14,3 @@ search-requires c =
       end_le_horizon_limit = omega (arith, c.min-end.ensures, f.horizon_is, f.horizon_le);
       rounded = λ e i l. omega (arith, f.round_is, f.horizon_is, f.offset_le i l);
     }
-
-pub returns : goal.returns
-returns c =
-    let ends : c.min-end.result ≡ min c.args.budget c.args.m.horizon = omega (arith, c.min-end.ensures) in
-    let (tally, way) = c.search.ensures.ended refl in
-    record { tally = tally; way = rw ends at way }

@@ -7,9 +7,6 @@ use Rattle.quick.proofs.passes.Goals as goal
 pub returns-then-m : goal.returns-then-m
 returns-then-m c = overload_fails _ c.requires (omega arith)
 
-pub bound-requires : goal.bound-requires
-bound-requires c = record { t_value = c.requires; load_le_round = omega arith }
-
 pub all_enough-requires : goal.all_enough-requires
 all_enough-requires c =
     let well = c.requires in

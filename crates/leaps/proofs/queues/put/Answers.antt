@@ -1,12 +1,9 @@
 -- The loop has moved the entries from j on; what is left to do is to put x in among the first j.
-use mathlib.Core.Path.{refl, ◌∙◌}
+use mathlib.Core.Path.{◌∙◌}
 use native.Mathlib.Omega.{arith}
 use Rattle.leaps.specs.Queue.{inserted_none, inserted_here, inserted_below}
-use Rattle.leaps.proofs.insert.Goals.{else-loop-j-test, then-loop-j-test+then-x-above}
-use Rattle.leaps.proofs.insert.Goals as goal
-
-pub loop-j-init : goal.loop-j-init
-loop-j-init c = (omega arith, refl)
+use Rattle.leaps.proofs.queues.put.Goals.{else-loop-j-test, then-loop-j-test+then-x-above}
+use Rattle.leaps.proofs.queues.put.Goals as goal
 
 pub loop-j-preserved : goal.loop-j-preserved
 loop-j-preserved c =

@@ -2,10 +2,10 @@
 use mathlib.Core.Path.{◌≡◌}
 use Prim.Native.Nat.{◌≤◌}
 use Rattle.leaps.specs.Queue.{inserted}
-use Rattle.leaps.proofs.insert.Given as goal
+use Rattle.leaps.proofs.queues.put.Given as goal
 
 abbrev pub invariant-loop-j : goal.invariant-loop-j
-invariant-loop-j l = (l.j ≤ l.m) × (inserted l.queue l.j l.x ≡ inserted l.initial.queue l.m l.x)
+invariant-loop-j l = (l.j ≤ l.m) × (inserted l.entries l.j l.x ≡ inserted l.initial.entries l.m l.x)
 
 abbrev pub decreases-loop-j : goal.decreases-loop-j
 decreases-loop-j l = l.j
