@@ -9,7 +9,6 @@ ghost use Rattle.wellformed.specs.Ranges.{Ranged};
 ghost use Rattle.backlog.specs.Walk.{walked};
 ghost use Rattle.backlog.specs.WalkWorst.{noted};
 ghost use Rattle.slots.specs.Slot.{at as entry_at};
-ghost use Rattle.walks.specs.Tally.{idle_then};
 ghost use Rattle.leaps.specs.Entry.{places, span, time_limit};
 ghost use Rattle.leaps.specs.Queue.{Queue as IsQueue, inserted};
 ghost use Rattle.leaps.specs.Held.{Coming};
@@ -163,22 +162,12 @@ pub fn going(time: u64, idle: u64) -> Landed
     }
 }
 
-// The first idle instant is looked for until it is found.
-fn first_idle(idle: u64, here: bool, at: u64) -> u64
-    ensures { result ≡ idle_then idle here at }
-{
-    if 0 < idle {
-        return idle;
-    }
-    if here { at } else { 0 }
-}
-
 // With no job open: to the next release or to the end. The instant after now is idle.
 fn rest(at: u64, soon: u64, end: u64, idle: u64) -> Landed
     requires { at < time_limit }
     ensures { result ≡ rested_at at soon end idle }
 {
-    let first = first_idle(idle, at < end, at + 1);
+    let first = walks::first_idle(idle, at < end, at + 1);
     if soon < end {
         going(soon, first)
     } else {
@@ -206,15 +195,6 @@ fn stop(due: u64, end: u64, idle: u64) -> Landed
             idle,
             way: Way::Over,
         }
-    }
-}
-
-fn note(worst: &mut Numbers, i: usize, response: u32)
-    requires { i < task_limit }
-    ensures { worst.new ≡ noted worst.old i response }
-{
-    if worst[i] < response {
-        worst[i] = response;
     }
 }
 
@@ -247,15 +227,21 @@ fn finish(columns: &Columns, kept: &mut Kept, i: usize, due: u64, done: u64, idl
 {
     kept.ready.drop_least();
     kept.left[i] = 0;
-    note(
+    walks::note(
         &mut kept.worst,
         i,
         columns.table.tasks[i].deadline - (due - done) as u32,
     );
     Landed {
         time: done,
+<<<<<<< HEAD
         idle: first_idle(idle, kept.ready.is_empty(), done),
         way: next_way(&kept.ready, due, done),
+=======
+        jobs,
+        idle: walks::first_idle(idle, jobs == 0, done),
+        way: next_way(&kept.ready, jobs, due, done),
+>>>>>>> hlogs
     }
 }
 

@@ -2,10 +2,9 @@
 #![tactic(auto)]
 
 ghost use Rattle.std.specs.Prelude.{◌≡◌, ◌≤◌, Ok};
-ghost use Rattle.model.specs.Limits.{task_limit};
 ghost use Rattle.model.specs.Tasks.{judged};
 ghost use Rattle.walks.specs.Course.{Ends};
-ghost use Rattle.plain.specs.Noted.{noted_of, idle_noted};
+ghost use Rattle.plain.specs.Noted.{noted_of};
 
 use slots::{NO_TASK, Numbers};
 use values::{Measure, TASK_LIMIT, Table};
@@ -18,20 +17,8 @@ fn note(worst: &mut Numbers, owner: u32, period: &Numbers, wait: &Numbers, left:
     if owner < NO_TASK {
         let i = owner as usize;
         if left[i] == 0 {
-            worst[i] = worst[i].max(period[i].saturating_sub(wait[i]));
+            walks::note(worst, i, period[i].saturating_sub(wait[i]));
         }
-    }
-}
-
-// The first idle instant after 0 is looked for until it is found: then no job that was released before is open.
-fn first_idle(idle: u64, left: &Numbers, n: usize, at: u64) -> u64
-    requires { n ≤ task_limit }
-    ensures { result ≡ idle_noted idle left.now n at }
-{
-    if idle == 0 && slots::none_left(left, n) {
-        at
-    } else {
-        idle
     }
 }
 
@@ -59,7 +46,8 @@ pub fn walk(t: Table, m: Measure, budget: u64) -> Course
                 }
                 note(&mut worst, owner, &columns.period, &wait, &left);
                 at += 1;
-                idle = first_idle(idle, &left, columns.count, at);
+                let here = slots::none_left(&left, columns.count);
+                idle = walks::first_idle(idle, here, at);
             }
             None => {
                 from = at;

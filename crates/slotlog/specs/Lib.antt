@@ -3,7 +3,6 @@ pub mod Fits
 pub mod State
 pub mod Cuts
 pub mod Bytes
-pub mod Kinds
 pub mod Reading
 pub mod Kept
 pub mod Answers

@@ -1,6 +1,11 @@
 // What a walk over a table holds before each slot, for the exact test and for the distance test; and how a walk of the exact test ended.
 #![tactic(auto)]
 
+ghost use Rattle.std.specs.Prelude.{◌≡◌, ◌<◌};
+ghost use Rattle.model.specs.Limits.{task_limit};
+ghost use Rattle.backlog.specs.WalkWorst.{noted};
+ghost use Rattle.walks.specs.Tally.{idle_then};
+
 use slots::Numbers;
 
 // Where it ended; for a late deadline the start from which the interval to it asks too much, and for how many slots, else 0; and the
@@ -12,4 +17,19 @@ pub struct Course {
     pub at: u64,
     pub worst: Numbers,
     pub idle: u64,
+}
+
+// The response of a job of task i, noted where it is larger than those before.
+pub fn note(worst: &mut Numbers, i: usize, response: u32)
+    requires { i < task_limit }
+    ensures { worst.new ≡ noted worst.old i response }
+{
+    worst[i] = worst[i].max(response);
+}
+
+// The first idle instant after 0 is looked for until it is found: it is 0 before.
+pub fn first_idle(idle: u64, here: bool, at: u64) -> u64
+    ensures { result ≡ idle_then idle here at }
+{
+    if idle == 0 && here { at } else { idle }
 }
