@@ -28,9 +28,9 @@ put_number-requires c =
 pub put_line-requires : goal.put_line-requires
 unfolding text
 put_line-requires c =
-    let deadline : c.from.result ≡ c.args.task.deadline = search rules in
+    let before : c.from.result ≡ c.args.task.deadline = search rules in
     let period : c.from-2.result ≡ c.args.task.period = search rules in
-    rw period (second (rw deadline at c.put_number.ensures) (second c.put_name.ensures (room (goal.at.put_line-requires c).Start)))
+    rw period (second (rw before at c.put_number.ensures) (second c.put_name.ensures (room (goal.at.put_line-requires c).Start)))
 
 pub returns : goal.returns
 unfolding text
