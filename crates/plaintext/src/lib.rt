@@ -15,9 +15,10 @@ ghost use Rattle.writer.specs.Records.{filled};
 ghost use Rattle.plaintext.specs.Numbers.{NumberRead, NumbersRead};
 ghost use Rattle.plaintext.specs.Lines.{sort_line};
 ghost use Rattle.plaintext.specs.Faults.{fault_in, value_in, values_in, said};
-ghost use Rattle.plaintext.specs.Texts.{budget_line_bytes, name_room, task_room, aside};
+ghost use Rattle.words.specs.Out.{Fits, Puts};
 
 use values::{Contents, Entry, Fault, Refusal, Sort, TASK_LIMIT, Table, Task, Writing};
+use words::Out;
 
 const LARGEST_NUMBER: u64 = 4_294_967_295;
 
@@ -25,8 +26,8 @@ const LARGEST_BUDGET: u64 = 18_446_744_073_709_551_615;
 
 const LAST_LINE: u32 = 65_535;
 
-// Room for the longest text, the lines of a budget and of every task, and for numbers of 64 bits in its last line.
-const ASIDE: usize = 28 + TASK_LIMIT * 29 + 60;
+// The longest text: the lines of a budget and of every task.
+const LONGEST_TEXT: usize = 28 + TASK_LIMIT * 29;
 
 // The first word, if there is one, and what stands behind it.
 fn next_word(s: &[u8]) -> Option<(&[u8], &[u8])>
@@ -226,7 +227,7 @@ fn write_text(table: Table, budget: u64, buffer: &mut [u8]) -> Writing
     if budget == 0 {
         return writer::no_budget();
     }
-    let mut aside = [0u8; ASIDE];
+    let mut aside = [0u8; LONGEST_TEXT];
     let bytes = put_text(&mut aside, budget, table);
     copy_text(buffer, &aside[..bytes])
 }
@@ -238,54 +239,52 @@ fn copy_text(buffer: &mut [u8], made: &[u8]) -> Writing
     if buffer.len() < made.len() {
         return writer::short_buffer(buffer.len());
     }
-    Ok(words::put(buffer, 0, made))
+    let mut out = Out::new(buffer);
+    out.put(made);
+    Ok(out.at())
 }
 
 fn put_text(buffer: &mut [u8], budget: u64, table: Table) -> usize
     requires ranged { Ranged table }
-    requires aside_in_bounds { aside ≤ length buffer.old }
+    requires longest_text_in_bounds { longest_text ≤ length buffer.old }
     ensures put { Put (text_of budget (tasks_of table)) 0 buffer.old buffer.new result }
     ensures upper_bound { result ≤ longest_text }
 {
-    let at = text::put_line(buffer, 0, b"budget ", budget);
-    put_tasks(buffer, at, table)
+    let mut out = Out::new(buffer);
+    text::put_line(&mut out, b"budget ", budget);
+    put_tasks(&mut out, &table.tasks[..table.count]);
+    out.at()
 }
 
-fn put_tasks(buffer: &mut [u8], at: usize, table: Table) -> usize
-    requires ranged { Ranged table }
-    requires at_le_budget_line_bytes { at ≤ budget_line_bytes }
-    requires aside_in_bounds { aside ≤ length buffer.old }
-    ensures put { Put (task_texts (tasks_of table)) at buffer.old buffer.new result }
-    ensures upper_bound { result ≤ longest_text }
+fn put_tasks(out: &mut Out<'_>, tasks: &[Task])
+    requires { Fits (task_texts tasks.now) out.old }
+    ensures { Puts (task_texts tasks.now) out.old out.new }
 {
-    let mut next = at;
-    for task in &table.tasks[..table.count] {
-        next = put_task(buffer, next, *task);
+    for task in tasks {
+        put_task(out, *task);
     }
-    next
 }
 
-fn put_task(buffer: &mut [u8], at: usize, task: Task) -> usize
-    requires { at + task_room ≤ length buffer.old }
-    ensures { Put (task_text task) at buffer.old buffer.new result }
+fn put_task(out: &mut Out<'_>, task: Task)
+    requires { Fits (task_text task) out.old }
+    ensures { Puts (task_text task) out.old out.new }
 {
-    let at = put_name(buffer, at, task.sort, task.cost);
-    let at = text::put_number(buffer, at, b" ", u64::from(task.deadline));
-    text::put_line(buffer, at, b" ", u64::from(task.period))
+    put_name(out, task.sort, task.cost);
+    text::put_number(out, b" ", u64::from(task.deadline));
+    text::put_line(out, b" ", u64::from(task.period));
 }
 
 // Up to the cost: a button has no offset before it.
-fn put_name(buffer: &mut [u8], at: usize, sort: Sort, cost: u32) -> usize
-    requires { at + name_room ≤ length buffer.old }
-    ensures put { Put (sort_text sort ++ decimal cost) at buffer.old buffer.new result }
-    ensures upper_bound { result ≤ at + name_room }
+fn put_name(out: &mut Out<'_>, sort: Sort, cost: u32)
+    requires { Fits (sort_text sort ++ decimal cost) out.old }
+    ensures { Puts (sort_text sort ++ decimal cost) out.old out.new }
 {
     match sort {
         Sort::Periodic(offset) => {
-            let at = text::put_number(buffer, at, b"task ", u64::from(offset));
-            text::put_number(buffer, at, b" ", u64::from(cost))
+            text::put_number(out, b"task ", u64::from(offset));
+            text::put_number(out, b" ", u64::from(cost));
         }
-        Sort::Button => text::put_number(buffer, at, b"button ", u64::from(cost)),
+        Sort::Button => text::put_number(out, b"button ", u64::from(cost)),
     }
 }
 

@@ -1,3 +1,4 @@
--- Theorems that rest on what an edit changes.
+-- Theorems that rest on what an edit changes, and the pieces of a report.
 pub mod Fits
 pub mod Permitted
+pub mod Pieces

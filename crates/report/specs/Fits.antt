@@ -5,26 +5,13 @@ use Rattle.values.specs.declared.Verdict.{Verdict}
 use Rattle.model.specs.Limits.{task_limit}
 use Rattle.text.specs.Decimal.{number_bytes}
 
--- The lines `quick pass` or `quick none`, `verdict undecided`, `worst 31 ..` with a number of 32 bits, and `interval .. .. demand ..`.
-abbrev pub quick_bytes : ℕ
-quick_bytes = 11
-
-abbrev pub verdict_bytes : ℕ
-verdict_bytes = 18
-
+-- The line `worst 31 ..` with a number of 32 bits.
 abbrev pub worst_bytes : ℕ
 worst_bytes = 20
 
-abbrev pub interval_bytes : ℕ
-interval_bytes = 19 + 3 * number_bytes
-
--- What is asked for to write a worst line: the writer of a number asks for 20 digits, also where it takes fewer.
-abbrev pub worst_room : ℕ
-worst_room = 8 + 2 * number_bytes
-
--- What follows the settled count: the worst line of the last task asks for most.
+-- What follows the settled count: the worst lines, and the idle line in less room than two numbers take.
 abbrev pub details_bytes : ℕ
-details_bytes = (task_limit - 1) * worst_bytes + worst_room
+details_bytes = (task_limit - 1) * worst_bytes + 8 + 2 * number_bytes
 
 -- The numbers that are printed are as wide as their types: 64 bits, and 32 for a worst response.
 abbrev pub Wide : ℕ → Type 0

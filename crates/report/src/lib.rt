@@ -5,11 +5,11 @@ ghost use Rattle.std.specs.Prelude.{◌≡◌, ◌++◌, ◌+◌, ◌*◌, ◌<�
 ghost use Rattle.model.specs.Limits.{task_limit, report_bytes};
 ghost use Rattle.model.specs.Notation.{text, decimal};
 ghost use Rattle.model.specs.Report.{line, quick_word, verdict_word, worst_lines, details, report_of, refusal_line, written};
-ghost use Rattle.counting.specs.Put.{Put};
+ghost use Rattle.words.specs.Out.{Fits, Puts};
 ghost use Rattle.report.specs.Put.{exported};
-ghost use Rattle.report.specs.Fits.{quick_bytes, verdict_bytes, worst_bytes, worst_room, interval_bytes, details_bytes};
 
 use values::{Answer, Refusal, TASK_LIMIT, Verdict};
+use words::Out;
 
 pub fn write_report(
     buffer: &mut [u8],
@@ -24,13 +24,15 @@ pub fn write_report(
     ensures upper_bound { result ≤ report_bytes }
 {
     let measure = answer.measure;
-    let at = text::put_line(buffer, 0, b"tasks ", tasks as u64);
-    let at = text::put_pair(buffer, at, b"load ", measure.load, b"/", measure.round);
-    let at = put_quick(buffer, at, quick);
-    let at = text::put_line(buffer, at, b"horizon ", measure.horizon);
-    let at = put_verdict(buffer, at, verdict);
-    let at = text::put_line(buffer, at, b"settled ", answer.settled);
-    put_details(buffer, at, tasks, answer, verdict)
+    let mut out = Out::new(buffer);
+    text::put_line(&mut out, b"tasks ", tasks as u64);
+    text::put_pair(&mut out, b"load ", measure.load, b"/", measure.round);
+    put_quick(&mut out, quick);
+    text::put_line(&mut out, b"horizon ", measure.horizon);
+    put_verdict(&mut out, verdict);
+    text::put_line(&mut out, b"settled ", answer.settled);
+    put_details(&mut out, tasks, answer, verdict);
+    out.at()
 }
 
 pub fn write_refusal(buffer: &mut [u8], refusal: Refusal) -> usize
@@ -40,86 +42,65 @@ pub fn write_refusal(buffer: &mut [u8], refusal: Refusal) -> usize
 {
     let number = u64::from(refusal.number);
     let place = u64::from(refusal.place);
-    text::put_pair(buffer, 0, b"refused ", number, b" at ", place)
+    let mut out = Out::new(buffer);
+    text::put_pair(&mut out, b"refused ", number, b" at ", place);
+    out.at()
 }
 
-fn put_quick(buffer: &mut [u8], at: usize, quick: bool) -> usize
-    requires { at + quick_bytes ≤ length buffer.old }
-    ensures put { Put (line (text "quick " ++ quick_word quick)) at buffer.old buffer.new result }
-    ensures upper_bound { result ≤ at + quick_bytes }
+fn put_quick(out: &mut Out<'_>, quick: bool)
+    requires { Fits (line (text "quick " ++ quick_word quick)) out.old }
+    ensures { Puts (line (text "quick " ++ quick_word quick)) out.old out.new }
 {
     if quick {
-        words::put(buffer, at, b"quick pass\n")
+        out.put(b"quick pass\n");
     } else {
-        words::put(buffer, at, b"quick none\n")
+        out.put(b"quick none\n");
     }
 }
 
-fn put_verdict(buffer: &mut [u8], at: usize, verdict: Verdict) -> usize
-    requires { at + verdict_bytes ≤ length buffer.old }
-    ensures put { Put (line (text "verdict " ++ verdict_word verdict)) at buffer.old buffer.new result }
-    ensures upper_bound { result ≤ at + verdict_bytes }
+fn put_verdict(out: &mut Out<'_>, verdict: Verdict)
+    requires { Fits (line (text "verdict " ++ verdict_word verdict)) out.old }
+    ensures { Puts (line (text "verdict " ++ verdict_word verdict)) out.old out.new }
 {
     match verdict {
-        Verdict::Passes => words::put(buffer, at, b"verdict passes\n"),
-        Verdict::Overload => words::put(buffer, at, b"verdict overload\n"),
-        Verdict::Late { .. } => words::put(buffer, at, b"verdict late\n"),
-        Verdict::Undecided => words::put(buffer, at, b"verdict undecided\n"),
+        Verdict::Passes => out.put(b"verdict passes\n"),
+        Verdict::Overload => out.put(b"verdict overload\n"),
+        Verdict::Late { .. } => out.put(b"verdict late\n"),
+        Verdict::Undecided => out.put(b"verdict undecided\n"),
     }
 }
 
-fn put_details(
-    buffer: &mut [u8],
-    at: usize,
-    tasks: usize,
-    answer: Answer,
-    verdict: Verdict,
-) -> usize
+fn put_details(out: &mut Out<'_>, tasks: usize, answer: Answer, verdict: Verdict)
     requires tasks_le_task_limit { tasks ≤ task_limit }
-    requires details_bytes_in_bounds { at + details_bytes ≤ length buffer.old }
-    ensures put { Put (details tasks answer verdict) at buffer.old buffer.new result }
-    ensures upper_bound { result ≤ at + details_bytes }
+    requires room { Fits (details tasks answer verdict) out.old }
+    ensures { Puts (details tasks answer verdict) out.old out.new }
 {
     match verdict {
         Verdict::Passes => {
-            let at = put_worst_lines(buffer, at, tasks, answer.worst);
-            text::put_line(buffer, at, b"idle ", answer.idle)
+            put_worst_lines(out, tasks, answer.worst);
+            text::put_line(out, b"idle ", answer.idle);
         }
-        Verdict::Overload => at,
-        Verdict::Late { from, to, demand } => put_interval(buffer, at, from, to, demand),
-        Verdict::Undecided => at,
+        Verdict::Overload => (),
+        Verdict::Late { from, to, demand } => put_interval(out, from, to, demand),
+        Verdict::Undecided => (),
     }
 }
 
-fn put_worst_lines(buffer: &mut [u8], at: usize, tasks: usize, worst: [u32; TASK_LIMIT]) -> usize
+fn put_worst_lines(out: &mut Out<'_>, tasks: usize, worst: [u32; TASK_LIMIT])
     requires tasks_le_task_limit { tasks ≤ task_limit }
-    requires details_bytes_in_bounds { at + details_bytes ≤ length buffer.old }
-    ensures put { Put (worst_lines worst tasks) at buffer.old buffer.new result }
-    ensures upper_bound { result ≤ at + task_limit * worst_bytes }
+    requires room { Fits (worst_lines worst tasks) out.old }
+    ensures { Puts (worst_lines worst tasks) out.old out.new }
 {
-    let mut next = at;
     for (task, response) in worst[..tasks].iter().enumerate() {
-        next = put_worst_line(buffer, next, task, *response);
+        text::put_pair(out, b"worst ", task as u64, b" ", u64::from(*response));
     }
-    next
 }
 
-fn put_worst_line(buffer: &mut [u8], at: usize, task: usize, worst: u32) -> usize
-    requires task_lt_task_limit { task < task_limit }
-    requires worst_room_in_bounds { at + worst_room ≤ length buffer.old }
-    ensures put { Put (line (text "worst " ++ decimal task ++ text " " ++ decimal worst)) at buffer.old buffer.new result }
-    ensures upper_bound { result ≤ at + worst_bytes }
+fn put_interval(out: &mut Out<'_>, from: u64, to: u64, demand: u64)
+    requires { Fits (line (text "interval " ++ decimal from ++ text " " ++ decimal to ++ text " demand " ++ decimal demand)) out.old }
+    ensures { Puts (line (text "interval " ++ decimal from ++ text " " ++ decimal to ++ text " demand " ++ decimal demand)) out.old out.new }
 {
-    text::put_pair(buffer, at, b"worst ", task as u64, b" ", u64::from(worst))
-}
-
-fn put_interval(buffer: &mut [u8], at: usize, from: u64, to: u64, demand: u64) -> usize
-    requires { at + interval_bytes ≤ length buffer.old }
-    ensures put { Put (line (text "interval " ++ decimal from ++ text " " ++ decimal to ++ text " demand " ++ decimal demand))
-        at buffer.old buffer.new result }
-    ensures upper_bound { result ≤ at + interval_bytes }
-{
-    let at = text::put_number(buffer, at, b"interval ", from);
-    let at = text::put_number(buffer, at, b" ", to);
-    text::put_line(buffer, at, b" demand ", demand)
+    text::put_number(out, b"interval ", from);
+    text::put_number(out, b" ", to);
+    text::put_line(out, b" demand ", demand);
 }

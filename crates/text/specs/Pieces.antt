@@ -4,6 +4,10 @@ use Rattle.std.proofs.Common.{append_assoc, add-one, arith, take-suc}
 use Rattle.model.specs.Report.{line}
 use Rattle.counting.specs.Put.{Put, byte, join}
 
+-- The end of a line is the line of its last two parts.
+pub line_end : (a b c : List ℕ) → line (a ++ b ++ c) ≡ a ++ line (b ++ c)
+line_end a b c = simp append_assoc
+
 -- The end of a line is put with its last two parts.
 pub join_line : {a : List ℕ} (b c : List ℕ) {before between after : List ℕ} {at middle next : ℕ} → Put a at before between middle
     → Put (line (b ++ c)) middle between after next → Put (line (a ++ b ++ c)) at before after next

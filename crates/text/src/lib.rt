@@ -1,62 +1,51 @@
-// Texts and numbers, written byte for byte into a lent buffer.
+// Texts and numbers, written byte for byte.
 #![tactic(auto)]
 
-ghost use Rattle.std.specs.Prelude.{◌++◌, ◌∷◌, [], ◌+◌, ◌*◌, ◌<◌, ◌≤◌, length};
+ghost use Rattle.std.specs.Prelude.{◌++◌, ◌∷◌, [], ◌+◌, ◌<◌};
 ghost use Rattle.model.specs.Notation.{decimal};
 ghost use Rattle.model.specs.Report.{line};
-ghost use Rattle.counting.specs.Put.{Put};
-ghost use Rattle.text.specs.Decimal.{number_bytes};
+ghost use Rattle.words.specs.Out.{Fits, Puts};
 
-pub fn put_pair(
-    buffer: &mut [u8],
-    at: usize,
-    name: &[u8],
-    first: u64,
-    between: &[u8],
-    second: u64,
-) -> usize
-    requires { at + length name.now + length between.now + 2 * number_bytes + 1 ≤ length buffer.old }
-    ensures put { Put (line (name.now ++ decimal first ++ between.now ++ decimal second)) at buffer.old
-        buffer.new result }
-    ensures upper_bound { result ≤ at + length name.now + length between.now + 2 * number_bytes + 1 }
+use words::Out;
+
+pub fn put_pair(out: &mut Out<'_>, name: &[u8], first: u64, between: &[u8], second: u64)
+    requires { Fits (line (name.now ++ decimal first ++ between.now ++ decimal second)) out.old }
+    ensures { Puts (line (name.now ++ decimal first ++ between.now ++ decimal second)) out.old out.new }
 {
-    let at = put_number(buffer, at, name, first);
-    put_line(buffer, at, between, second)
+    put_number(out, name, first);
+    put_line(out, between, second);
 }
 
-pub fn put_line(buffer: &mut [u8], at: usize, name: &[u8], number: u64) -> usize
-    requires { at + length name.now + number_bytes + 1 ≤ length buffer.old }
-    ensures put { Put (line (name.now ++ decimal number)) at buffer.old buffer.new result }
-    ensures upper_bound { result ≤ at + length name.now + number_bytes + 1 }
+pub fn put_line(out: &mut Out<'_>, name: &[u8], number: u64)
+    requires { Fits (line (name.now ++ decimal number)) out.old }
+    ensures { Puts (line (name.now ++ decimal number)) out.old out.new }
 {
-    let at = put_number(buffer, at, name, number);
-    words::put(buffer, at, b"\n")
+    put_number(out, name, number);
+    out.put(b"\n");
 }
 
-pub fn put_number(buffer: &mut [u8], at: usize, name: &[u8], number: u64) -> usize
-    requires { at + length name.now + number_bytes ≤ length buffer.old }
-    ensures put { Put (name.now ++ decimal number) at buffer.old buffer.new result }
-    ensures upper_bound { result ≤ at + length name.now + number_bytes }
+pub fn put_number(out: &mut Out<'_>, name: &[u8], number: u64)
+    requires { Fits (name.now ++ decimal number) out.old }
+    ensures { Puts (name.now ++ decimal number) out.old out.new }
 {
-    let at = words::put(buffer, at, name);
-    put_decimal(buffer, at, number)
+    out.put(name);
+    put_decimal(out, number);
 }
 
-fn put_decimal(buffer: &mut [u8], at: usize, number: u64) -> usize
-    requires { at + length (decimal number) ≤ length buffer.old }
-    ensures { Put (decimal number) at buffer.old buffer.new result }
+fn put_decimal(out: &mut Out<'_>, number: u64)
+    requires { Fits (decimal number) out.old }
+    ensures { Puts (decimal number) out.old out.new }
 {
-    if number < 10 {
-        return put_digit(buffer, at, number);
+    if number >= 10 {
+        put_decimal(out, number / 10);
     }
-    let at = put_decimal(buffer, at, number / 10);
-    put_digit(buffer, at, number % 10)
+    put_digit(out, number % 10);
 }
 
-fn put_digit(buffer: &mut [u8], at: usize, digit: u64) -> usize
+fn put_digit(out: &mut Out<'_>, digit: u64)
     requires digit_bound { digit < 10 }
-    requires at_in_bounds { at < length buffer.old }
-    ensures { Put ((48 + digit) ∷ []) at buffer.old buffer.new result }
+    requires room { Fits ((48 + digit) ∷ []) out.old }
+    ensures { Puts ((48 + digit) ∷ []) out.old out.new }
 {
-    words::put(buffer, at, &[b'0' + digit as u8])
+    out.put(&[b'0' + digit as u8]);
 }

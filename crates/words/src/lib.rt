@@ -1,9 +1,10 @@
 // Numbers of four bytes and of eight, the lowest byte first, read and written where they lie.
 #![tactic(auto)]
 
-ghost use Rattle.std.specs.Prelude.{◌≡◌, ◌+◌, ◌^◌, ◌<◌, ◌≤◌, min, length};
+ghost use Rattle.std.specs.Prelude.{◌≡◌, ◌++◌, ◌+◌, ◌^◌, ◌<◌, ◌≤◌, min, length};
 ghost use Rattle.model.specs.TableFile.{four, eight, word_bytes, two_words, bytes_of};
 ghost use Rattle.counting.specs.Put.{Put};
+ghost use Rattle.words.specs.Out.{Fits, Puts};
 
 pub fn word_at(s: &[u8], at: usize) -> u32
     requires { at + 4 ≤ length s.now }
@@ -47,7 +48,52 @@ pub fn put_long(buffer: &mut [u8], at: usize, number: u64) -> usize
     put(buffer, at, &number.to_le_bytes())
 }
 
-// The bytes from a place on; the result is the place behind them.
+// A lent buffer that is written from front to back: `at` is the next place.
+#[derive(Drop)]
+pub struct Out<'a> {
+    buffer: &'a mut [u8],
+    at: usize,
+}
+
+impl<'a> Out<'a> {
+    pub fn new(buffer: &'a mut [u8]) -> Out<'a>
+        ensures at { result.at ≡ 0 }
+        ensures buffer { result.buffer.now ≡ buffer.old }
+        ensures same_reference { result.buffer.ghost_name ≡ buffer.entry.ghost_name }
+    {
+        Out { buffer, at: 0 }
+    }
+
+    pub fn put(&mut self, bytes: &[u8])
+        requires { Fits bytes.now self.old }
+        ensures { Puts bytes.now self.old self.new }
+    {
+        let next = self.at + bytes.len();
+        self.buffer[self.at..next].copy_from_slice(bytes);
+        self.at = next;
+    }
+
+    pub fn put_word(&mut self, word: u32)
+        requires { Fits (word_bytes word) self.old }
+        ensures { Puts (word_bytes word) self.old self.new }
+    {
+        self.put(&word.to_le_bytes());
+    }
+
+    pub fn put_long(&mut self, number: u64)
+        requires { Fits (bytes_of (two_words number)) self.old }
+        ensures { Puts (bytes_of (two_words number)) self.old self.new }
+    {
+        self.put(&number.to_le_bytes());
+    }
+
+    pub fn at(&self) -> usize
+        ensures { result ≡ self.now.at }
+    {
+        self.at
+    }
+}
+
 pub fn put(buffer: &mut [u8], at: usize, bytes: &[u8]) -> usize
     requires { at + length bytes.now ≤ length buffer.old }
     ensures { Put bytes.now at buffer.old buffer.new result }

@@ -1,6 +1,7 @@
 -- The records of a file, put one after another: their lengths, and the turn of the loop over the tasks.
 use Rattle.std.specs.Prelude.{◌≡◌, refl, List, [], ◌∷◌, ◌++◌, ◌≢◌, ℕ, zero, suc, ◌+◌, ◌≤◌, ◌<◌, length, get_or, take, Ok, Err}
 use Rattle.std.proofs.Common.{append-nil, append_assoc, add-one, arith, eq-eqb, ne_eqb, lt-ltb, le-ltb, length-append, take-suc}
+use Rattle.std.proofs.lemmas.List.{take_all}
 use Rattle.std.proofs.lemmas.List.Edits.{sets-eq}
 use Rattle.values.specs.declared.Sort.{Sort}
 use Rattle.values.specs.declared.Task.{Task}
@@ -10,6 +11,8 @@ use Rattle.model.specs.Tasks.{no_task, button_sort}
 use Rattle.model.specs.TableFile.{sort_bytes, task_record, task_records}
 use Rattle.model.specs.Writer.{Filled, fitted, budgeted}
 use Rattle.counting.specs.Put.{Put, join}
+use Rattle.words.specs.declared.Out.{Out}
+use Rattle.words.specs.Out.{Fits, Puts, both, second}
 use Rattle.tablefile.specs.Reading.{record_size, record_bytes}
 use Rattle.tablefile.specs.Written.{record_length}
 
@@ -58,6 +61,19 @@ pub one_more : (ks : List Task) (i : ℕ) {before between after : List ℕ} {at 
     → Put (task_records (take i ks)) at before between middle → Put (task_record (get_or ks i no_task)) middle between after next
     → Put (task_records (take (i + 1) ks)) at before after next
 one_more ks i h p q = rw (add-one i, take-suc ks i no_task, records_append (take i ks) (get_or ks i no_task)) (join p q)
+
+-- The same of what is written.
+pub next_task : (ks : List Task) (i : ℕ) {old between new : Out} → i < length ks → Puts (task_records (take i ks)) old between
+    → Puts (task_record (get_or ks i no_task)) between new → Puts (task_records (take (i + 1) ks)) old new
+next_task ks i h p q = rw (add-one i, take-suc ks i no_task, records_append (take i ks) (get_or ks i no_task)) (both p q)
+
+-- Where the records of all tasks fit, that of the next one does.
+pub next_fits : (ks : List Task) (i : ℕ) {old between : Out} → i < length ks → Puts (task_records (take i ks)) old between → Fits (task_records ks) old
+    → Fits (task_record (get_or ks i no_task)) between
+next_fits ks i {old} h p f =
+    let all = rw (take_all (length ks) ks (omega arith)) at (records_more ks (i + 1) (length ks) (omega arith)) in
+    let these : Fits (task_records (take (i + 1) ks)) old = record { room = omega (arith, all, f.room) } in
+    second p (rw (add-one i, take-suc ks i no_task, records_append (take i ks) (get_or ks i no_task)) at these)
 
 -- A budget of 0, and any other.
 pub nothing : {w : Writing} (b : ℕ) (bytes before : List ℕ) → b ≡ 0 → w ≡ Err (refusal 27 0)

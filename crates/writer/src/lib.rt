@@ -8,10 +8,12 @@ ghost use Rattle.model.specs.Writer.{budgeted, file_written};
 ghost use Rattle.counting.specs.Put.{Put};
 ghost use Rattle.tablefile.specs.Kinds.{kind_byte};
 ghost use Rattle.tablefile.specs.Reading.{record_bytes};
+ghost use Rattle.words.specs.Out.{Fits, Puts};
 ghost use Rattle.writer.specs.Records.{filled, file_bytes};
 
 use tablefile::{BUDGET_BYTES, Kind};
 use values::{Fault, Refusal, Sort, Table, Task, Writing};
+use words::Out;
 
 // Any table, budget and buffer: the table is judged first, then the budget, then the buffer's length.
 pub fn write(table: Table, budget: u64, buffer: &mut [u8]) -> Writing
@@ -64,61 +66,57 @@ fn put_file(tasks: &[Task], budget: u64, buffer: &mut [u8]) -> usize
     requires { file_bytes tasks.now ≤ length buffer.old }
     ensures { Put (file_of budget tasks.now) 0 buffer.old buffer.new result }
 {
-    let at = put_budget(buffer, budget);
-    let at = put_tasks(buffer, at, tasks);
-    put_kind(buffer, at, Kind::End)
+    let mut out = Out::new(buffer);
+    put_budget(&mut out, budget);
+    put_tasks(&mut out, tasks);
+    put_kind(&mut out, Kind::End);
+    out.at()
 }
 
-fn put_budget(buffer: &mut [u8], budget: u64) -> usize
-    requires { budget_bytes ≤ length buffer.old }
-    ensures put { Put (budget_record budget) 0 buffer.old buffer.new result }
-    ensures value { result ≡ budget_bytes }
+fn put_budget(out: &mut Out<'_>, budget: u64)
+    requires { Fits (budget_record budget) out.old }
+    ensures { Puts (budget_record budget) out.old out.new }
 {
-    let at = put_kind(buffer, 0, Kind::Budget);
-    words::put_long(buffer, at, budget)
+    put_kind(out, Kind::Budget);
+    out.put_long(budget);
 }
 
-fn put_tasks(buffer: &mut [u8], at: usize, tasks: &[Task]) -> usize
-    requires { at + length (task_records tasks.now) ≤ length buffer.old }
-    ensures { Put (task_records tasks.now) at buffer.old buffer.new result }
+fn put_tasks(out: &mut Out<'_>, tasks: &[Task])
+    requires { Fits (task_records tasks.now) out.old }
+    ensures { Puts (task_records tasks.now) out.old out.new }
 {
-    let mut next = at;
     for task in tasks {
-        next = put_task(buffer, next, *task);
+        put_task(out, *task);
     }
-    next
 }
 
-fn put_task(buffer: &mut [u8], at: usize, task: Task) -> usize
-    requires { at + record_bytes task ≤ length buffer.old }
-    ensures put { Put (task_record task) at buffer.old buffer.new result }
-    ensures value { result ≡ at + record_bytes task }
+fn put_task(out: &mut Out<'_>, task: Task)
+    requires { Fits (task_record task) out.old }
+    ensures { Puts (task_record task) out.old out.new }
 {
-    let at = put_sort(buffer, at, task.sort);
-    let at = words::put_word(buffer, at, task.cost);
-    let at = words::put_word(buffer, at, task.deadline);
-    words::put_word(buffer, at, task.period)
+    put_sort(out, task.sort);
+    out.put_word(task.cost);
+    out.put_word(task.deadline);
+    out.put_word(task.period);
 }
 
 // The kind, and the offset of a task that has one.
-fn put_sort(buffer: &mut [u8], at: usize, sort: Sort) -> usize
-    requires { at + length (sort_bytes sort) ≤ length buffer.old }
-    ensures { Put (sort_bytes sort) at buffer.old buffer.new result }
+fn put_sort(out: &mut Out<'_>, sort: Sort)
+    requires { Fits (sort_bytes sort) out.old }
+    ensures { Puts (sort_bytes sort) out.old out.new }
 {
     match sort {
         Sort::Periodic(offset) => {
-            let at = put_kind(buffer, at, Kind::Task);
-            words::put_word(buffer, at, offset)
+            put_kind(out, Kind::Task);
+            out.put_word(offset);
         }
-        Sort::Button => put_kind(buffer, at, Kind::Button),
+        Sort::Button => put_kind(out, Kind::Button),
     }
 }
 
-fn put_kind(buffer: &mut [u8], at: usize, kind: Kind) -> usize
-    requires { at < length buffer.old }
-    ensures put { Put (kind_byte kind ∷ []) at buffer.old buffer.new result }
-    ensures value { result ≡ at + 1 }
+fn put_kind(out: &mut Out<'_>, kind: Kind)
+    requires { Fits (kind_byte kind ∷ []) out.old }
+    ensures { Puts (kind_byte kind ∷ []) out.old out.new }
 {
-    buffer[at] = u8::from(kind);
-    at + 1
+    out.put(&[u8::from(kind)]);
 }

@@ -1,21 +1,26 @@
-use mathlib.Core.List.{◌++◌}
-use native.Mathlib.Omega.{arith}
-use Rattle.model.specs.Notation.{text, decimal}
-use Rattle.model.specs.Report.{line}
-use Rattle.counting.specs.Put.{Put, nothing, join}
+use Rattle.model.specs.Notation.{text}
+use Rattle.words.specs.Out.{none, both, first, second}
 use Rattle.report.proofs.put_details.Goals as goal
+
+pub put_worst_lines-requires-clause-room : goal.put_worst_lines-requires-clause-room
+put_worst_lines-requires-clause-room c = first _ (rw c.in-Passes.is at c.requires.room)
+
+pub put_line-requires : goal.put_line-requires
+unfolding text
+put_line-requires c = second c.put_worst_lines.ensures (rw c.in-Passes.is at c.requires.room)
+
+pub put_interval-requires : goal.put_interval-requires
+put_interval-requires c = rw c.in-Late.is at c.requires.room
 
 pub returns-in-Passes : goal.returns-in-Passes
 unfolding text
-returns-in-Passes c =
-    let idle : Put (line (text "idle " ++ decimal c.args.answer.idle)) _ _ _ _ = c.put_line.ensures.put in
-    record { put = rw c.in-Passes.is (join c.put_worst_lines-at.ensures.put idle); upper_bound = omega arith }
+returns-in-Passes c = rw c.in-Passes.is (both c.put_worst_lines.ensures c.put_line.ensures)
 
 pub returns-in-Overload : goal.returns-in-Overload
-returns-in-Overload c = record { put = rw c.in-Overload.is (nothing _ _); upper_bound = omega arith }
+returns-in-Overload c = rw c.in-Overload.is (none _)
 
 pub returns-in-Late : goal.returns-in-Late
-returns-in-Late c = record { put = rw c.in-Late.is c.put_interval.ensures.put; upper_bound = omega arith }
+returns-in-Late c = rw c.in-Late.is c.put_interval.ensures
 
 pub returns-in-Undecided : goal.returns-in-Undecided
-returns-in-Undecided c = record { put = rw c.in-Undecided.is (nothing _ _); upper_bound = omega arith }
+returns-in-Undecided c = rw c.in-Undecided.is (none _)

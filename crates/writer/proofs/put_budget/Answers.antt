@@ -1,8 +1,12 @@
 -- The kind, then the number.
-use native.Mathlib.Omega.{arith}
-use Rattle.counting.specs.Put.{join}
+use Rattle.words.specs.Out.{both, first, second}
 use Rattle.writer.proofs.put_budget.Goals as goal
 
+pub put_kind-requires : goal.put_kind-requires
+put_kind-requires c = first _ c.requires
+
+pub put_long-requires : goal.put_long-requires
+put_long-requires c = second c.put_kind.ensures c.requires
+
 pub returns : goal.returns
-returns c =
-    record { put = join c.put_kind-at.ensures.put c.put_long.ensures.put; value = omega arith }
+returns c = both c.put_kind.ensures c.put_long.ensures
