@@ -234,14 +234,8 @@ fn finish(columns: &Columns, kept: &mut Kept, i: usize, due: u64, done: u64, idl
     );
     Landed {
         time: done,
-<<<<<<< HEAD
-        idle: first_idle(idle, kept.ready.is_empty(), done),
+        idle: walks::first_idle(idle, kept.ready.is_empty(), done),
         way: next_way(&kept.ready, due, done),
-=======
-        jobs,
-        idle: walks::first_idle(idle, jobs == 0, done),
-        way: next_way(&kept.ready, jobs, due, done),
->>>>>>> hlogs
     }
 }
 
