@@ -71,14 +71,14 @@ fn put(entries: &mut [u64; TASK_LIMIT], m: usize, x: u64)
     requires { m < task_limit }
     ensures { entries.new ≡ inserted entries.old m x }
 {
-    let mut j = m;
-    while 0 < j {
-        let above = entries[j - 1];
+    let mut place = m;
+    for j in (0..m).rev() {
+        let above = entries[j];
         if x <= above {
             break;
         }
-        entries[j] = above;
-        j = j - 1;
+        entries[j + 1] = above;
+        place = j;
     }
-    entries[j] = x;
+    entries[place] = x;
 }
