@@ -2,6 +2,7 @@
 #![tactic(auto)]
 
 ghost use Rattle.std.specs.Prelude.{◌≡◌, ◌++◌, ◌≤◌, length, replicate, drop};
+ghost use Rattle.values.specs.Numbers.{verdict_number};
 ghost use Rattle.model.specs.Limits.{task_limit};
 ghost use Rattle.model.specs.TableFile.{bytes_of};
 ghost use Rattle.model.specs.StateBuffer.{halves};
@@ -9,12 +10,12 @@ ghost use Rattle.model.specs.AnswerBuffer.{answer_bytes, numbers_by, numbers_of,
 ghost use Rattle.counting.specs.Put.{Put};
 ghost use Rattle.answerbuffer.specs.Written.{longs_of};
 
-use values::{Answer, AnswerNumbers, LATE, OVERLOAD, PASSES, TASK_LIMIT, UNDECIDED, Verdict};
+use values::{Answer, AnswerNumbers, TASK_LIMIT, Verdict};
 
 // What every verdict comes with; the rest is 0.
-fn brief_numbers(tasks: usize, quick: bool, answer: Answer, verdict: u32) -> AnswerNumbers
+fn brief_numbers(tasks: usize, quick: bool, answer: Answer, verdict: Verdict) -> AnswerNumbers
     requires { tasks ≤ task_limit }
-    ensures { result ≡ numbers_by tasks quick answer verdict 0 0 0 0 (replicate task_limit 0) }
+    ensures { result ≡ numbers_by tasks quick answer (verdict_number verdict) 0 0 0 0 (replicate task_limit 0) }
 {
     let measure = answer.measure;
     AnswerNumbers {
@@ -28,7 +29,7 @@ fn brief_numbers(tasks: usize, quick: bool, answer: Answer, verdict: u32) -> Ans
         demand: 0,
         tasks: tasks as u32,
         quick: u32::from(quick),
-        verdict,
+        verdict: verdict.number(),
         worst: [0u32; TASK_LIMIT],
     }
 }
@@ -37,24 +38,22 @@ pub fn numbers_of(tasks: usize, quick: bool, answer: Answer, verdict: Verdict) -
     requires { tasks ≤ task_limit }
     ensures { result ≡ numbers_of tasks quick answer verdict }
 {
+    let mut numbers = brief_numbers(tasks, quick, answer, verdict);
     match verdict {
-        Verdict::Overload => brief_numbers(tasks, quick, answer, OVERLOAD),
-        Verdict::Undecided => brief_numbers(tasks, quick, answer, UNDECIDED),
+        Verdict::Overload => {}
+        Verdict::Undecided => {}
         Verdict::Late { from, to, demand } => {
-            let mut late = brief_numbers(tasks, quick, answer, LATE);
-            late.from = from;
-            late.to = to;
-            late.demand = demand;
-            late
+            numbers.from = from;
+            numbers.to = to;
+            numbers.demand = demand;
         }
         Verdict::Passes => {
-            let mut passing = brief_numbers(tasks, quick, answer, PASSES);
             let worst = answer.worst;
-            passing.idle = answer.idle;
-            passing.worst = worst;
-            passing
+            numbers.idle = answer.idle;
+            numbers.worst = worst;
         }
     }
+    numbers
 }
 
 // At the front of a buffer; what stands behind the answer stays.
