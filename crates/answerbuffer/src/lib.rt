@@ -7,10 +7,11 @@ ghost use Rattle.model.specs.Limits.{task_limit};
 ghost use Rattle.model.specs.TableFile.{bytes_of};
 ghost use Rattle.model.specs.StateBuffer.{halves};
 ghost use Rattle.model.specs.AnswerBuffer.{answer_bytes, numbers_by, numbers_of, answer_buffer};
-ghost use Rattle.counting.specs.Put.{Put};
+ghost use Rattle.words.specs.Out.{Fits, Puts};
 ghost use Rattle.answerbuffer.specs.Written.{longs_of};
 
 use values::{Answer, AnswerNumbers, TASK_LIMIT, Verdict};
+use words::Out;
 
 // What every verdict comes with; the rest is 0.
 fn brief_numbers(tasks: usize, quick: bool, answer: Answer, verdict: Verdict) -> AnswerNumbers
@@ -61,25 +62,25 @@ pub fn write_answer(buffer: &mut [u8], numbers: AnswerNumbers)
     requires { answer_bytes ≤ length buffer.old }
     ensures { buffer.new ≡ answer_buffer numbers ++ drop answer_bytes buffer.old }
 {
-    let at = put_longs(buffer, numbers);
-    let at = words::put_word(buffer, at, numbers.tasks);
-    let at = words::put_word(buffer, at, numbers.quick);
-    let at = words::put_word(buffer, at, numbers.verdict);
-    let at = words::put_word(buffer, at, 0);
-    statebuffer::put_words(buffer, at, numbers.worst);
+    let mut out = Out::new(buffer);
+    put_longs(&mut out, numbers);
+    out.put_word(numbers.tasks);
+    out.put_word(numbers.quick);
+    out.put_word(numbers.verdict);
+    out.put_word(0);
+    statebuffer::put_words(&mut out, numbers.worst);
 }
 
-fn put_longs(buffer: &mut [u8], numbers: AnswerNumbers) -> usize
-    requires { answer_bytes ≤ length buffer.old }
-    ensures put { Put (bytes_of (halves (longs_of numbers))) 0 buffer.old buffer.new result }
-    ensures value { result ≡ 64 }
+fn put_longs(out: &mut Out<'_>, numbers: AnswerNumbers)
+    requires { Fits (bytes_of (halves (longs_of numbers))) out.old }
+    ensures { Puts (bytes_of (halves (longs_of numbers))) out.old out.new }
 {
-    let at = words::put_long(buffer, 0, numbers.round);
-    let at = words::put_long(buffer, at, numbers.load);
-    let at = words::put_long(buffer, at, numbers.horizon);
-    let at = words::put_long(buffer, at, numbers.settled);
-    let at = words::put_long(buffer, at, numbers.idle);
-    let at = words::put_long(buffer, at, numbers.from);
-    let at = words::put_long(buffer, at, numbers.to);
-    words::put_long(buffer, at, numbers.demand)
+    out.put_long(numbers.round);
+    out.put_long(numbers.load);
+    out.put_long(numbers.horizon);
+    out.put_long(numbers.settled);
+    out.put_long(numbers.idle);
+    out.put_long(numbers.from);
+    out.put_long(numbers.to);
+    out.put_long(numbers.demand);
 }

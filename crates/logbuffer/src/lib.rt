@@ -4,12 +4,13 @@
 ghost use Rattle.std.specs.Prelude.{◌≡◌, ◌+◌, ◌≤◌, length};
 ghost use Rattle.model.specs.TableFile.{bytes_of};
 ghost use Rattle.model.specs.LogBuffer.{log_bytes, number_of, place_of, finding_of, answer_number, log_buffer_of, log_in};
-ghost use Rattle.counting.specs.Put.{Put};
+ghost use Rattle.words.specs.Out.{Fits, Puts};
 ghost use Rattle.slotlog.specs.State.{log_state_of};
 ghost use Rattle.logbuffer.specs.Parts.{reading_in, words_of};
 
 use slotlog::{Log, Reading};
 use values::{Finding, STATE_BYTES};
+use words::Out;
 
 const DONE_AT: usize = STATE_BYTES + 4;
 
@@ -84,21 +85,21 @@ pub fn write_log(buffer: &mut [u8], log: Log)
     requires { length buffer.old ≡ log_bytes }
     ensures { buffer.new ≡ log_buffer_of (log_state_of log) }
 {
-    let at = statebuffer::put_state(buffer, log.state, statebuffer::quiet());
-    let at = put_words(buffer, at, log.reading);
-    let at = words::put_long(buffer, at, log.reading.slots);
-    words::put_long(buffer, at, log.reading.bytes);
+    let mut out = Out::new(buffer);
+    statebuffer::put_state(&mut out, log.state, statebuffer::quiet());
+    put_words(&mut out, log.reading);
+    out.put_long(log.reading.slots);
+    out.put_long(log.reading.bytes);
 }
 
 // Whether a record is open and a report waits, and what was found.
-fn put_words(buffer: &mut [u8], at: usize, reading: Reading) -> usize
-    requires { at + 16 ≤ length buffer.old }
-    ensures put { Put (bytes_of (words_of reading)) at buffer.old buffer.new result }
-    ensures value { result ≡ at + 16 }
+fn put_words(out: &mut Out<'_>, reading: Reading)
+    requires { Fits (bytes_of (words_of reading)) out.old }
+    ensures { Puts (bytes_of (words_of reading)) out.old out.new }
 {
     let (number, place) = told(reading.found);
-    let at = words::put_word(buffer, at, u32::from(reading.opened));
-    let at = words::put_word(buffer, at, u32::from(reading.done));
-    let at = words::put_word(buffer, at, number);
-    words::put_word(buffer, at, place)
+    out.put_word(u32::from(reading.opened));
+    out.put_word(u32::from(reading.done));
+    out.put_word(number);
+    out.put_word(place);
 }

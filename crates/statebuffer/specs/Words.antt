@@ -1,6 +1,6 @@
 -- The parts of a state put one after another.
-use Rattle.std.specs.Prelude.{◌≡◌, refl, List, [], ◌∷◌, ◌++◌, ℕ, ◌+◌, ◌*◌, ◌<◌, length, get_or, take}
-use Rattle.std.proofs.Common.{◌∙◌, append-nil, add-one, arith, length-append, take-suc}
+use Rattle.std.specs.Prelude.{◌≡◌, refl, List, [], ◌∷◌, ◌++◌, ℕ, ◌+◌, ◌*◌, ◌≤◌, ◌<◌, length, get_or, take}
+use Rattle.std.proofs.Common.{◌∙◌, append-nil, add-one, arith, length-append, length-take-le, take-suc}
 use Rattle.std.proofs.lemmas.List.Edits.{sets-eq}
 use Rattle.std.proofs.Math.Seq.{drop-length}
 use Rattle.values.specs.declared.Turn.{Turn}
@@ -9,6 +9,8 @@ use Rattle.model.specs.Dispatcher.{State}
 use Rattle.model.specs.TableFile.{word_bytes, two_words, bytes_of}
 use Rattle.model.specs.StateBuffer.{state_bytes, halves, buffer_of}
 use Rattle.counting.specs.Put.{Put, join}
+use Rattle.words.specs.declared.Out.{Out}
+use Rattle.words.specs.Out.{Fits, Puts, both, second}
 use Rattle.words.specs.Bytes.{bytes_append, bytes_length}
 
 -- A piece as long as the buffer is all that the buffer then holds.
@@ -43,6 +45,35 @@ one_count w i h p q =
       one_half (get_or w i 0),
       bytes_append (halves (take i w)) (two_words (get_or w i 0)),
     ) (join p q)
+
+-- Where the bytes of all counts fit, those of the next one do; and they stand behind those before them.
+pub next_fits : (w : List ℕ) (i : ℕ) {old between : Out} → i < length w → Puts (bytes_of (halves (take i w))) old between → Fits (bytes_of (halves w)) old
+    → Fits (bytes_of (two_words (get_or w i 0))) between
+next_fits w i {old} h p f =
+    let these : Fits (bytes_of (halves (take i w)) ++ bytes_of (two_words (get_or w i 0))) old =
+    record { room = omega (
+      arith,
+      f.room,
+      bytes_length (halves w),
+      halves_length w,
+      bytes_length (halves (take i w)),
+      halves_length (take i w),
+      length-take-le i w (omega arith),
+      bytes_length (two_words (get_or w i 0)),
+      length-append (bytes_of (halves (take i w))) (bytes_of (two_words (get_or w i 0))),
+    ) } in
+    second p these
+
+pub next_count : (w : List ℕ) (i : ℕ) {old between new : Out} → i < length w → Puts (bytes_of (halves (take i w))) old between
+    → Puts (bytes_of (two_words (get_or w i 0))) between new → Puts (bytes_of (halves (take (i + 1) w))) old new
+next_count w i h p q =
+    rw (
+      add-one i,
+      take-suc w i 0,
+      halves_append (take i w) (get_or w i 0 ∷ []),
+      one_half (get_or w i 0),
+      bytes_append (halves (take i w)) (two_words (get_or w i 0)),
+    ) (both p q)
 
 -- A state whose lists have their length, in bytes.
 pub buffer_length : (d : State) (u : Turn) → length d.wait ≡ task_limit → length d.left ≡ task_limit → length d.given ≡ task_limit

@@ -5,12 +5,13 @@ ghost use Rattle.std.specs.Prelude.{◌≡◌, ◌+◌, ◌*◌, ◌≤◌, leng
 ghost use Rattle.model.specs.Limits.{task_limit};
 ghost use Rattle.model.specs.TableFile.{bytes_of};
 ghost use Rattle.model.specs.StateBuffer.{state_bytes, halves, buffer_of, words_in, counts_in, state_in, quiet};
-ghost use Rattle.counting.specs.Put.{Put};
+ghost use Rattle.words.specs.Out.{Fits, Puts};
 
 use belonging::Counts;
 use slots::{NO_TASK, Numbers};
 use std::array;
 use values::{State, TASK_LIMIT, Turn};
+use words::Out;
 
 const WORD_BYTES: usize = 4;
 
@@ -55,47 +56,40 @@ pub fn write_state(buffer: &mut [u8], d: State, turn: Turn)
     requires { length buffer.old ≡ state_bytes }
     ensures { buffer.new ≡ buffer_of d turn }
 {
-    put_state(buffer, d, turn);
+    let mut out = Out::new(buffer);
+    put_state(&mut out, d, turn);
 }
 
-// A state at the front of a buffer; what stands behind it stays.
-pub fn put_state(buffer: &mut [u8], d: State, turn: Turn) -> usize
-    requires { state_bytes ≤ length buffer.old }
-    ensures put { Put (buffer_of d turn) 0 buffer.old buffer.new result }
-    ensures value { result ≡ state_bytes }
+pub fn put_state(out: &mut Out<'_>, d: State, turn: Turn)
+    requires { Fits (buffer_of d turn) out.old }
+    ensures { Puts (buffer_of d turn) out.old out.new }
 {
-    let at = put_words(buffer, 0, d.wait);
-    let at = put_words(buffer, at, d.left);
-    let at = words::put_word(buffer, at, d.last);
-    let at = words::put_word(buffer, at, turn.late);
-    let at = words::put_word(buffer, at, turn.closed);
-    let at = words::put_word(buffer, at, turn.lowest);
-    let at = put_counts(buffer, at, d.given);
-    words::put_long(buffer, at, d.empty)
+    put_words(out, d.wait);
+    put_words(out, d.left);
+    out.put_word(d.last);
+    out.put_word(turn.late);
+    out.put_word(turn.closed);
+    out.put_word(turn.lowest);
+    put_counts(out, d.given);
+    out.put_long(d.empty);
 }
 
-pub fn put_words(buffer: &mut [u8], at: usize, words: Numbers) -> usize
-    requires { at + 4 * task_limit ≤ length buffer.old }
-    ensures put { Put (bytes_of words) at buffer.old buffer.new result }
-    ensures value { result ≡ at + 4 * task_limit }
+pub fn put_words(out: &mut Out<'_>, words: Numbers)
+    requires { Fits (bytes_of words) out.old }
+    ensures { Puts (bytes_of words) out.old out.new }
 {
-    let mut next = at;
     for word in words {
-        next = words::put_word(buffer, next, word);
+        out.put_word(word);
     }
-    next
 }
 
-fn put_counts(buffer: &mut [u8], at: usize, counts: Counts) -> usize
-    requires { at + 8 * task_limit ≤ length buffer.old }
-    ensures put { Put (bytes_of (halves counts)) at buffer.old buffer.new result }
-    ensures value { result ≡ at + 8 * task_limit }
+fn put_counts(out: &mut Out<'_>, counts: Counts)
+    requires { Fits (bytes_of (halves counts)) out.old }
+    ensures { Puts (bytes_of (halves counts)) out.old out.new }
 {
-    let mut next = at;
     for count in counts {
-        next = words::put_long(buffer, next, count);
+        out.put_long(count);
     }
-    next
 }
 
 // Where no step stands behind a state.

@@ -1,14 +1,50 @@
 -- The numbers stand one after another.
-use native.Mathlib.Omega.{arith}
 use Rattle.model.specs.TableFile.{bytes_of}
 use Rattle.model.specs.StateBuffer.{halves}
-use Rattle.counting.specs.Put.{join}
+use Rattle.words.specs.Out.{both, first, second}
 use Rattle.answerbuffer.proofs.put_longs.Goals as goal
+
+pub put_long-requires : goal.put_long-requires
+unfolding bytes_of halves
+put_long-requires c =
+    first _ c.requires
+
+pub put_long-requires-2 : goal.put_long-requires-2
+unfolding bytes_of halves
+put_long-requires-2 c =
+    first _ (second c.put_long.ensures c.requires)
+
+pub put_long-requires-3 : goal.put_long-requires-3
+unfolding bytes_of halves
+put_long-requires-3 c =
+    first _ (second c.put_long-2.ensures (second c.put_long.ensures c.requires))
+
+pub put_long-requires-4 : goal.put_long-requires-4
+unfolding bytes_of halves
+put_long-requires-4 c =
+    first _ (second c.put_long-3.ensures (second c.put_long-2.ensures (second c.put_long.ensures c.requires)))
+
+pub put_long-requires-5 : goal.put_long-requires-5
+unfolding bytes_of halves
+put_long-requires-5 c =
+    first _ (second c.put_long-4.ensures (second c.put_long-3.ensures (second c.put_long-2.ensures (second c.put_long.ensures c.requires))))
+
+pub put_long-requires-6 : goal.put_long-requires-6
+unfolding bytes_of halves
+put_long-requires-6 c =
+    first _ (second c.put_long-5.ensures (second c.put_long-4.ensures (second c.put_long-3.ensures (second c.put_long-2.ensures (second c.put_long.ensures c.requires)))))
+
+pub put_long-requires-7 : goal.put_long-requires-7
+unfolding bytes_of halves
+put_long-requires-7 c =
+    first _ (second c.put_long-6.ensures (second c.put_long-5.ensures (second c.put_long-4.ensures (second c.put_long-3.ensures (second c.put_long-2.ensures (second c.put_long.ensures c.requires))))))
+
+pub put_long-requires-8 : goal.put_long-requires-8
+unfolding bytes_of halves
+put_long-requires-8 c =
+    second c.put_long-7.ensures (second c.put_long-6.ensures (second c.put_long-5.ensures (second c.put_long-4.ensures (second c.put_long-3.ensures (second c.put_long-2.ensures (second c.put_long.ensures c.requires))))))
 
 pub returns : goal.returns
 unfolding bytes_of halves
 returns c =
-    let measure = join (join c.put_long-at.ensures.put c.put_long-at-2.ensures.put) c.put_long-at-3.ensures.put in
-    let known = join (join measure c.put_long-at-4.ensures.put) c.put_long-at-5.ensures.put in
-    let all = join (join (join known c.put_long-at-6.ensures.put) c.put_long-at-7.ensures.put) c.put_long.ensures.put in
-    record { put = all; value = omega (arith, all.place) }
+    both c.put_long.ensures (both c.put_long-2.ensures (both c.put_long-3.ensures (both c.put_long-4.ensures (both c.put_long-5.ensures (both c.put_long-6.ensures (both c.put_long-7.ensures c.put_long-8.ensures))))))
