@@ -16,7 +16,7 @@ ghost use Rattle.leaping.specs.Ended.{Ended, Idled};
 
 use leaps::{Kept, Times, Way};
 use values::{Measure, TASK_LIMIT, Table};
-use walks::Course;
+use walks::{Course, Engine};
 
 // The jobs to be counted next in a search for a start: how far before the late deadline each is released.
 #[derive(Clone, Copy)]
@@ -125,4 +125,14 @@ pub fn walk(t: Table, m: Measure, budget: u64) -> Course
 {
     let end = budget.min(m.horizon);
     search(t, end, m.horizon - m.round, false)
+}
+
+// The engine.
+#[derive(Clone, Copy)]
+pub struct Leaping;
+
+impl Engine for Leaping {
+    fn walk(self, t: Table, m: Measure, budget: u64) -> Course {
+        crate::walk(t, m, budget)
+    }
 }
