@@ -4,12 +4,13 @@
 ghost use Rattle.std.specs.Prelude.{◌≡◌, ◌≤◌, Ok};
 ghost use Rattle.model.specs.Tasks.{judged};
 ghost use Rattle.model.specs.Verdict.{brief as briefly, Permitted};
-ghost use Rattle.walks.specs.Course.{Ends};
 ghost use Rattle.exact.specs.Concluded.{refused_by, overloaded, concluded};
 
+use leaping::Leaping;
+use plain::Plain;
 use slots::Numbers;
 use values::{Answer, Judgement, Measure, Outcome, Refusal, TASK_LIMIT, Table, Verdict};
-use walks::Course;
+use walks::Engine;
 
 fn brief(outcome: Outcome, measure: Measure, settled: u64) -> Answer
     ensures { result ≡ briefly outcome measure settled }
@@ -65,38 +66,26 @@ fn conclude(m: Measure, from: u64, asked: u64, at: u64, worst: Numbers, idle: u6
     }
 }
 
-fn walk(t: Table, m: Measure, budget: u64, plainly: bool) -> Course
-    requires t_value { judged t ≡ Ok m }
-    requires load_le_round { m.load ≤ m.round }
-    ensures { Ends t m budget result }
-{
-    if plainly {
-        plain::walk(t, m, budget)
-    } else {
-        leaping::walk(t, m, budget)
-    }
-}
-
 // The one permitted answer to a table that was judged.
-pub fn tested(t: Table, m: Measure, budget: u64, plainly: bool) -> Answer
+pub fn tested<E: Engine + Copy>(t: Table, m: Measure, budget: u64, engine: E) -> Answer
     requires { judged t ≡ Ok m }
     ensures { Permitted t budget result }
 {
     if m.round < m.load {
         return overload(m);
     }
-    let course = walk(t, m, budget, plainly);
+    let course = engine.walk(t, m, budget);
     let worst = course.worst;
     conclude(m, course.from, course.asked, course.at, worst, course.idle)
 }
 
-// The one permitted answer to any table and budget, by the plain engine or the leaping one.
-pub fn test(t: Table, budget: u64, plainly: bool) -> Answer
+// The one permitted answer to any table and budget, whichever engine walks.
+pub fn test<E: Engine + Copy>(t: Table, budget: u64, engine: E) -> Answer
     ensures { Permitted t budget result }
 {
     match table::judge(t) {
         Err(why) => refuse(why),
-        Ok(m) => tested(t, m, budget, plainly),
+        Ok(m) => tested(t, m, budget, engine),
     }
 }
 
@@ -111,7 +100,7 @@ pub fn by_both_engines(t: Table, budget: u64) -> Twice
     ensures { Permitted t budget result.leaping × (result.leaping ≡ result.plain) }
 {
     Twice {
-        leaping: test(t, budget, false),
-        plain: test(t, budget, true),
+        leaping: test(t, budget, Leaping),
+        plain: test(t, budget, Plain),
     }
 }

@@ -16,7 +16,7 @@ ghost use Rattle.leaping.specs.Ended.{Ended, Idled};
 
 use leaps::{Kept, Queue, Times, Way};
 use values::{Measure, TASK_LIMIT, Table};
-use walks::Course;
+use walks::{Course, Engine};
 
 // Of each task the last job that is due by then, by how far before it the job is released.
 fn last_jobs(t: Table, mark: &Times, to: u64) -> Queue
@@ -115,4 +115,14 @@ pub fn walk(t: Table, m: Measure, budget: u64) -> Course
 {
     let end = budget.min(m.horizon);
     search(t, end, m.horizon - m.round, false)
+}
+
+// The engine.
+#[derive(Clone, Copy)]
+pub struct Leaping;
+
+impl Engine for Leaping {
+    fn walk(self, t: Table, m: Measure, budget: u64) -> Course {
+        crate::walk(t, m, budget)
+    }
 }

@@ -8,7 +8,7 @@ ghost use Rattle.plain.specs.Noted.{noted_of};
 
 use slots::{NO_TASK, Numbers};
 use values::{Measure, TASK_LIMIT, Table};
-use walks::Course;
+use walks::{Course, Engine};
 
 // The response of the owner's job, if the slot finished it: a job released r slots ago waits T - r.
 fn note(worst: &mut Numbers, owner: u32, period: &Numbers, wait: &Numbers, left: &Numbers)
@@ -67,5 +67,15 @@ pub fn walk(t: Table, m: Measure, budget: u64) -> Course
         at,
         worst,
         idle,
+    }
+}
+
+// The engine.
+#[derive(Clone, Copy)]
+pub struct Plain;
+
+impl Engine for Plain {
+    fn walk(self, t: Table, m: Measure, budget: u64) -> Course {
+        crate::walk(t, m, budget)
     }
 }

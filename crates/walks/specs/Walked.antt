@@ -1,5 +1,5 @@
 -- A WALK BY SLOTS (`walked_next`): lists that `slots::serve` goes through are the dispatcher's without done reports, as long as no deadline is late.
-use Rattle.std.specs.Prelude.{◌≡◌, List, Option, Some, None, Bool, true, false, ℕ, suc, ◌-◌, ◌<◌, T, replicate}
+use Rattle.std.specs.Prelude.{◌≡◌, List, Option, Some, None, Bool, false, ℕ, suc, ◌-◌, ◌<◌, T, replicate}
 use Rattle.std.proofs.Math.Path.{refl}
 use Rattle.std.proofs.Common.{sym, subst, ◌∙◌, le_refl, arith, le-ltb}
 use Rattle.std.proofs.Math.Nat.{le_step}
