@@ -12,7 +12,9 @@ ghost use Rattle.model.specs.AnswerBuffer.{answer_bytes, numbers_written, Answer
 ghost use Rattle.report.specs.Put.{exported};
 ghost use Rattle.checkcalls.specs.Outcomes.{refused_by, answered, told_of, FileFound, TableFound};
 
+use leaping::Leaping;
 use values::{ANSWER_BYTES, Answer, Fault, REPORT_BYTES, Refusal, Table};
+use walks::Engine;
 
 // What a check finds of a file: an answer, which may be a refusal, to so many tasks, which the quick test passes or not.
 #[derive(Clone, Copy)]
@@ -34,7 +36,7 @@ fn refuse(why: Refusal) -> FileAnswer
 }
 
 // The table is judged once, for the test and for the quick test.
-fn check_table(t: Table, budget: u64, plainly: bool) -> FileAnswer
+fn check_table<E: Engine + Copy>(t: Table, budget: u64, engine: E) -> FileAnswer
     ensures table_found { TableFound t budget result (judged t) }
     ensures tasks_le_task_limit { result.tasks ≤ task_limit }
 {
@@ -43,19 +45,19 @@ fn check_table(t: Table, budget: u64, plainly: bool) -> FileAnswer
         Ok(m) => FileAnswer {
             tasks: t.count,
             quick: quick::passes(t, m),
-            answer: exact::tested(t, m, budget, plainly),
+            answer: exact::tested(t, m, budget, engine),
         },
     }
 }
 
-fn check_file(file: &[u8], plainly: bool) -> FileAnswer
+fn check_file<E: Engine + Copy>(file: &[u8], engine: E) -> FileAnswer
     ensures file_found { FileFound (file_read file.now) result (file_read file.now).admission }
     ensures tasks_le_task_limit { result.tasks ≤ task_limit }
 {
     let form = tablefile::form_of(file);
     match form.admission {
         Err(why) => refuse(why),
-        Ok(()) => check_table(form.table, form.budget, plainly),
+        Ok(()) => check_table(form.table, form.budget, engine),
     }
 }
 
@@ -90,13 +92,13 @@ fn export_numbers(found: FileAnswer, buffer: &mut [u8]) -> u64
 }
 
 // Any file and any buffer: the buffer is looked at before the file.
-pub fn check(file: &[u8], report: &mut [u8], plainly: bool) -> u64
+pub fn check<E: Engine + Copy>(file: &[u8], report: &mut [u8], engine: E) -> u64
     ensures { Checked file.now report.old (exported result report.new) }
 {
     if report.len() < REPORT_BYTES {
         return numbers::refusal_number(numbers::refusal_at(Fault::ShortReport, report.len()));
     }
-    let found = check_file(file, plainly);
+    let found = check_file(file, engine);
     export_report(found, report)
 }
 
@@ -107,7 +109,7 @@ pub fn answer(file: &[u8], buffer: &mut [u8]) -> u64
     if buffer.len() < ANSWER_BYTES {
         return numbers::refusal_number(numbers::refusal_at(Fault::ShortReport, buffer.len()));
     }
-    let found = check_file(file, false);
+    let found = check_file(file, Leaping);
     export_numbers(found, buffer)
 }
 

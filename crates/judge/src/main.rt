@@ -8,6 +8,7 @@ ghost use Rattle.model.specs.Report.{report_of, written, outcome_told, refusal_l
 ghost use Rattle.report.specs.Put.{exported};
 ghost use Rattle.judge.specs.Front.{TablePrinted};
 
+use leaping::Leaping;
 use values::{Admission, Answer, Judgement, LONGEST_FILE, Outcome, REPORT_BYTES, Table};
 
 const STDIN_FILENO: i32 = 0;
@@ -42,7 +43,7 @@ fn judge_table(t: Table, budget: u64, output: &mut [u8]) -> usize
     match table::judge(t) {
         Err(why) => report::write_refusal(output, why),
         Ok(m) => {
-            let answer = exact::tested(t, m, budget, false);
+            let answer = exact::tested(t, m, budget, Leaping);
             let quick = quick::passes(t, m);
             write_outcome(output, t.count, quick, answer, answer.outcome)
         }

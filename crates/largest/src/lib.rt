@@ -9,6 +9,7 @@ ghost use Rattle.model.specs.Verdict.{verdict};
 ghost use Rattle.model.specs.Largest.{with_cost, passes_with, largest_cost, cost_told, cost_answer};
 
 pub use changes::with_cost;
+use leaping::Leaping;
 use values::{Fault, Judgement, LargestCost, Limit, Measure, Outcome, Refusal, Table, Verdict};
 
 // More of one task's cost adds to the load, and moves neither H nor the horizon.
@@ -34,7 +35,7 @@ fn verdict_on(t: Table, m: Measure, budget: u64) -> Verdict
     if m.horizon <= budget && quick::passes(t, m) {
         return Verdict::Passes;
     }
-    let answer = exact::tested(t, m, budget, false);
+    let answer = exact::tested(t, m, budget, Leaping);
     let outcome = answer.outcome;
     match outcome {
         Err(_) => Verdict::Undecided,

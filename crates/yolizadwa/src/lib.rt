@@ -14,11 +14,14 @@ ghost use Rattle.model.specs.Easing.{eased_exported};
 ghost use Rattle.model.specs.Largest.{largest_exported};
 ghost use Rattle.model.specs.Room.{room_exported};
 
+use leaping::Leaping;
+use plain::Plain;
+
 #[unsafe(no_mangle)]
 pub extern "C" fn yolizadwa_check(file: &[u8], report: &mut [u8]) -> u64
     ensures { Checked file.now report.old (record { number = result; buffer = report.new }) }
 {
-    checkcalls::check(file, report, false)
+    checkcalls::check(file, report, Leaping)
 }
 
 // The same by the plain engine, slot by slot.
@@ -26,7 +29,7 @@ pub extern "C" fn yolizadwa_check(file: &[u8], report: &mut [u8]) -> u64
 pub extern "C" fn yolizadwa_check_plainly(file: &[u8], report: &mut [u8]) -> u64
     ensures { Checked file.now report.old (record { number = result; buffer = report.new }) }
 {
-    checkcalls::check(file, report, true)
+    checkcalls::check(file, report, Plain)
 }
 
 // The same answer as numbers.
