@@ -10,7 +10,7 @@ ghost use Rattle.wellformed.specs.Ranges.{Ranged};
 ghost use Rattle.slots.specs.Columns.{column};
 
 use slots::Numbers;
-use values::{ByDistance, DistanceAnswer, Judgement, Measure, Table, Task, TASK_LIMIT};
+use values::{ByDistance, DistanceAnswer, Judgement, Measure, TASK_LIMIT, Table, Task};
 
 fn difference(a: u32, b: u32) -> i64
     ensures { result ≡ pos a -ℤ pos b }

@@ -49,7 +49,8 @@ module _ {t : Table} {period cost deadline releases ready left worst : List ℕ}
       }
 
   -- Where the walk goes on, it does so from the landing.
-  pub here_next : {releases' ready' left' worst' : List ℕ} {jobs' : ℕ} {y : Landed} → Landing t x.time end releases' ready' left' worst' jobs' y → is_over y.way ≡ false
+  pub here_next : {releases' ready' left' worst' : List ℕ} {jobs' : ℕ} {y : Landed} → Landing t x.time end releases' ready' left' worst' jobs' y
+      → is_over y.way ≡ false
       → Here t period cost deadline releases' ready' left' worst' jobs' end y
   here_next z e =
       record {

@@ -42,7 +42,17 @@ loop-i-preserved c =
     elim c.if-due-gt0.branch [
       | then-due-gt0 w ↦ (
         rw (w.queue-is, w.insert.ensures.len) (omega (arith, v.0)),
-        rw (w.queue-is, w.insert.ensures.entries, w.insert.ensures.len, w.entry.ensures, w.from-first.ensures, w.offset_of.ensures, w.from.ensures, e, c.requires.marked c.loop-i.i l)
+        rw (
+          w.queue-is,
+          w.insert.ensures.entries,
+          w.insert.ensures.len,
+          w.entry.ensures,
+          w.from-first.ensures,
+          w.offset_of.ensures,
+          w.from.ensures,
+          e,
+          c.requires.marked c.loop-i.i l,
+        )
             (lasts_more _ c.requires.ranged _ c.loop-i.i l v.1 (c.jobs_in-due.result - 1) (omega (arith, enough, w.if-due-gt0.true))
             (omega (arith, v.0, l, c.requires.ranged.few))),
       )

@@ -17,7 +17,8 @@ use Rattle.leaps.specs.Kept.{here_in, landing_of}
 use Rattle.leaps.proofs.Leaping.{leaping_start, here_next}
 use Rattle.leaping.specs.Start.{searching_start, some_left, asked_le, task_lt, length_in, found, goes_on}
 use Rattle.leaping.specs.Ended.{late_ended, quiet_ended, idled}
-use Rattle.leaping.proofs.search.Goals.{then-idling, else-idling+in_default, else-idling+in-Late+then-length-count, After-leap-here, After-task_of-i, After-time_of-length, At-loop-count, At-search}
+use Rattle.leaping.proofs.search.Goals.{then-idling, else-idling+in_default, else-idling+in-Late+then-length-count}
+use Rattle.leaping.proofs.search.Goals.{After-leap-here, After-task_of-i, After-time_of-length, At-loop-count, At-search}
 use Rattle.leaping.proofs.search.Goals as goal
 
 not_late : (way : Way) → (way ≡ Way.Late → ⊥) → is_late way ≡ false
@@ -29,7 +30,8 @@ not_late Way.Late h = absurd (h refl)
 busy : (c : At-loop-count) → 0 < c.loop-count.queue.len
 busy c =
     let h = c.search.invariant.0 in
-    some_left _ h.ranged _ c.loop-count.invariant ((landing_of _ c.unpack-columns.ensures c.leap-here.new.kept c.leap-here.ensures).0.late (ap is_late c.in-Late.is))
+    some_left _ h.ranged _ c.loop-count.invariant
+    ((landing_of _ c.unpack-columns.ensures c.leap-here.new.kept c.leap-here.ensures).0.late (ap is_late c.in-Late.is))
 
 pub first_releases-requires : goal.first_releases-requires
 first_releases-requires c =
@@ -54,7 +56,15 @@ leap-here-requires c = let i = c.search.invariant in here_in _ c.unpack-columns.
 pub last_jobs-queue-requires : goal.last_jobs-queue-requires
 last_jobs-queue-requires c =
     let i = c.search.invariant in
-    record { ranged = i.0.ranged; marked = marked _ i.0.ranged.few c.unpack-columns.ensures; to_le_horizon_limit = omega (arith, (landing_of _ c.unpack-columns.ensures c.leap-here.new.kept c.leap-here.ensures).0.upto, i.0.limit) }
+    record {
+      ranged = i.0.ranged;
+      marked = marked _ i.0.ranged.few c.unpack-columns.ensures;
+      to_le_horizon_limit = omega (
+        arith,
+        (landing_of _ c.unpack-columns.ensures c.leap-here.new.kept c.leap-here.ensures).0.upto,
+        i.0.limit,
+      );
+    }
 
 pub loop-count-init : goal.loop-count-init
 loop-count-init c = searching_start _ c.search.invariant.0.ranged _ c.last_jobs-queue.ensures

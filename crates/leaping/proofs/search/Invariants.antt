@@ -13,7 +13,8 @@ decreases-loop-count l = l.at - l.count
 
 abbrev pub invariant-search : goal.invariant-search
 invariant-search l =
-    Here l.t l.columns.period l.columns.cost l.columns.deadline l.kept.releases.entries l.kept.ready.entries l.kept.left l.kept.worst l.kept.ready.len l.end l.here
+    Here l.t l.columns.period l.columns.cost l.columns.deadline l.kept.releases.entries l.kept.ready.entries l.kept.left l.kept.worst
+    l.kept.ready.len l.end l.here
     × (l.kept.releases.len ≡ l.t.count) × (l.asked ≡ 0) × (l.at ≡ l.end)
 
 abbrev pub decreases-search : goal.decreases-search

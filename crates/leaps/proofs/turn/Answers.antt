@@ -73,7 +73,11 @@ returns-then-end-soon c =
       rw c.stop-then-end-soon.ensures
           (stops _ y.ranged y.light y.clear y.held y.tally (soon at.After-time_of-soon) y.before (busy at.After-task_of-i)
           (task_is at.After-task_of-i) (due_is at.After-time_of-due) refl
-          (inr (omega (arith, c.if-end-soon.true, c.if-soon-done.true), omega (arith, c.if-end-soon.true), omega (arith, c.if-end-soon.true, c.if-due-soon.false)))),
+          (inr (
+            omega (arith, c.if-end-soon.true, c.if-soon-done.true),
+            omega (arith, c.if-end-soon.true),
+            omega (arith, c.if-end-soon.true, c.if-due-soon.false),
+          ))),
       c.requires.1,
     )
 
@@ -106,7 +110,11 @@ returns-then-end-done c =
       rw c.stop-then-end-done.ensures
           (stops _ y.ranged y.light y.clear y.held y.tally (soon at.After-time_of-soon) y.before (busy at.After-task_of-i)
           (task_is at.After-task_of-i) (due_is at.After-time_of-due) refl
-          (inr (omega (arith, c.if-end-done.true), omega (arith, c.if-end-done.true, c.if-soon-done.false), omega (arith, c.if-end-done.true, c.if-due-done.false)))),
+          (inr (
+            omega (arith, c.if-end-done.true),
+            omega (arith, c.if-end-done.true, c.if-soon-done.false),
+            omega (arith, c.if-end-done.true, c.if-due-done.false),
+          ))),
       c.requires.1,
     )
 
