@@ -9,7 +9,7 @@ ghost use Rattle.belonging.specs.Strange.{strange_at};
 ghost use Rattle.belonging.specs.Room.{room_for, belonging};
 
 use slots::NO_TASK;
-use values::{Fault, Refusal, SLOT_COUNT_LIMIT, State, Table, Task, TASK_LIMIT};
+use values::{Fault, Refusal, SLOT_COUNT_LIMIT, State, TASK_LIMIT, Table, Task};
 
 // The place of 8 for a state that counts more slots than it can.
 const SUM_PLACE: u32 = NO_TASK + 1;

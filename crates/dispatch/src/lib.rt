@@ -17,7 +17,7 @@ ghost use Rattle.dispatch.specs.Step.{Unrefused, Advanced, taken, step_well_form
 use belonging::Counts;
 use slots::columns::Columns;
 use slots::{NO_TASK, Numbers};
-use values::{Admission, Fault, Refusal, SlotAnswer, State, Table, TASK_LIMIT, Turn};
+use values::{Admission, Fault, Refusal, SlotAnswer, State, TASK_LIMIT, Table, Turn};
 
 #[derive(Clone, Copy)]
 pub struct Dispatcher {

@@ -51,17 +51,19 @@ pub next_fits : (w : List ℕ) (i : ℕ) {old between : Out} → i < length w �
     → Fits (bytes_of (two_words (get_or w i 0))) between
 next_fits w i {old} h p f =
     let these : Fits (bytes_of (halves (take i w)) ++ bytes_of (two_words (get_or w i 0))) old =
-    record { room = omega (
-      arith,
-      f.room,
-      bytes_length (halves w),
-      halves_length w,
-      bytes_length (halves (take i w)),
-      halves_length (take i w),
-      length-take-le i w (omega arith),
-      bytes_length (two_words (get_or w i 0)),
-      length-append (bytes_of (halves (take i w))) (bytes_of (two_words (get_or w i 0))),
-    ) } in
+    record {
+      room = omega (
+        arith,
+        f.room,
+        bytes_length (halves w),
+        halves_length w,
+        bytes_length (halves (take i w)),
+        halves_length (take i w),
+        length-take-le i w (omega arith),
+        bytes_length (two_words (get_or w i 0)),
+        length-append (bytes_of (halves (take i w))) (bytes_of (two_words (get_or w i 0))),
+      );
+    } in
     second p these
 
 pub next_count : (w : List ℕ) (i : ℕ) {old between new : Out} → i < length w → Puts (bytes_of (halves (take i w))) old between

@@ -41,14 +41,16 @@ pub next_fits : (w : List ℕ) (i : ℕ) {old between : Out} → i < length w �
     → Fits (word_bytes (get_or w i 0)) between
 next_fits w i {old} h p f =
     let these : Fits (bytes_of (take i w) ++ word_bytes (get_or w i 0)) old =
-    record { room = omega (
-      arith,
-      f.room,
-      bytes_length w,
-      bytes_length (take i w),
-      length-take-le i w (omega arith),
-      length-append (bytes_of (take i w)) (word_bytes (get_or w i 0)),
-    ) } in
+    record {
+      room = omega (
+        arith,
+        f.room,
+        bytes_length w,
+        bytes_length (take i w),
+        length-take-le i w (omega arith),
+        length-append (bytes_of (take i w)) (word_bytes (get_or w i 0)),
+      );
+    } in
     second p these
 
 pub next_word : (w : List ℕ) (i : ℕ) {old between new : Out} → i < length w → Puts (bytes_of (take i w)) old between
