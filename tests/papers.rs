@@ -299,7 +299,8 @@ pub fn layers(bench: &mut Bench) {
     }
     for (home, function) in functions_told(words) {
         let code = files_below(Path::new(&format!("crates/{home}/src")), ".rt");
-        let there = code.iter().any(|file| read(&file.to_string_lossy()).contains(&format!("fn {function}(")));
+        let heads = [format!("fn {function}("), format!("fn {function}<")];
+        let there = code.iter().map(|file| read(&file.to_string_lossy())).any(|text| heads.iter().any(|head| text.contains(head)));
         bench.count(there, || format!("{ARCHITECTURE} names {home}::{function}, which is not there"));
     }
     bench.end_group("layers, and what their paper names");

@@ -1,5 +1,6 @@
 -- THE FIRST ENTRIES OF A LIST (`first_taken`): what holds of their numbers, in the words of the library for the list that they make.
-use Rattle.std.proofs.Common.{◌≡◌, ◌∙◌, ap, refl, ℕ, zero, suc, ◌+◌, ◌≤◌, ◌<◌, List, [], ◌∷◌, length, get_or, take, drop, Bool, true, false, ◌↔◌, arith, Some, None}
+use Rattle.std.proofs.Common.{◌≡◌, ◌∙◌, ap, refl, ℕ, zero, suc, ◌+◌, ◌≤◌, ◌<◌, List, [], ◌∷◌, length, get_or, take}
+use Rattle.std.proofs.Common.{drop, Bool, true, false, ◌↔◌, arith, Some, None}
 use Rattle.std.proofs.Common.{ltb-true, ltb-false}
 use Rattle.std.proofs.Math.Dec.{T, ltb}
 use Rattle.std.specs.List.{position, position_or_len, prefix_len, list_all, list_any}

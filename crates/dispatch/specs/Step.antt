@@ -1,5 +1,6 @@
 -- A step by what the slot's rules make of the lists.
-use Rattle.std.specs.Prelude.{◌≡◌, refl, ◌⊎◌, List, Option, Some, None, IsSome, Bool, true, false, cond, ◌&&◌, ℕ, ◌+◌, ◌-◌, ◌<◌, T, ltb, eqb, length, get_or, Ok}
+use Rattle.std.specs.Prelude.{◌≡◌, refl, ◌⊎◌, List, Option, Some, None, IsSome, Bool, true, false, cond, ◌&&◌, ℕ, ◌+◌}
+use Rattle.std.specs.Prelude.{◌-◌, ◌<◌, T, ltb, eqb, length, get_or, Ok}
 use Rattle.std.proofs.Common.{sym, subst, ◌∙◌, arith, le-ltb}
 use Rattle.std.proofs.Math.Path.{ap}
 use Rattle.std.proofs.Math.Logic.{inl, inr}

@@ -1,7 +1,8 @@
 -- Tables in plain text: for any bytes the refusal, or the budget and the tasks;
 -- the text of a budget and tasks; the exported calls.
 use Rattle.values.specs.declared.Entry.{Entry}
-use Rattle.std.specs.Prelude.{List, [], ◌∷◌, ◌++◌, Bool, true, false, cond, ◌&&◌, ◌||◌, ℕ, zero, suc, ◌+◌, ◌-◌, ◌*◌, min, leb, ltb, eqb, get_or, length, take, Ok, Err}
+use Rattle.std.specs.Prelude.{List, [], ◌∷◌, ◌++◌, Bool, true, false, cond, ◌&&◌, ◌||◌, ℕ, zero, suc, ◌+◌, ◌-◌, ◌*◌}
+use Rattle.std.specs.Prelude.{min, leb, ltb, eqb, get_or, length, take, Ok, Err}
 use Rattle.model.specs.Notation.{text, decimal}
 use Rattle.model.specs.Values.{Sort, Task, Table, Contents, Admission, Line}
 use Rattle.model.specs.Limits.{task_limit, word_limit, budget_limit}

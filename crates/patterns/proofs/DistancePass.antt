@@ -44,7 +44,8 @@ pub distance_case : (t : Table) (j : Judgement) → distance_judged t j ≡ Ok B
 distance_case t (Err r) e = let z : ◌≡◌ {A = ℕ} 0 1 = cc in absurd (omega arith)
 distance_case t (Ok m) e = ((m, refl), go (light t) (distance_pass t) e)
   where
-    go : (a b : Bool) → ◌≡◌ {A = DistanceAnswer} (cond a (cond b (Ok ByDistance.Pass) (Ok ByDistance.NoAnswer)) (Ok ByDistance.Overload)) (Ok ByDistance.Pass) → T b
+    go : (a b : Bool) → ◌≡◌ {A = DistanceAnswer}
+        (cond a (cond b (Ok ByDistance.Pass) (Ok ByDistance.NoAnswer)) (Ok ByDistance.Overload)) (Ok ByDistance.Pass) → T b
     go true true e = tt
     go true false e = let z : ◌≡◌ {A = ℕ} 0 1 = cc in absurd (omega arith)
     go false b e = let z : ◌≡◌ {A = ℕ} 0 1 = cc in absurd (omega arith)

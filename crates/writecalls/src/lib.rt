@@ -22,10 +22,10 @@ fn told(said: Writing) -> u64
 pub fn write_rows(words: &[u32], budget: u64, file: &mut [u8]) -> u64
     ensures { record { number = result; buffer = file.new } ≡ write_exported words.now budget file.old }
 {
-    told(rows_written(words, budget, file))
+    told(write_on(words, budget, file))
 }
 
-fn rows_written(words: &[u32], budget: u64, file: &mut [u8]) -> Writing
+fn write_on(words: &[u32], budget: u64, file: &mut [u8]) -> Writing
     ensures { fill_told file.new result ≡ write_exported words.now budget file.old }
 {
     if rows::broken(words.len()) {

@@ -32,19 +32,23 @@ put_long-requires-5 c =
 pub put_long-requires-6 : goal.put_long-requires-6
 unfolding bytes_of halves
 put_long-requires-6 c =
-    first _ (second c.put_long-5.ensures (second c.put_long-4.ensures (second c.put_long-3.ensures (second c.put_long-2.ensures (second c.put_long.ensures c.requires)))))
+    first _ (second c.put_long-5.ensures (second c.put_long-4.ensures (second c.put_long-3.ensures (second c.put_long-2.ensures
+    (second c.put_long.ensures c.requires)))))
 
 pub put_long-requires-7 : goal.put_long-requires-7
 unfolding bytes_of halves
 put_long-requires-7 c =
-    first _ (second c.put_long-6.ensures (second c.put_long-5.ensures (second c.put_long-4.ensures (second c.put_long-3.ensures (second c.put_long-2.ensures (second c.put_long.ensures c.requires))))))
+    first _ (second c.put_long-6.ensures (second c.put_long-5.ensures (second c.put_long-4.ensures (second c.put_long-3.ensures
+    (second c.put_long-2.ensures (second c.put_long.ensures c.requires))))))
 
 pub put_long-requires-8 : goal.put_long-requires-8
 unfolding bytes_of halves
 put_long-requires-8 c =
-    second c.put_long-7.ensures (second c.put_long-6.ensures (second c.put_long-5.ensures (second c.put_long-4.ensures (second c.put_long-3.ensures (second c.put_long-2.ensures (second c.put_long.ensures c.requires))))))
+    second c.put_long-7.ensures (second c.put_long-6.ensures (second c.put_long-5.ensures (second c.put_long-4.ensures
+    (second c.put_long-3.ensures (second c.put_long-2.ensures (second c.put_long.ensures c.requires))))))
 
 pub returns : goal.returns
 unfolding bytes_of halves
 returns c =
-    both c.put_long.ensures (both c.put_long-2.ensures (both c.put_long-3.ensures (both c.put_long-4.ensures (both c.put_long-5.ensures (both c.put_long-6.ensures (both c.put_long-7.ensures c.put_long-8.ensures))))))
+    both c.put_long.ensures (both c.put_long-2.ensures (both c.put_long-3.ensures (both c.put_long-4.ensures
+    (both c.put_long-5.ensures (both c.put_long-6.ensures (both c.put_long-7.ensures c.put_long-8.ensures))))))

@@ -15,7 +15,8 @@ use Rattle.cameracalls.proofs.start_on.Goals as goal
 go : (c : After-table_for) → Table → Exported
 go c t = let s = started t (state_in c.args.state.now) in start_written c.args.state.now s.state s.admission
 
-by : (c : After-table_for) → ◌≡◌ {A = Exported} (start_exported c.args.file.now c.args.state.now) (elim c.table_for.result [ Err r ↦ refused r c.args.state.now | Ok t ↦ go c t ])
+by : (c : After-table_for) → ◌≡◌ {A = Exported} (start_exported c.args.file.now c.args.state.now)
+    (elim c.table_for.result [ Err r ↦ refused r c.args.state.now | Ok t ↦ go c t ])
 unfolding go
 by c = on_table state_bytes c.args.file.now c.args.state.now c.table_for.result c.table_for.ensures (go c)
 
@@ -34,8 +35,25 @@ pub returns-in_err-started : goal.returns-in_err-started
 unfolding go
 returns-in_err-started c =
     let p = err_from_is_err_and c.from_residual-in_err-started.result c.from_residual-in_err-started.ensures.1 in
-    rw (p.1, p.2, by (goal.at.returns-in_err-started c).After-table_for, c.in_ok-table.was, ← c.state_in-held.ensures, ← c.start-started.ensures, c.in_err-started.was)
+    rw (
+      p.1,
+      p.2,
+      by (goal.at.returns-in_err-started c).After-table_for,
+      c.in_ok-table.was,
+      ← c.state_in-held.ensures,
+      ← c.start-started.ensures,
+      c.in_err-started.was,
+    )
 
 pub returns : goal.returns
 unfolding go
-returns c = rw (by (goal.at.returns c).After-table_for, c.in_ok-table.was, ← c.state_in-held.ensures, ← c.start-started.ensures, c.in_ok-started.was, c.write_state.ensures, c.quiet.ensures)
+returns c =
+    rw (
+      by (goal.at.returns c).After-table_for,
+      c.in_ok-table.was,
+      ← c.state_in-held.ensures,
+      ← c.start-started.ensures,
+      c.in_ok-started.was,
+      c.write_state.ensures,
+      c.quiet.ensures,
+    )

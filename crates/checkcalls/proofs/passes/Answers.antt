@@ -15,4 +15,6 @@ as_number false = refl
 
 pub returns : goal.returns
 unfolding text
-returns c = rw (le-leb _ _ c.if-report-gt-REPORT_BYTES.false, c.from.ensures, c.has_line.ensures) (as_number (has_line (text "verdict passes") (lines_of c.args.report.now)))
+returns c =
+    rw (le-leb _ _ c.if-report-gt-REPORT_BYTES.false, c.from.ensures, c.has_line.ensures)
+    (as_number (has_line (text "verdict passes") (lines_of c.args.report.now)))

@@ -16,9 +16,12 @@ use Rattle.presscalls.proofs.step_on.Goals as goal
 
 -- What the call comes to, by the table that was found.
 go : (c : After-table_for) → Table → Exported
-go c t = let s = stepped_pressed t (state_in c.args.state.now) (not (eqb c.args.done 0)) c.args.pressed in press_written c.args.state.now s.state s.untaken s.answer
+go c t =
+    let s = stepped_pressed t (state_in c.args.state.now) (not (eqb c.args.done 0)) c.args.pressed in
+    press_written c.args.state.now s.state s.untaken s.answer
 
-by : (c : After-table_for) → ◌≡◌ {A = Exported} (press_step_exported c.args.file.now c.args.state.now c.args.done c.args.pressed) (elim c.table_for.result [ Err r ↦ refused r c.args.state.now | Ok t ↦ go c t ])
+by : (c : After-table_for) → ◌≡◌ {A = Exported} (press_step_exported c.args.file.now c.args.state.now c.args.done c.args.pressed)
+    (elim c.table_for.result [ Err r ↦ refused r c.args.state.now | Ok t ↦ go c t ])
 unfolding go
 by c = on_table state_bytes c.args.file.now c.args.state.now c.table_for.result c.table_for.ensures (go c)
 
@@ -37,8 +40,27 @@ pub returns-in_err-turn : goal.returns-in_err-turn
 unfolding go
 returns-in_err-turn c =
     let p = err_from_is_err_and c.from_residual-in_err-turn.result c.from_residual-in_err-turn.ensures.1 in
-    rw (p.1, p.2, by (goal.at.returns-in_err-turn c).After-table_for, c.in_ok-table.was, ← c.state_in-held.ensures, ← c.said_done.ensures, ← c.step-stepped.ensures, c.in_err-turn.was)
+    rw (
+      p.1,
+      p.2,
+      by (goal.at.returns-in_err-turn c).After-table_for,
+      c.in_ok-table.was,
+      ← c.state_in-held.ensures,
+      ← c.said_done.ensures,
+      ← c.step-stepped.ensures,
+      c.in_err-turn.was,
+    )
 
 pub returns : goal.returns
 unfolding go
-returns c = rw (by (goal.at.returns c).After-table_for, c.in_ok-table.was, ← c.state_in-held.ensures, ← c.said_done.ensures, ← c.step-stepped.ensures, c.in_ok-turn.was, c.write_state.ensures, c.told.ensures)
+returns c =
+    rw (
+      by (goal.at.returns c).After-table_for,
+      c.in_ok-table.was,
+      ← c.state_in-held.ensures,
+      ← c.said_done.ensures,
+      ← c.step-stepped.ensures,
+      c.in_ok-turn.was,
+      c.write_state.ensures,
+      c.told.ensures,
+    )

@@ -10,7 +10,8 @@ use Rattle.model.specs.Tasks.{task, task_fault, no_task, first_faulty, judged_mi
 use Rattle.counting.specs.Search.{first_is}
 use Rattle.wellformed.specs.Ranges.{faulty, faultless, marked}
 use Rattle.wellformed.specs.WellFormed.{mixed_long}
-use Rattle.table.specs.Survey.{Read, range_refused, kept_ranges, left_range, no_button, read_none, read_button, read_on, read_ranged, read_kept, read_long, read_first}
+use Rattle.table.specs.Survey.{Read, range_refused, kept_ranges, left_range, no_button, read_none, read_button, read_on}
+use Rattle.table.specs.Survey.{read_ranged, read_kept, read_long, read_first}
 use Rattle.table.proofs.survey.Goals.{then-is_none+then-is_button, else-is_none}
 use Rattle.table.proofs.survey.Goals.{else-is_none-via-then-is_none+else-is_button, else-is_none-via-else-is_none}
 use Rattle.table.proofs.survey.Goals.{After-check_ranges, After-from, After-loop-i}
@@ -71,7 +72,8 @@ loop-i-preserved c =
       | else-is_none w ↦
           rw w.button-is (on (λ q h. elim w.else-is_none.branch [
             | else-is_none-via-then-is_none+else-is_button v ↦ rw (← listed, ← v.is_button.ensures, v.if-is_button.false) at h
-            | else-is_none-via-else-is_none v ↦ (let z : ◌≡◌ {A = ℕ} 0 1 = (let some = rw (q, v.if-is_none.false) at c.is_none.ensures in cc) in absurd (omega arith))
+            | else-is_none-via-else-is_none v ↦ (let z : ◌≡◌ {A = ℕ} 0 1 =
+                (let some = rw (q, v.if-is_none.false) at c.is_none.ensures in cc) in absurd (omega arith))
           ]))
     ]
 

@@ -1,7 +1,7 @@
 -- The rows decide first.
 use mathlib.Core.Path.{sym, ◌∙◌}
 use borrow.Author.Tests.{lt-ltb, le-ltb}
-use Rattle.writecalls.proofs.rows_written.Goals as goal
+use Rattle.writecalls.proofs.write_on.Goals as goal
 
 pub returns-then-broken : goal.returns-then-broken
 returns-then-broken c =
