@@ -19,9 +19,10 @@ pub fn start(file: &[u8], state: &mut [u8]) -> u64
 fn start_on(file: &[u8], state: &mut [u8]) -> Result<u64, Refusal>
     ensures { exported (told_number result) state.new ≡ start_exported file.now state.old }
 {
-    let table = numbers::table_for(file, STATE_BYTES, state.len())?;
+    let form = numbers::form_for(file, STATE_BYTES, state.len());
+    form.admission?;
     let held = statebuffer::state_in(state);
-    let started = Dispatcher { state: held }.start(table);
+    let started = Dispatcher { state: held }.start(form.table);
     started.admission?;
     statebuffer::write_state(state, started.dispatcher.state, statebuffer::quiet());
     Ok(0)
@@ -43,9 +44,10 @@ pub fn step(file: &[u8], state: &mut [u8], done: u32) -> u64
 fn step_on(file: &[u8], state: &mut [u8], done: u32) -> Result<u64, Refusal>
     ensures { exported (told_number result) state.new ≡ step_exported file.now state.old done }
 {
-    let table = numbers::table_for(file, STATE_BYTES, state.len())?;
+    let form = numbers::form_for(file, STATE_BYTES, state.len());
+    form.admission?;
     let held = statebuffer::state_in(state);
-    let stepped = Dispatcher { state: held }.step(table, said_done(done));
+    let stepped = Dispatcher { state: held }.step(form.table, said_done(done));
     let turn = stepped.answer?;
     statebuffer::write_state(state, stepped.next.state, turn);
     Ok(u64::from(turn.owner))

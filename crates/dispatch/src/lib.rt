@@ -1,7 +1,7 @@
 // The dispatcher: a start on any table, and a step on any table and any state.
 #![tactic(auto)]
 
-ghost use Rattle.std.specs.Prelude.{◌≡◌, cond, ◌+◌, ◌<◌, ◌≤◌, eqb, get_or};
+ghost use Rattle.std.specs.Prelude.{◌≡◌, List, ℕ, cond, ◌+◌, ◌<◌, ◌≤◌, eqb, get_or};
 ghost use Rattle.values.specs.declared.Table.{Table};
 ghost use Rattle.model.specs.Limits.{task_limit, slot_count_limit};
 ghost use Rattle.model.specs.Notation.{bit};
@@ -12,7 +12,7 @@ ghost use Rattle.slots.specs.Columns.{Unpacked};
 ghost use Rattle.slots.specs.Slot.{closed};
 ghost use Rattle.dispatch.specs.State.{started_of, stepped_of};
 ghost use Rattle.dispatch.specs.Accounts.{counted};
-ghost use Rattle.dispatch.specs.Step.{Unrefused, Advanced, taken, step_well_formed, turn_of};
+ghost use Rattle.dispatch.specs.Step.{Unrefused, state_with, Advanced, taken, step_well_formed, turn_of};
 
 use belonging::Counts;
 use slots::columns::Columns;
@@ -38,6 +38,7 @@ pub struct Stepped {
 
 impl Dispatcher {
     // A refusal hands the state back as it came, here and by a step.
+    #[inline(always)]
     pub fn start(self, t: Table) -> Started
         ensures { started_of result ≡ started t self.state }
     {
@@ -67,6 +68,7 @@ impl Dispatcher {
 }
 
 // Nothing is given yet.
+#[inline(always)]
 pub fn first_state(t: Table) -> State
     requires { t.count ≤ task_limit }
     ensures { result ≡ start_of t }
@@ -148,14 +150,27 @@ pub struct Moved {
     pub late: u32,
 }
 
-// The four rules on the lists alone: what is counted plays no part in them. Once the late jobs are closed, the slot meets none.
 pub fn advance(d: State, columns: &Columns, done: bool) -> Moved
     requires { (t : Table) × Unpacked t columns.now × Unrefused t d }
     ensures { (t : Table) → Unpacked t columns.now → Unrefused t d → Advanced t d done result }
 {
-    let mut wait = d.wait;
-    let mut left = d.left;
-    hear_report(&mut left, d.last, done);
+    advance_lists(d.wait, d.left, d.last, columns, done)
+}
+
+// The four rules on the lists alone: what is counted plays no part in them. Once the late jobs are closed, the slot meets none.
+pub fn advance_lists(
+    waits: Numbers,
+    lefts: Numbers,
+    last: u32,
+    columns: &Columns,
+    done: bool,
+) -> Moved
+    requires { (t : Table) × (given : List ℕ) × (empty : ℕ) × Unpacked t columns.now × Unrefused t (state_with waits lefts last given empty) }
+    ensures { (t : Table) (given : List ℕ) (empty : ℕ) → Unpacked t columns.now
+        → Unrefused t (state_with waits lefts last given empty) → Advanced t (state_with waits lefts last given empty) done result }
+{
+    let mut wait = waits;
+    let mut left = after_report(lefts, last, done);
     let late = columns.late_set(&wait, &left);
     columns.close_all(&mut left, late);
     let owner = columns.serve(&mut wait, &mut left).unwrap();
@@ -191,6 +206,13 @@ pub fn hear_report(left: &mut Numbers, last: u32, done: bool)
     if done {
         slots::close(left, last);
     }
+}
+
+pub fn after_report(mut left: Numbers, last: u32, done: bool) -> Numbers
+    ensures { result ≡ cond done (closed left last) left }
+{
+    hear_report(&mut left, last, done);
+    left
 }
 
 pub fn turn_of(owner: u32, late: u32) -> Turn

@@ -19,6 +19,7 @@ fn is_eased(old: Task, new: Task) -> bool
 }
 
 // The first of the tasks of which k is the eased one.
+#[inline(always)]
 fn next_eased(tasks: &[Task], k: Task) -> Option<usize>
     ensures { result ≡ position (λ task. eases task k) tasks.now }
 {

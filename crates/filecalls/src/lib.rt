@@ -84,6 +84,7 @@ pub fn room_file(file: &[u8], task: u32) -> u64
 }
 
 // What is told of a file's table and budget, or the refusal of its form.
+#[inline(always)]
 fn on_file<F: FnOnce(Table, u64) -> u64>(file: &[u8], tell: F) -> u64
     requires { F.IsAlwaysCallable tell }
     ensures { (go : Table → ℕ) → ((n : ℕ) → F.post tell (form_of file.now).table (form_of file.now).budget n → n ≡ go (form_of file.now).table)

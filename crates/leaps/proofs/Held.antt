@@ -1,6 +1,6 @@
 -- WHAT THE WALK HOLDS (`release_one`): the next releases and the open jobs, each as a queue in the order in which they come, and the slots left. A
 -- release moves a task in both.
-use Rattle.std.specs.Prelude.{◌≡◌, refl, ◌⊎◌, List, cond, ℕ, suc, ◌+◌, ◌-◌, ◌%◌, ◌<◌, ltb, eqb, set}
+use Rattle.std.specs.Prelude.{◌≡◌, refl, ◌⊎◌, List, cond, ℕ, suc, ◌+◌, ◌-◌, ◌%◌, ◌≤◌, ◌<◌, ltb, eqb, set}
 use Rattle.std.proofs.Common.{sym, ap, subst, ◌∙◌, inl, inr, arith, eq-eqb, ne_eqb, lt-ltb, le-ltb, length-set, get_or-set_same, get_or-set_other}
 use Rattle.std.proofs.Math.Decide.{ℕ_discrete, dec_lt}
 use Rattle.values.specs.declared.Table.{Table}
@@ -46,6 +46,10 @@ module _ (t : Table) (r : Ranged t) {n : ℕ} {W L : ℕ → ℕ} {releases read
       let (la, pa, ea) = open_of a (omega arith) in
       let (lb, pb, eb) = open_of b m in
       omega (arith, h.waiting.falls a b k m, ea ∙ ap (λ (j : ℕ). entry t (n + (W j - slack t j)) j) f ∙ sym eb)
+
+  -- There are no more than tasks.
+  pub crowd : jobs ≤ t.count
+  crowd = at_most t.count jobs (λ a. at ready a % places) (λ a k. (open_of a k).0) open_apart
 
   -- Where a task is not open, there is room for one more.
   pub room : (i : ℕ) → i < t.count → (0 < L i → ⊥) → jobs < t.count

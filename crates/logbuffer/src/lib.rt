@@ -25,6 +25,7 @@ const BYTES_AT: usize = STATE_BYTES + 24;
 // What is found is told as 2^32 times its number, and its place.
 const ANSWERS: u64 = 0x1_0000_0000;
 
+#[inline(always)]
 pub fn log_in(buffer: &[u8]) -> Log
     requires { length buffer.now ≡ log_bytes }
     ensures { log_state_of result ≡ log_in buffer.now }
@@ -34,6 +35,7 @@ pub fn log_in(buffer: &[u8]) -> Log
     Log { state, reading }
 }
 
+#[inline(always)]
 fn reading_in(buffer: &[u8]) -> Reading
     requires { length buffer.now ≡ log_bytes }
     ensures { result ≡ reading_in buffer.now }

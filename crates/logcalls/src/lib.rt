@@ -33,6 +33,7 @@ pub fn log_finish(file: &[u8], state: &mut [u8]) -> u64
 }
 
 // A call on the log that the buffer holds; the buffer is written unless it refuses.
+#[inline(always)]
 fn on_log<F: FnOnce(Log, Table) -> Fed>(
     file: &[u8],
     state: &mut [u8],
@@ -43,8 +44,9 @@ fn on_log<F: FnOnce(Log, Table) -> Fed>(
         → exported (told_number result) state.new
         ≡ on_file log_bytes file.now state.old (λ t. let f = go (log_in state.old) t in log_written state.old f.log f.admission) }
 {
-    let table = numbers::table_for(file, LOG_STATE_BYTES, state.len())?;
-    let said = call(logbuffer::log_in(state), table);
+    let form = numbers::form_for(file, LOG_STATE_BYTES, state.len());
+    form.admission?;
+    let said = call(logbuffer::log_in(state), form.table);
     said.admission?;
     logbuffer::write_log(state, said.log);
     Ok(logbuffer::answer_number(said.log.reading.found))

@@ -1,4 +1,4 @@
--- A file's form and table for a buffer of one length, and what a call on any file and any buffer is told by it (`on_form`, `on_table`).
+-- A file's form for a buffer of one length, and what a call on any file and any buffer is told by it (`on_form`).
 use Rattle.std.proofs.Math.Path.{◌≡◌, refl, ap}
 use Rattle.std.proofs.Common.{sym, ◌∙◌, arith, eqb-true}
 use Rattle.std.specs.Prelude.{Bool, cond, List, eqb, length, Result, Ok, Err}
@@ -8,7 +8,6 @@ use Rattle.values.specs.declared.Contents.{Contents}
 use Rattle.values.specs.declared.Table.{Table}
 use Rattle.model.specs.TableFile.{refuse_file, form_of}
 use Rattle.values.specs.declared.Refusal.{Refusal}
-use Rattle.model.specs.Values.{Admission}
 use Rattle.model.specs.Report.{Exported, refused, refusal_number}
 use Rattle.model.specs.StateBuffer.{on_file}
 
@@ -19,14 +18,6 @@ told_number (Err r) = refusal_number r
 
 abbrev pub form_for : ℕ → List ℕ → ℕ → Contents
 form_for wanted file bytes = cond (eqb bytes wanted) (form_of file) (refuse_file 50 (min bytes 65535))
-
--- The table of a form, unless it is refused.
-abbrev pub table_in : Contents → Admission → Result Table Refusal
-table_in l (Err r) = Err r
-table_in l (Ok u) = Ok l.table
-
-unfoldable pub table_for : ℕ → List ℕ → ℕ → Result Table Refusal
-table_for wanted file bytes = table_in (form_for wanted file bytes) (form_for wanted file bytes).admission
 
 module _ (wanted : ℕ) (file buffer : List ℕ) {l : Contents} (e : l ≡ form_for wanted file (length buffer)) where
   told : (Table → Exported) → Contents → Exported
@@ -53,27 +44,3 @@ module _ (wanted : ℕ) (file buffer : List ℕ) {l : Contents} (e : l ≡ form_
           (refuse_file 50 (min (length buffer) 65535))).admission ≡ Ok tt → length buffer ≡ wanted
       by true f h = eqb-true (length buffer) wanted f
       by false f h = let z : ◌≡◌ {A = ℕ} 0 1 = cc in absurd (omega arith)
-
-module _ (wanted : ℕ) (file buffer : List ℕ) (found : Result Table Refusal) (e : found ≡ table_for wanted file (length buffer)) where
-  form : Contents
-  form = form_for wanted file (length buffer)
-
-  answered : (Table → Exported) → Result Table Refusal → Exported
-  answered go r = elim r [ Err r ↦ refused r buffer | Ok t ↦ go t ]
-
-  -- The same by that table.
-  pub on_table : (go : Table → Exported) → ◌≡◌ {A = Exported} (on_file wanted file buffer go) (elim found [ Err r ↦ refused r buffer | Ok t ↦ go t ])
-  unfolding table_for form answered
-  on_table go = on_form wanted file buffer {l = form} refl go ∙ by form.admission ∙ sym (ap (answered go) e)
-    where
-      by : (a : Admission) → ◌≡◌ {A = Exported} (elim a [ Err r ↦ refused r buffer | Ok _ ↦ go form.table ]) (answered go (table_in form a))
-      by (Err r) = refl
-      by (Ok u) = refl
-
-  pub table_length : {t : Table} → found ≡ Ok t → length buffer ≡ wanted
-  unfolding table_for form
-  table_length {t} f = right_length wanted file buffer {l = form} refl (by form.admission (sym e ∙ f))
-    where
-      by : (a : Admission) → table_in form a ≡ Ok t → a ≡ Ok tt
-      by (Err r) h = let z : ◌≡◌ {A = ℕ} 0 1 = cc in absurd (omega arith)
-      by (Ok u) h = refl

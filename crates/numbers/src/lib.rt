@@ -4,9 +4,9 @@
 ghost use Rattle.std.specs.Prelude.{◌≡◌, ◌+◌, ◌*◌, min};
 ghost use Rattle.values.specs.Numbers.{number_of};
 ghost use Rattle.model.specs.Report.{refusal_number};
-ghost use Rattle.numbers.specs.Form.{told_number, table_for};
+ghost use Rattle.numbers.specs.Form.{told_number, form_for};
 
-use values::{Fault, Refusal, Table};
+use values::{Contents, Fault, Refusal};
 
 const LARGEST_PLACE: u32 = 65535;
 
@@ -40,14 +40,12 @@ pub fn tellable_task(task: u32) -> u32
     task.min(LARGEST_PLACE)
 }
 
-// The table of a file, for a buffer of these bytes: their number is looked at before the file.
-pub fn table_for(file: &[u8], wanted: usize, bytes: usize) -> Result<Table, Refusal>
-    ensures { result ≡ table_for wanted file.now bytes }
+// The form of a file, for a buffer of these bytes: their number is looked at before the file.
+pub fn form_for(file: &[u8], wanted: usize, bytes: usize) -> Contents
+    ensures { result ≡ form_for wanted file.now bytes }
 {
     if bytes != wanted {
-        return Err(refusal_at(Fault::StateLength, bytes));
+        return tablefile::refused_file(refusal_at(Fault::StateLength, bytes));
     }
-    let form = tablefile::form_of(file);
-    form.admission?;
-    Ok(form.table)
+    tablefile::form_of(file)
 }

@@ -2,9 +2,10 @@
 #![tactic(auto)]
 
 ghost use Rattle.std.specs.Prelude.{◌≡◌, ◌≤◌, Ok};
+ghost use Rattle.model.specs.Limits.{task_limit};
 ghost use Rattle.model.specs.Tasks.{judged};
 ghost use Rattle.walks.specs.Course.{Ends};
-ghost use Rattle.plain.specs.Noted.{noted_of};
+ghost use Rattle.plain.specs.Noted.{noted_of, idle_noted};
 
 use slots::{NO_TASK, Numbers};
 use values::{Measure, TASK_LIMIT, Table};
@@ -20,6 +21,17 @@ fn note(worst: &mut Numbers, owner: u32, period: &Numbers, wait: &Numbers, left:
             walks::note(worst, i, period[i].saturating_sub(wait[i]));
         }
     }
+}
+
+// Once an idle instant is found, no slot looks at the tasks for another.
+fn first_idle(idle: u64, left: &Numbers, n: usize, at: u64) -> u64
+    requires { n ≤ task_limit }
+    ensures { result ≡ idle_noted idle left.now n at }
+{
+    if 0 < idle {
+        return idle;
+    }
+    walks::first_idle(idle, slots::none_left(left, n), at)
 }
 
 // Slot by slot to the end, or to the first late deadline: there, downwards, to the largest start that asks too much. At the end
@@ -46,8 +58,7 @@ pub fn walk(t: Table, m: Measure, budget: u64) -> Course
                 }
                 note(&mut worst, owner, &columns.period, &wait, &left);
                 at += 1;
-                let here = slots::none_left(&left, columns.count);
-                idle = walks::first_idle(idle, here, at);
+                idle = first_idle(idle, &left, columns.count, at);
             }
             None => {
                 from = at;

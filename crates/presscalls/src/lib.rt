@@ -20,9 +20,10 @@ pub fn start(file: &[u8], state: &mut [u8]) -> u64
 fn start_on(file: &[u8], state: &mut [u8]) -> Result<u64, Refusal>
     ensures { exported (told_number result) state.new ≡ press_start_exported file.now state.old }
 {
-    let table = numbers::table_for(file, STATE_BYTES, state.len())?;
+    let form = numbers::form_for(file, STATE_BYTES, state.len());
+    form.admission?;
     let held = statebuffer::state_in(state);
-    let started = Presses { state: held }.start(table);
+    let started = Presses { state: held }.start(form.table);
     started.admission?;
     statebuffer::write_state(state, started.presses.state, statebuffer::quiet());
     Ok(0)
@@ -37,9 +38,10 @@ pub fn step(file: &[u8], state: &mut [u8], done: u32, pressed: u32) -> u64
 fn step_on(file: &[u8], state: &mut [u8], done: u32, pressed: u32) -> Result<u64, Refusal>
     ensures { exported (told_number result) state.new ≡ press_step_exported file.now state.old done pressed }
 {
-    let table = numbers::table_for(file, STATE_BYTES, state.len())?;
+    let form = numbers::form_for(file, STATE_BYTES, state.len());
+    form.admission?;
     let held = statebuffer::state_in(state);
-    let stepped = Presses { state: held }.step(table, cameracalls::said_done(done), pressed);
+    let stepped = Presses { state: held }.step(form.table, cameracalls::said_done(done), pressed);
     let turn = stepped.answer?;
     statebuffer::write_state(state, stepped.next.state, turn);
     Ok(told(stepped.untaken, turn.owner))

@@ -13,7 +13,7 @@ pub worst_short : (k x : ℕ) → k < task_limit → x < 2 ^ 32 → length (line
 unfolding text
 worst_short k x h l = simp length-append (omega (arith, short 1 k (omega arith), short 9 x (omega arith)))
 
-lines_short : (w : List ℕ) (n : ℕ) → n ≤ task_limit → ((k : ℕ) → k < n → get_or w k 0 < 2 ^ 32) → length (worst_lines w n) ≤ n * worst_bytes
+pub lines_short : (w : List ℕ) (n : ℕ) → n ≤ task_limit → ((k : ℕ) → k < n → get_or w k 0 < 2 ^ 32) → length (worst_lines w n) ≤ n * worst_bytes
 unfolding worst_lines
 lines_short w zero h f = omega arith
 lines_short w (suc n) h f =

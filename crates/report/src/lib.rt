@@ -6,6 +6,7 @@ ghost use Rattle.model.specs.Limits.{task_limit, report_bytes};
 ghost use Rattle.model.specs.Notation.{text, decimal};
 ghost use Rattle.model.specs.Report.{line, quick_word, verdict_word, worst_lines, details, report_of, refusal_line, written};
 ghost use Rattle.words.specs.Out.{Fits, Puts};
+ghost use Rattle.report.specs.Fits.{worst_bytes};
 ghost use Rattle.report.specs.Put.{exported};
 
 use values::{Answer, Refusal, TASK_LIMIT, Verdict};
@@ -89,7 +90,8 @@ fn put_details(out: &mut Out<'_>, tasks: usize, answer: Answer, verdict: Verdict
 fn put_worst_lines(out: &mut Out<'_>, tasks: usize, worst: [u32; TASK_LIMIT])
     requires tasks_le_task_limit { tasks ≤ task_limit }
     requires room { Fits (worst_lines worst tasks) out.old }
-    ensures { Puts (worst_lines worst tasks) out.old out.new }
+    ensures put { Puts (worst_lines worst tasks) out.old out.new }
+    ensures upper_bound { out.new.at ≤ out.old.at + tasks * worst_bytes }
 {
     for (task, response) in worst[..tasks].iter().enumerate() {
         text::put_pair(out, b"worst ", task as u64, b" ", u64::from(*response));

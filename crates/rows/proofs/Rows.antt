@@ -1,17 +1,11 @@
 -- The rows of a list of words, each a list of its own: what stands in row i is what the words have from 5 * i on.
-use Rattle.std.specs.Prelude.{◌≡◌, refl, Bool, false, not, cond, List, [], ℕ, zero, suc, ◌+◌, ◌*◌, ◌≤◌, ◌<◌, min, length, get_or, drop, ltb, replicate}
-use Rattle.std.proofs.Common.{sym, ◌∙◌, ap, arith, lt-ltb, le-ltb}
-use Rattle.std.proofs.lemmas.List.{get_or-take, get_or-drop, length-replicate, get_or-replicate, ext_get_or}
+use Rattle.std.specs.Prelude.{◌≡◌, refl, Bool, false, not, List, [], ℕ, zero, suc, ◌+◌, ◌*◌, ◌≤◌, ◌<◌, length, get_or, drop}
+use Rattle.std.proofs.Common.{sym, ◌∙◌, ap, arith}
+use Rattle.std.proofs.lemmas.List.{get_or-take, get_or-drop}
 use Rattle.std.specs.Simd.{first_chunks}
-use Rattle.std.proofs.Math.Decide.{dec_lt}
-use Rattle.model.specs.Limits.{task_limit}
-use Rattle.model.specs.Notation.{fill}
-use Rattle.model.specs.Tasks.{no_task}
-use Rattle.model.specs.Values.{Task}
 use Rattle.model.specs.Writer.{rows, row_words, row_task, is_task, first_stranger}
 use Rattle.std.specs.List.{position_or_len}
 use Rattle.std.proofs.lemmas.List.Sums.{fails_before_first, passes_at_first, prefix_len-le-length}
-use Rattle.counting.specs.Fill.{fill_length, fill_passed, fill_ahead}
 use Rattle.counting.specs.Search.{first_unique}
 
 pub length_chunks : (n k : ℕ) (w : List ℕ) → length (first_chunks n k w) ≡ k
@@ -28,10 +22,6 @@ in_row n (suc k) (suc i) j w a b =
 abbrev pub is_stranger : List ℕ → Bool
 is_stranger r = not (is_task r 0)
 
--- What the table has at an index.
-abbrev pub task_at : List (List ℕ) → ℕ → Task
-task_at rs i = cond (ltb i (length rs)) (row_task (get_or rs i []) 0) no_task
-
 module _ (w : List ℕ) where
   abbrev pub chunks : List (List ℕ)
   chunks = first_chunks row_words (rows w) w
@@ -43,7 +33,7 @@ module _ (w : List ℕ) where
   word_of : (i j : ℕ) {at : ℕ} → i < rows w → j < 5 → row_words * i + j ≡ at → get_or (get_or chunks i []) j 0 ≡ get_or w at 0
   word_of i j a b e = in_row row_words (rows w) i j w a b ∙ rw e
 
-  row_task_is : (i : ℕ) → i < rows w → row_task (get_or chunks i []) 0 ≡ row_task w i
+  pub row_task_is : (i : ℕ) → i < rows w → row_task (get_or chunks i []) 0 ≡ row_task w i
   row_task_is i h =
       let kind = word_of i 0 {at = row_words * i} h (omega arith) (omega arith) in
       let at = λ (j : ℕ) (l : j < 5). word_of i j h l refl in
@@ -53,36 +43,6 @@ module _ (w : List ℕ) where
   is_task_is i h =
       let kind = word_of i 0 {at = row_words * i} h (omega arith) (omega arith) in
       rw (kind, word_of i 1 h (omega arith) refl)
-
-  -- No task at each place, and the tasks of the rows that fit.
-  none : List Task
-  none = replicate task_limit no_task
-
-  held : ℕ
-  held = min (rows w) task_limit
-
-  task_at_is : (i : ℕ) → i < task_limit → task_at chunks i ≡ get_or (fill held (row_task w) none) i no_task
-  unfolding none held
-  task_at_is i h =
-      let places = length-replicate task_limit no_task in
-      elim (dec_lt i (rows w)) [
-        | yes l ↦
-            let filled = fill_passed held (row_task w) none i no_task (omega arith) (omega arith) in
-            rw (long, lt-ltb i (rows w) l) (row_task_is i l ∙ sym filled)
-        | no l ↦
-            let empty = fill_ahead held (row_task w) none i no_task (omega arith) in
-            rw (long, le-ltb i (rows w) (omega arith)) (sym (empty ∙ get_or-replicate task_limit i no_task no_task h))
-      ]
-
-  pub tasks_are : fill task_limit (task_at chunks) (replicate task_limit no_task)
-      ≡ fill (min (rows w) task_limit) (row_task w) (replicate task_limit no_task)
-  unfolding none held
-  tasks_are =
-      let at = task_at chunks in
-      let places = length-replicate task_limit no_task in
-      let all = fill_length task_limit at none in
-      ext_get_or no_task (fill task_limit at none) (fill held (row_task w) none) (all ∙ sym (fill_length held (row_task w) none))
-      (λ i h. let l : i < task_limit = omega arith in fill_passed task_limit at none i no_task l (omega arith) ∙ task_at_is i l)
 
   pub stranger_is : position_or_len is_stranger chunks ≡ first_stranger w
   unfolding first_stranger

@@ -1,14 +1,12 @@
 // A table handed over as words, five for each task.
 #![tactic(auto)]
 
-ghost use Rattle.std.specs.Prelude.{◌≡◌, cond, not, ◌/◌, ◌%◌, ◌<◌, min, eqb, ltb, [], length, slice_index_or};
-ghost use Rattle.model.specs.Limits.{task_limit};
+ghost use Rattle.std.specs.Prelude.{◌≡◌, cond, not, ◌/◌, ◌%◌, eqb};
 ghost use Rattle.values.specs.declared.Sort.{Sort};
 ghost use Rattle.model.specs.Tasks.{no_task};
 ghost use Rattle.model.specs.TableFile.{button_kind};
-ghost use Rattle.model.specs.Writer.{row_words, rows, row_task, is_task, first_stranger, table_in};
+ghost use Rattle.model.specs.Writer.{row_words, row_task, is_task, first_stranger, table_in};
 
-use std::array;
 use values::{Sort, TASK_LIMIT, Table, Task};
 
 const ROW_WORDS: usize = 5;
@@ -50,22 +48,19 @@ fn is_task(row: &Row) -> bool
     kind == TASK || kind == BUTTON && offset == 0
 }
 
-// A table holds no more rows than it has places.
+// A table holds no more rows than it has places. A loop over the rows alone: over all places, one row took 1.5 times as long to write.
 pub fn table_in(words: &[u32]) -> Table
     ensures { result ≡ table_in words.now }
 {
     let (rows, _) = words.as_chunks::<ROW_WORDS>();
+    let mut tasks = [no_task(); TASK_LIMIT];
+    for (i, row) in rows[..rows.len().min(TASK_LIMIT)].iter().enumerate() {
+        tasks[i] = row_task(row);
+    }
     Table {
         count: rows.len(),
-        tasks: array::from_fn(|i| task_at(rows, i)),
+        tasks,
     }
-}
-
-// The task of a row, or none behind the last row.
-fn task_at(rows: &[Row], i: usize) -> Task
-    ensures { result ≡ cond (ltb i (length rows.now)) (row_task (slice_index_or rows.now i []) 0) no_task }
-{
-    rows.get(i).map_or(no_task(), row_task)
 }
 
 fn no_task() -> Task

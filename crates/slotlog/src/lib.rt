@@ -96,6 +96,7 @@ impl Log {
     }
 }
 
+#[inline(always)]
 fn handed_back(log: Log, why: Refusal) -> Fed
     ensures { fed_of result ≡ record { admission = Err why; log = log_state_of log } }
 {
@@ -204,12 +205,16 @@ fn is_final(reading: Reading) -> bool
 }
 
 // A block is read in place, and on copies from where that stops.
+#[inline(always)]
 fn read_block(log: Log, columns: &Columns, block: &[u8]) -> Log
     requires { (t : Table) × Unpacked t columns.now × Readable t (log_state_of log) }
     ensures { (t : Table) → Unpacked t columns.now → Readable t (log_state_of log)
         → ReadTo t (log_state_of log) block.now (length block.now) (log_state_of result) }
 {
     let run = read_in_place(log, columns, block);
+    if run.at == block.len() {
+        return run.log;
+    }
     read_bytes(run.log, columns, &block[run.at..])
 }
 
@@ -221,6 +226,7 @@ struct Run {
 }
 
 // The lists step in place up to the first finding. A slot that differs or has a late job spoils them, so the block counts as unread.
+#[inline(always)]
 fn read_in_place(log: Log, columns: &Columns, block: &[u8]) -> Run
     requires { (t : Table) × Unpacked t columns.now × Readable t (log_state_of log) }
     ensures within { result.at ≤ length block.now }
@@ -285,23 +291,24 @@ fn read_bytes(log: Log, columns: &Columns, bytes: &[u8]) -> Log
     ensures { (t : Table) → Unpacked t columns.now → Readable t (log_state_of log)
         → ReadTo t (log_state_of log) bytes.now (length bytes.now) (log_state_of result) }
 {
-    let mut state = log.state;
+    // As locals: with the state whole a log of late jobs took 1.15 times as long.
+    let State {
+        mut wait,
+        mut left,
+        mut last,
+        mut given,
+        mut empty,
+    } = log.state;
     let mut reading = log.reading;
     for byte in bytes {
         if ends_slot(reading, *byte) {
-            let moved = dispatch::advance(state, columns, reading.done);
+            let moved = dispatch::advance_lists(wait, left, last, columns, reading.done);
             if is_due(reading.opened, *byte, columns.count, moved.owner) {
-                let wait = moved.wait;
-                let left = moved.left;
-                let mut given = state.given;
-                dispatch::count_given(&mut given, moved.owner);
-                state = State {
-                    wait,
-                    left,
-                    last: moved.owner,
-                    given,
-                    empty: dispatch::count_empty(state.empty, moved.owner),
-                };
+                wait = moved.wait;
+                left = moved.left;
+                last = moved.owner;
+                dispatch::count_given(&mut given, last);
+                empty = dispatch::count_empty(empty, last);
                 reading = one_slot(reading);
             } else {
                 reading = found_in(reading, Finding::Differs(reading.slots as u32));
@@ -310,7 +317,16 @@ fn read_bytes(log: Log, columns: &Columns, bytes: &[u8]) -> Log
             reading = read_other(reading, *byte);
         }
     }
-    Log { state, reading }
+    Log {
+        state: State {
+            wait,
+            left,
+            last,
+            given,
+            empty,
+        },
+        reading,
+    }
 }
 
 // This byte makes the record of a slot whole.

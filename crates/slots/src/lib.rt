@@ -14,7 +14,7 @@ use values::{TASK_LIMIT, Table, Task};
 
 pub mod columns;
 
-use columns::Columns;
+pub use columns::Columns;
 
 // Where a task is named, this is none.
 pub const NO_TASK: u32 = TASK_LIMIT as u32;

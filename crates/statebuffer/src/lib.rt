@@ -25,6 +25,7 @@ const COUNTS_AT: usize = LAST_AT + 4 * WORD_BYTES;
 const EMPTY_AT: usize = COUNTS_AT + TASK_LIMIT * COUNT_BYTES;
 
 // The state at the front of a buffer.
+#[inline(always)]
 pub fn state_in(buffer: &[u8]) -> State
     requires { state_bytes ≤ length buffer.now }
     ensures { result ≡ state_in buffer.now }
@@ -38,6 +39,7 @@ pub fn state_in(buffer: &[u8]) -> State
     }
 }
 
+#[inline(always)]
 fn words_in(buffer: &[u8], at: usize) -> Numbers
     requires { at + 4 * task_limit ≤ length buffer.now }
     ensures { result ≡ words_in buffer.now at }
@@ -45,6 +47,7 @@ fn words_in(buffer: &[u8], at: usize) -> Numbers
     array::from_fn(|i| words::word_at(buffer, at + WORD_BYTES * i))
 }
 
+#[inline(always)]
 fn counts_in(buffer: &[u8], at: usize) -> Counts
     requires { at + 8 * task_limit ≤ length buffer.now }
     ensures { result ≡ counts_in buffer.now at }
@@ -60,6 +63,7 @@ pub fn write_state(buffer: &mut [u8], d: State, turn: Turn)
     put_state(&mut out, d, turn);
 }
 
+#[inline(always)]
 pub fn put_state(out: &mut Out<'_>, d: State, turn: Turn)
     requires { Fits (buffer_of d turn) out.old }
     ensures { Puts (buffer_of d turn) out.old out.new }
@@ -74,6 +78,7 @@ pub fn put_state(out: &mut Out<'_>, d: State, turn: Turn)
     out.put_long(d.empty);
 }
 
+#[inline(always)]
 pub fn put_words(out: &mut Out<'_>, words: Numbers)
     requires { Fits (bytes_of words) out.old }
     ensures { Puts (bytes_of words) out.old out.new }
@@ -83,6 +88,7 @@ pub fn put_words(out: &mut Out<'_>, words: Numbers)
     }
 }
 
+#[inline(always)]
 fn put_counts(out: &mut Out<'_>, counts: Counts)
     requires { Fits (bytes_of (halves counts)) out.old }
     ensures { Puts (bytes_of (halves counts)) out.old out.new }

@@ -4,10 +4,9 @@ use Rattle.std.proofs.Common.{arith}
 use Rattle.values.specs.declared.Task.{Task}
 use Rattle.tablefile.specs.declared.Record.{Record}
 use Rattle.values.specs.declared.Refusal.{Refusal}
-use Rattle.values.specs.declared.Contents.{Contents}
 use Rattle.model.specs.Limits.{task_limit, budget_bytes, task_bytes, button_bytes}
 use Rattle.model.specs.Tasks.{is_button}
-use Rattle.model.specs.TableFile.{refuse_file, eight, task_in, button_in}
+use Rattle.model.specs.TableFile.{eight, task_in, button_in}
 
 -- The bytes of a body: those of the record without its kind.
 abbrev pub budget_body : ℕ
@@ -33,11 +32,6 @@ Reading = Result Record Refusal
 
 abbrev pub refused : ℕ → ℕ → Reading
 refused n p = Err (record { number = n; place = p })
-
--- The contents that a file's records come to, or those of a refused file.
-abbrev pub told_form : Result Contents Refusal → Contents
-told_form (Ok form) = form
-told_form (Err why) = refuse_file why.number why.place
 
 pub record_size_lem : (button : Bool) → (button_bytes ≤ record_size button) × (record_size button ≤ task_bytes)
 record_size_lem true = omega arith

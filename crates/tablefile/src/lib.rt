@@ -6,7 +6,7 @@ ghost use Rattle.model.specs.Limits.{longest_file};
 ghost use Rattle.model.specs.TableFile.{table_of, refuse_file, judged_table, form_of, file_read, periodic_from};
 ghost use Rattle.values.specs.Numbers.{number_of};
 ghost use Rattle.tablefile.specs.Kinds.{KindOf, kind_byte};
-ghost use Rattle.tablefile.specs.Reading.{body_bytes, record_bytes, body_in, told_form, budget_reading, task_reading, end_reading, reading_at};
+ghost use Rattle.tablefile.specs.Reading.{body_bytes, record_bytes, body_in, budget_reading, task_reading, end_reading, reading_at};
 
 use values::{Admission, Contents, Fault, Judgement, Refusal, Sort, TASK_LIMIT, Table, Task};
 
@@ -202,44 +202,38 @@ pub fn refused_file(why: Refusal) -> Contents
     }
 }
 
-// The records of a file, up to its end or its first fault.
-fn records_of(file: &[u8]) -> Result<Contents, Refusal>
-    ensures { told_form result ≡ form_of file.now }
+// The file's form alone: its table is not judged.
+pub fn form_of(file: &[u8]) -> Contents
+    ensures { result ≡ form_of file.now }
 {
     let mut budget: u64 = 0;
     let mut table = no_tasks();
     let mut at: usize = 0;
     loop {
-        match reading_at(file, at, table.count)? {
-            Record::Budget(slots) => {
-                budget = slots;
-                at += BUDGET_BYTES;
-            }
-            // in place: a table handed over and back would be copied for every task
-            Record::OneTask(task) => {
-                let count = table.count;
-                table.tasks[count] = task;
-                table.count = count + 1;
-                at += record_bytes(task);
-            }
-            Record::End => {
-                return Ok(Contents {
-                    admission: Ok(()),
-                    budget,
-                    table,
-                });
-            }
+        // The form is handed back as it is: in a result first, it would be copied twice more.
+        match reading_at(file, at, table.count) {
+            Err(why) => return refused_file(why),
+            Ok(record) => match record {
+                Record::Budget(slots) => {
+                    budget = slots;
+                    at += BUDGET_BYTES;
+                }
+                // in place: a table handed over and back would be copied for every task
+                Record::OneTask(task) => {
+                    let count = table.count;
+                    table.tasks[count] = task;
+                    table.count = count + 1;
+                    at += record_bytes(task);
+                }
+                Record::End => {
+                    return Contents {
+                        admission: Ok(()),
+                        budget,
+                        table,
+                    };
+                }
+            },
         }
-    }
-}
-
-// The file's form alone: its table is not judged.
-pub fn form_of(file: &[u8]) -> Contents
-    ensures { result ≡ form_of file.now }
-{
-    match records_of(file) {
-        Ok(form) => form,
-        Err(why) => refused_file(why),
     }
 }
 

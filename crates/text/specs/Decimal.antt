@@ -1,6 +1,8 @@
--- A number in decimal: its last digit, and how many digits it has.
-use Rattle.std.specs.Prelude.{◌≡◌, [], ◌∷◌, ◌++◌, ℕ, zero, suc, ◌+◌, ◌/◌, ◌%◌, ◌^◌, ◌≤◌, ◌<◌, length}
-use Rattle.std.proofs.Common.{sym, ◌∙◌, pow-suc, arith, lt-ltb, le-ltb, length-append}
+-- A number in decimal: its last digit, how many digits it has, and how they are made, the last one first.
+use Rattle.std.specs.Prelude.{◌≡◌, refl, List, [], ◌∷◌, ◌++◌, ℕ, zero, suc, ◌+◌, ◌-◌, ◌/◌, ◌%◌, ◌^◌, ◌≤◌, ◌<◌, length, drop, set}
+use Rattle.std.proofs.Common.{sym, ◌∙◌, ap, pow-suc, arith, lt-ltb, le-ltb, append_assoc, length-append}
+use Rattle.std.proofs.lemmas.List.{append-nil, drop-set, length-set, length-drop}
+use Rattle.std.proofs.Math.ListN.{drop_of_length-le}
 use Rattle.std.proofs.Math.Decide.{dec_le}
 use Rattle.model.specs.Notation.{digits, decimal}
 
@@ -49,3 +51,56 @@ number_bytes = 20
 
 pub wide : (x : ℕ) → x < 2 ^ 64 → length (decimal x) ≤ number_bytes
 wide x h = short 19 x (omega arith)
+
+-- The last digits stand from `at` on, and those of `rest` are to come before them.
+pub record Making (number at rest : ℕ) (bytes : List ℕ) : Type 0 where
+  pub size : length bytes ≡ number_bytes
+  pub at_le : at ≤ number_bytes
+  pub made : decimal rest ++ drop at bytes ≡ decimal number
+
+-- The start: all digits are to come.
+pub make_none : {number : ℕ} {bytes : List ℕ} → length bytes ≡ number_bytes → Making number number_bytes number bytes
+make_none {number} {bytes} h = record {
+  size = h;
+  at_le = omega arith;
+  made = rw (drop_of_length-le bytes {i = number_bytes} (omega (arith, h))) (append-nil (decimal number));
+}
+
+some_digit : (n : ℕ) → 1 ≤ length (decimal n)
+some_digit n = elim (dec_le 10 n) [
+  | yes h ↦ omega (arith, one_more n h)
+  | no h ↦ rw (one_digit n (omega arith)) (omega arith)
+]
+
+-- There is room for one digit more.
+pub room : {number at rest : ℕ} {bytes : List ℕ} → number < 2 ^ 64 → Making number at rest bytes → 1 ≤ at
+room {number} {at} {rest} {bytes} h m =
+    omega (
+      arith,
+      m.size,
+      m.at_le,
+      ap length m.made,
+      length-append (decimal rest) (drop at bytes),
+      length-drop at bytes,
+      wide number h,
+      some_digit rest,
+    )
+
+-- A digit that is set stands before the others.
+before : (bytes : List ℕ) (at digit : ℕ) → 1 ≤ at → at ≤ length bytes → drop (at - 1) (set bytes (at - 1) digit) ≡ digit ∷ drop at bytes
+before bytes at digit some le = let e : at - 1 + 1 ≡ at = omega arith in drop-set bytes (at - 1) digit (omega arith) ∙ rw e refl
+
+pub make_one : {number at rest : ℕ} {bytes : List ℕ} → 10 ≤ rest → 1 ≤ at → Making number at rest bytes
+    → Making number (at - 1) (rest / 10) (set bytes (at - 1) (48 + rest % 10))
+make_one {number} {at} {rest} {bytes} h some m = record {
+  size = length-set bytes _ _ ∙ m.size;
+  at_le = omega (arith, m.at_le);
+  made = rw (before bytes at (48 + rest % 10) some (omega (arith, m.size, m.at_le)))
+      (sym (append_assoc (decimal (rest / 10)) ((48 + rest % 10) ∷ []) (drop at bytes)) ∙ rw (← last_digit rest h) m.made);
+}
+
+pub make_first : {number at rest : ℕ} {bytes : List ℕ} → rest < 10 → 1 ≤ at → Making number at rest bytes
+    → drop (at - 1) (set bytes (at - 1) (48 + rest)) ≡ decimal number
+make_first {number} {at} {rest} {bytes} h some m =
+    let e : (48 + rest) ∷ drop at bytes ≡ decimal number = rw (one_digit rest h) at m.made in
+    before bytes at (48 + rest) some (omega (arith, m.size, m.at_le)) ∙ e

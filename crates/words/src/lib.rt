@@ -27,6 +27,7 @@ pub struct Out<'a> {
 }
 
 impl<'a> Out<'a> {
+    #[inline(always)]
     pub fn new(buffer: &'a mut [u8]) -> Out<'a>
         ensures at { result.at ≡ 0 }
         ensures buffer { result.buffer.now ≡ buffer.old }
@@ -35,6 +36,7 @@ impl<'a> Out<'a> {
         Out { buffer, at: 0 }
     }
 
+    #[inline(always)]
     pub fn put(&mut self, bytes: &[u8])
         requires { Fits bytes.now self.old }
         ensures { Puts bytes.now self.old self.new }
@@ -44,6 +46,7 @@ impl<'a> Out<'a> {
         self.at = next;
     }
 
+    #[inline(always)]
     pub fn put_word(&mut self, word: u32)
         requires { Fits (word_bytes word) self.old }
         ensures { Puts (word_bytes word) self.old self.new }
@@ -51,6 +54,7 @@ impl<'a> Out<'a> {
         self.put(&word.to_le_bytes());
     }
 
+    #[inline(always)]
     pub fn put_long(&mut self, number: u64)
         requires { Fits (bytes_of (two_words number)) self.old }
         ensures { Puts (bytes_of (two_words number)) self.old self.new }
@@ -58,6 +62,7 @@ impl<'a> Out<'a> {
         self.put(&number.to_le_bytes());
     }
 
+    #[inline(always)]
     pub fn at(&self) -> usize
         ensures { result ≡ self.now.at }
     {

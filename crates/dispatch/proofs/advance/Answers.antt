@@ -1,15 +1,10 @@
--- The four rules, one after the other.
-use Rattle.std.proofs.Common.{rules}
-use Rattle.dispatch.specs.Step.{owner_there, advanced_is}
+-- The lists are those of the state.
 use Rattle.dispatch.proofs.advance.Goals as goal
 
-pub unwrap-owner-requires : goal.unwrap-owner-requires
-unwrap-owner-requires c =
+pub advance_lists-requires : goal.advance_lists-requires
+advance_lists-requires c =
     let (t, unpacked, unrefused) = c.requires in
-    owner_there t c.args.d c.args.done unrefused (record { waits = search rules; lefts = search rules }) unpacked
-    c.hear_report.ensures c.late_set-late.ensures c.close_all.ensures c.serve.ensures
+    (t, c.args.d.given, c.args.d.empty, unpacked, unrefused)
 
 pub returns : goal.returns
-returns c t unpacked unrefused =
-    advanced_is t c.args.d c.args.done unrefused (record { waits = search rules; lefts = search rules }) unpacked
-    c.hear_report.ensures c.late_set-late.ensures c.close_all.ensures c.serve.ensures c.unwrap-owner.ensures
+returns c t unpacked unrefused = c.advance_lists.ensures t c.args.d.given c.args.d.empty unpacked unrefused

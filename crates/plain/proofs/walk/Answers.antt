@@ -1,7 +1,6 @@
 -- Before each slot the walk holds what the dispatcher would without done reports; at a late deadline no start from `from` on asks too much.
 use mathlib.Core.Path.{◌≡◌, refl, sym, ap, ◌∙◌}
-use Prim.Native.Nat.{ℕ, ◌≤◌, ◌<◌, ◌+◌}
-use mathlib.Core.Bool.{Bool}
+use Prim.Native.Nat.{ℕ, ◌≤◌, ◌<◌}
 use native.Mathlib.Decide.{dec_lt}
 use native.Mathlib.Omega.{arith}
 use Rattle.values.specs.declared.Table.{Table}
@@ -10,7 +9,6 @@ use Rattle.model.specs.Demand.{demand}
 use Rattle.wellformed.specs.WellFormed.{WellFormed, well_formed}
 use Rattle.backlog.specs.TooMuch.{late_at_iff, too_much_iff}
 use Rattle.intervals.specs.Starts.{demand_none, none_between}
-use Rattle.walks.specs.Tally.{idle_then}
 use Rattle.walks.specs.Walked.{setting, one_found, none_found}
 use Rattle.walks.specs.Course.{quiet_course, late_course}
 use Rattle.plain.specs.Walking.{walking_start, walking_next}
@@ -54,7 +52,7 @@ search-preserved-in-Some c =
       walking_next (facts a).ranged (light a) (setting _ i.0) i.3
           c.serve.ensures
           c.in-Some.is c.note.ensures
-          (c.first_idle-idle.ensures ∙ ap (λ (here : Bool). idle_then a.search.idle here (a.search.at + 1)) c.none_left-here.ensures),
+          c.first_idle-idle.ensures,
     )
 
 -- A late deadline has a start: the search for it does not come to its end.

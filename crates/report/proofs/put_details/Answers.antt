@@ -7,14 +7,14 @@ put_worst_lines-requires-clause-room c = first _ (rw c.in-Passes.is at c.require
 
 pub put_line-requires : goal.put_line-requires
 unfolding text
-put_line-requires c = second c.put_worst_lines.ensures (rw c.in-Passes.is at c.requires.room)
+put_line-requires c = second c.put_worst_lines.ensures.put (rw c.in-Passes.is at c.requires.room)
 
 pub put_interval-requires : goal.put_interval-requires
 put_interval-requires c = rw c.in-Late.is at c.requires.room
 
 pub returns-in-Passes : goal.returns-in-Passes
 unfolding text
-returns-in-Passes c = rw c.in-Passes.is (both c.put_worst_lines.ensures c.put_line.ensures)
+returns-in-Passes c = rw c.in-Passes.is (both c.put_worst_lines.ensures.put c.put_line.ensures)
 
 pub returns-in-Overload : goal.returns-in-Overload
 returns-in-Overload c = rw c.in-Overload.is (none _)

@@ -5,6 +5,9 @@ use Rattle.model.specs.Limits.{task_limit}
 use Rattle.model.specs.Notation.{text}
 use Rattle.model.specs.Report.{worst_lines}
 use Rattle.words.specs.Out.{none, both}
+use mir.Val.{Fits as FitsWord}
+use mir.Syntax.{w32}
+use Rattle.report.proofs.Fits.{lines_short}
 use Rattle.report.proofs.Pieces.{next_fits}
 use Rattle.report.proofs.put_worst_lines.Goals.{Start, After-from}
 use Rattle.report.proofs.put_worst_lines.Goals as goal
@@ -39,8 +42,17 @@ loop-task-preserved c =
     let here = (goal.at.loop-task-preserved c).After-from in
     rw add-one (both c.loop-task.invariant (rw (response here) at c.put_pair.ensures))
 
-pub returns : goal.returns
-returns c =
-    let size = told (goal.at.returns c).Start in
+pub returns-clause-put : goal.returns-clause-put
+returns-clause-put c =
+    let size = told (goal.at.returns-clause-put c).Start in
     let all : c.loop-task.task ≡ c.args.tasks = omega arith in
     rw all at c.loop-task.invariant
+
+pub returns-clause-upper_bound : goal.returns-clause-upper_bound
+returns-clause-upper_bound c =
+    let size = told (goal.at.returns-clause-upper_bound c).Start in
+    let all : c.loop-task.task ≡ c.args.tasks = omega arith in
+    let lines = rw all at c.loop-task.invariant in
+    let short = lines_short c.args.worst c.args.tasks (omega arith)
+    (λ k h. let f : FitsWord w32 (get_or c.args.worst k 0) = search rules in omega (arith, f)) in
+    omega (arith, lines.put.place, short)

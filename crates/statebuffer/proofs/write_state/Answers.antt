@@ -2,7 +2,6 @@
 use mathlib.Core.Path.{◌≡◌, sym, ◌∙◌}
 use native.Mathlib.Omega.{arith}
 use lib.ListN.{length}
-use Rattle.model.specs.Limits.{task_limit}
 use Rattle.model.specs.StateBuffer.{state_bytes, buffer_of}
 use Rattle.counting.specs.Put.{Put}
 use Rattle.words.specs.Out.{fresh}
